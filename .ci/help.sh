@@ -214,7 +214,8 @@ at_place() {
     esac
 }
 
-# explain OUTPUT WORD..: says what it means that the program's output for these words is this one, and how it is called.
+# explain OUTPUT WORD..: says what it means that the program's output for these words is this one, and how it is called. The
+# output of `check` is `refused` alone, whatever the reason.
 explain() {
     local output=$1 name=${2-} text place kind at
     shift
@@ -242,6 +243,8 @@ explain() {
             at_place "$text" "$kind" "$at"
         fi
         ;;
+    refused) echo "standard input must have a certificate that is accepted, such as ./ca certify R prints; docs/CERTIFICATES.md has the" \
+        "conditions, and which of them a refusal names" ;;
     'notfit '*)
         kind=${output#notfit }
         case $kind in twins* | wide*) kind=${kind%% *} ;; esac
@@ -251,6 +254,9 @@ explain() {
     if [ "$me" = rules ]; then echo '    ./rules PROPERTY BEGIN'; else form "$name"; fi
 }
 
+# named: writes lines to standard error, those that aren't indented behind the script's name.
+named() { sed "s/^[^ ]/$me: &/" >&2; }
+
 # explained PROGRAM WORD..: runs the program and gives its status. If somebody looks at standard error and the words are refused,
 # it says there what that means; the program then answers once more, in one line, so that its first output is its own.
 explained() {
@@ -259,7 +265,8 @@ explained() {
     "$@"
     status=$?
     case $status in
-    [234]) explain "$("$@" 2>/dev/null </dev/null)" "${@:2}" | sed "s/^[^ ]/$me: &/" >&2 ;;
+    1) explain refused "${@:2}" | named ;;
+    [234]) explain "$("$@" 2>/dev/null </dev/null)" "${@:2}" | named ;;
     esac
     return "$status"
 }

@@ -80,6 +80,7 @@ enum ca_fault {
     CA_FAULT_LETTER = 6, /* a letter of the table is not below states */
     CA_FAULT_KIND = 7,   /* there are more than six states, so rules have no numbers */
     CA_FAULT_NUMBER = 8, /* a number has no rule */
+    CA_FAULT_FORM = 9,   /* a text isn't the text of a rule; only ca_read_rule gives it */
 
     CA_FAULT_PROPERTY = 10, /* the property is none */
     CA_FAULT_ORDER = 11,    /* the order doesn't have each window once */
@@ -111,6 +112,7 @@ static inline const char *ca_fault_text(uint8_t fault)
     case CA_FAULT_LETTER: return "each letter of the table must be less than the number of states";
     case CA_FAULT_KIND: return "rules of more than six states have no numbers";
     case CA_FAULT_NUMBER: return "the number must be that of a rule";
+    case CA_FAULT_FORM: return "the text must be a rule, such as 110 or 2:3:-1:t01110110";
     case CA_FAULT_PROPERTY: return "the property must be one of enum ca_bit";
     case CA_FAULT_ORDER: return "the order must have each window once";
     case CA_FAULT_BEGIN: return "no more letters can be fixed than there are windows";
@@ -218,6 +220,125 @@ struct ca_kept_sums {
     uint8_t counts[CA_MOST_WORDS];              /* how many letters the ring has, if there is one; else 0 */
     uint8_t rings[CA_MOST_WORDS][CA_MOST_RING_LETTERS]; /* as many letters, and zeros or other letters after them */
 };
+
+/* A rule as the calls below take it. */
+struct ca_rule {
+    uint8_t states;
+    uint8_t width;
+    int8_t offset;
+    uint16_t table_length;
+    uint8_t table[CA_MOST_WINDOWS]; /* the letter of each window, by the window's value, and zeros after them */
+};
+
+/* How many decimal digits a text begins with, or hexadecimal ones, up to this many. ca_read_rule uses it. */
+static inline size_t ca_count_digits(const char *text, bool decimal, size_t most)
+{
+    size_t count = 0;
+    while (count < most
+           && ((text[count] >= '0' && text[count] <= '9')
+               || (!decimal && ((text[count] >= 'a' && text[count] <= 'f') || (text[count] >= 'A' && text[count] <= 'F')))))
+        count++;
+    return count;
+}
+
+/* Writes the letters of a table of so many hexadecimal digits. ca_read_rule uses it. */
+static inline uint8_t ca_read_table(const char *digits, size_t length, struct ca_rule *rule)
+{
+    size_t at;
+    if (length != rule->table_length)
+        return CA_FAULT_LENGTH;
+    for (at = 0; at < length; at++) {
+        const unsigned letter = (unsigned)digits[at];
+        rule->table[at] = (uint8_t)(letter <= '9' ? letter - '0' : (letter | 32u) - 'a' + 10u);
+        if (rule->table[at] >= rule->states)
+            return CA_FAULT_LETTER;
+    }
+    return CA_FAULT_NONE;
+}
+
+/* Writes the letters of the rule whose number has these decimal digits, at most 39. ca_read_rule uses it. */
+static inline uint8_t ca_read_number(const char *digits, size_t length, struct ca_rule *rule)
+{
+    uint8_t number[39], rest = 0;
+    size_t at, window;
+    for (at = 0; at < length; at++)
+        number[at] = (uint8_t)(digits[at] - '0');
+    for (window = 0; window < rule->table_length; window++) {
+        unsigned over = 0; /* the number is divided by the states, and this is left over */
+        for (at = 0; at < length; at++) {
+            const unsigned part = 10u * over + number[at];
+            number[at] = (uint8_t)(part / rule->states);
+            over = part % rule->states;
+        }
+        rule->table[window] = (uint8_t)over;
+    }
+    for (at = 0; at < length; at++)
+        rest = (uint8_t)(rest | number[at]);
+    return rest == 0 ? CA_FAULT_NONE : CA_FAULT_NUMBER;
+}
+
+/* Looks at states, width and offset, and at the form of what follows, t or w. ca_read_rule uses it. */
+static inline uint8_t ca_read_shape(const int parts[3], char form, struct ca_rule *rule)
+{
+    int place, nodes = 1;
+    if (parts[0] < 2 || parts[0] > 16)
+        return CA_FAULT_STATES;
+    if (parts[1] < 2 || parts[1] > 5)
+        return CA_FAULT_WIDTH;
+    for (place = 1; place < parts[1]; place++)
+        nodes *= parts[0];
+    if (nodes > CA_MOST_NODES)
+        return CA_FAULT_NODES;
+    if (parts[2] < -16 || parts[2] + parts[1] - 1 > 16)
+        return CA_FAULT_OFFSET;
+    rule->states = (uint8_t)parts[0];
+    rule->width = (uint8_t)parts[1];
+    rule->offset = (int8_t)parts[2];
+    rule->table_length = (uint16_t)(nodes * parts[0]);
+    for (place = 0; place < CA_MOST_WINDOWS; place++)
+        rule->table[place] = 0;
+    return form == 'w' && parts[0] > 6 ? CA_FAULT_KIND : CA_FAULT_NONE;
+}
+
+/*
+ * Reads the text of a rule, with a 0 byte after it, as docs/COMMANDS.md describes it: "110", "2:3:-1:w110" and
+ * "2:3:-1:t01110110" are the same rule. It needs no library.
+ *
+ * It gives CA_FAULT_NONE and fills *rule; or CA_FAULT_FORM, CA_FAULT_STATES to CA_FAULT_OFFSET, CA_FAULT_KIND, CA_FAULT_LENGTH,
+ * CA_FAULT_LETTER or CA_FAULT_NUMBER, the first of these that holds, and leaves *rule as it was.
+ */
+static inline uint8_t ca_read_rule(const char *text, struct ca_rule *rule)
+{
+    int parts[3] = {2, 3, -1}, part; /* states, width and offset */
+    struct ca_rule read;
+    char form = 'w';
+    size_t length = ca_count_digits(text, true, 40);
+    uint8_t fault;
+    if (length < 1 || length > 39 || text[length] != '\0') {
+        for (part = 0; part < 3; part++) {
+            const int sign = part == 2 && *text == '-' ? -1 : 1;
+            text += sign < 0 ? 1 : 0;
+            length = ca_count_digits(text, true, 2);
+            if (length == 0 || text[length] != ':')
+                return CA_FAULT_FORM;
+            parts[part] = sign * ((length == 2 ? 10 * (text[0] - '0') : 0) + (text[length - 1] - '0'));
+            text += length + 1;
+        }
+        form = *text;
+        if (form != 't' && form != 'w')
+            return CA_FAULT_FORM;
+        text++;
+        length = form == 't' ? ca_count_digits(text, false, (size_t)-1) : ca_count_digits(text, true, 40);
+        if (text[length] != '\0' || (form == 'w' && (length < 1 || length > 39)))
+            return CA_FAULT_FORM;
+    }
+    fault = ca_read_shape(parts, form, &read);
+    if (fault == CA_FAULT_NONE)
+        fault = form == 't' ? ca_read_table(text, length, &read) : ca_read_number(text, length, &read);
+    if (fault == CA_FAULT_NONE)
+        *rule = read;
+    return fault;
+}
 
 /* The version of the interface that was linked. */
 uint32_t ca_version(void);

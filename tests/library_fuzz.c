@@ -541,6 +541,146 @@ static void call_next_rule(void)
     }
 }
 
+/* So many letters below a bound, which end where the buffer ends; seldom one is not below it. Gives where they begin. */
+static uint8_t *draw_letters(uint8_t *end, size_t length, uint8_t states)
+{
+    for (uint8_t *letter = end - length; letter < end; letter++)
+        *letter = (uint8_t)(below(400) == 0 ? below(256) : below(states == 0 ? 1 : states));
+    return end - length;
+}
+
+/* A configuration: three words, of which the middle begins at cell 0. */
+struct configuration {
+    const uint8_t *left, *middle, *right;
+    size_t left_length, middle_length, right_length;
+};
+
+/* The letter of a cell. */
+static uint8_t cell(const struct configuration *c, int64_t place)
+{
+    const int64_t left = (int64_t)c->left_length, middle = (int64_t)c->middle_length;
+    if (place < 0)
+        return c->left[(place % left + left) % left];
+    return place < middle ? c->middle[place] : c->right[(place - middle) % (int64_t)c->right_length];
+}
+
+/* Whether each letter of the parts is below the states. */
+static bool are_letters(const struct configuration *c, uint8_t states)
+{
+    bool all = true;
+    for (size_t at = 0; at < c->left_length; at++)
+        all = all && c->left[at] < states;
+    for (size_t at = 0; at < c->middle_length; at++)
+        all = all && c->middle[at] < states;
+    for (size_t at = 0; at < c->right_length; at++)
+        all = all && c->right[at] < states;
+    return all;
+}
+
+/* The first fault of an image, as the header lists them. */
+static int image_fault(const struct asked *a, const struct configuration *c, int64_t first)
+{
+    const int64_t far = (int64_t)1 << 61;
+    const int fault = report_fault(a);
+    if (fault != CA_FAULT_NONE)
+        return fault;
+    if (c->left_length == 0 || c->right_length == 0)
+        return CA_FAULT_PERIOD;
+    if (!are_letters(c, a->states))
+        return CA_FAULT_CELL;
+    return first < -far || first > far ? CA_FAULT_PLACE : CA_FAULT_NONE;
+}
+
+/* A call of ca_image: its fault is the first one, and each letter is what the table has for the window of its cell. */
+static void call_image(void)
+{
+    struct asked a;
+    struct configuration c;
+    static const int64_t places[] = {(int64_t)1 << 61, INT64_MAX, INT64_MIN, -((int64_t)1 << 61), ((int64_t)1 << 61) + 1};
+    const size_t count = below(40);
+    const int64_t first = below(20) == 0 ? places[below(COUNT(places))] : (int64_t)below(60) - 30;
+    uint8_t *letters = output_end - count;
+    a.length = draw_table(&a.states, &a.width);
+    a.offset = (int8_t)(below(8) == 0 ? (int)below(256) - 128 : (int)below(29) - 16);
+    a.weights_length = 0;
+    c.left_length = below(30) == 0 ? 0 : 1 + below(5);
+    c.middle_length = below(20);
+    c.right_length = below(30) == 0 ? 0 : 1 + below(5);
+    c.left = draw_letters(words_end, c.left_length, a.states);
+    c.middle = draw_letters(input_end, c.middle_length, a.states);
+    c.right = draw_letters(report_end, c.right_length, a.states);
+    memset(letters, FILLING, count);
+    const int wanted = image_fault(&a, &c, first);
+    const int code = ca_image(a.states, a.width, a.offset, table_end - a.length, a.length, c.left, c.left_length, c.middle,
+                              c.middle_length, c.right, c.right_length, first, letters, count);
+    is("the first fault of an image", code == wanted);
+    if (code != CA_FAULT_NONE) {
+        is("without an image the letters are kept", is_kept(output_end, count));
+        return;
+    }
+    for (size_t at = 0; at < count; at++) {
+        size_t window = 0;
+        for (int place = 0; place < a.width; place++)
+            window = window * a.states + cell(&c, first + (int64_t)at + a.offset + place);
+        is("a letter of an image", letters[at] == (table_end - a.length)[window]);
+    }
+}
+
+/* A text for ca_read_rule: a rule's text, or one of the operands, with up to three letters changed, put in or left out. */
+static void draw_rule_text(struct text *text)
+{
+    static const char letters[] = "0123456789:twaF-+ xg";
+    text->length = 0;
+    if (below(2) == 0) {
+        add_rule(text);
+    } else {
+        const char *operand = OPERANDS[below(COUNT(OPERANDS))];
+        add(text, operand, strlen(operand) + 1);
+    }
+    for (size_t count = below(4); count > 0 && text->length > 1; count--) {
+        const size_t at = below(text->length - 1);
+        switch (below(3)) {
+        case 0: text->bytes[at] = (uint8_t)letters[below(sizeof letters - 1)]; break;
+        case 1: memmove(text->bytes + at, text->bytes + at + 1, --text->length - at); break;
+        default:
+            add(text, "", 1);
+            memmove(text->bytes + at + 1, text->bytes + at, text->length - 1 - at);
+            text->bytes[at] = (uint8_t)letters[below(sizeof letters - 1)];
+        }
+    }
+}
+
+/* A call of ca_read_rule, whose text ends before a page that can't be touched: it says what `trim` says, a rule or a fault of
+ * that kind. */
+static void call_read_rule(void)
+{
+    static const char *const kinds[] = {"", "states", "width", "nodes", "offset", "length", "letter", "kind", "number", "form"};
+    static struct text text, words;
+    struct ca_rule rule;
+    char wanted[32];
+    size_t length;
+    draw_rule_text(&text);
+    if (memchr(text.bytes, '\0', text.length) != text.bytes + text.length - 1)
+        return;
+    const char *place = (const char *)memcpy(output_end - text.length, text.bytes, text.length);
+    const int fault = ca_read_rule(place, &rule);
+    words.length = 0;
+    add(&words, "trim", 5);
+    add(&words, (const char *)text.bytes, text.length);
+    const uint8_t code = ca_run(words.bytes, words.length, NULL, 0, input_end - MOST_TEXT, MOST_TEXT, &length);
+    if (code == CA_CODE_NO_WORDS) {
+        is("a text that isn't UTF-8 is no rule", fault == CA_FAULT_FORM);
+        return;
+    }
+    is("a rule that is read is one", (code == CA_CODE_DONE) == (fault == CA_FAULT_NONE));
+    if (code == CA_CODE_RULE_FAULT && fault <= CA_FAULT_FORM) {
+        const int end = snprintf(wanted, sizeof wanted, "rule fault 1 %s", kinds[fault]);
+        is("the fault of a text", memcmp(input_end - MOST_TEXT, wanted, (size_t)end) == 0);
+    }
+    if (fault == CA_FAULT_NONE)
+        is("the table of a text", fault_of(rule.states, rule.width, rule.table, rule.table_length) == CA_FAULT_NONE);
+}
+
 static double now(void)
 {
     struct timespec time;
@@ -563,6 +703,8 @@ int main(int argc, char **argv)
         for (int call = 0; call < 8; call++) {
             call_verdicts();
             call_next_rule();
+            call_image();
+            call_read_rule();
         }
     }
     printf("%lu passed, %lu failed\n", passed, failed);

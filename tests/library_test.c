@@ -1,10 +1,12 @@
 /* Calls the library for C, and compares what it hands back with what it must. Its last line has the counts. */
+#define _DEFAULT_SOURCE
 #include "ca.h"
 
 #include <pthread.h>
 #include <stdio.h>
 #include <stdlib.h>
 #include <string.h>
+#include <sys/mman.h>
 
 /* A block of words, as a literal, without the 0 byte that C puts after it. */
 #define WORDS(block) (const uint8_t *)(block), sizeof(block) - 1
@@ -783,15 +785,74 @@ static void test_null(void)
     is("ca_flux, NULL", ca_flux(2, 3, NULL, 0, 1, (int64_t[CA_MOST_WORDS]){0}, (int64_t[CA_MOST_FLUX]){0}) == CA_FAULT_LENGTH);
 }
 
+/* Whether ca_read_rule says of a text what the program says: the same rule, or a fault of the same kind. */
+static bool is_read(const char *text)
+{
+    static const char *const kinds[] = {"", "states", "width", "nodes", "offset", "length", "letter", "kind", "number", "form"};
+    uint8_t words[700] = "decide", said[ROOM];
+    char wanted[700];
+    struct ca_rule rule, before;
+    size_t length;
+    memset(&rule, FILLING, sizeof rule);
+    before = rule;
+    const uint8_t fault = ca_read_rule(text, &rule);
+    memcpy(words + 7, text, strlen(text) + 1);
+    const int code = ca_run(words, strlen(text) + 8, NOTHING, said, ROOM, &length);
+    if (fault != CA_FAULT_NONE) {
+        snprintf(wanted, sizeof wanted, "rule fault 1 %s", fault <= CA_FAULT_FORM ? kinds[fault] : "?");
+        return code == CA_CODE_RULE_FAULT && memcmp(said, wanted, strlen(wanted)) == 0
+            && (said[strlen(wanted)] == '\n' || said[strlen(wanted)] == ' ') && memcmp(&rule, &before, sizeof rule) == 0;
+    }
+    int end = snprintf(wanted, sizeof wanted, "rule %d:%d:%d:t", rule.states, rule.width, rule.offset);
+    for (int window = 0; window < rule.table_length; window++)
+        wanted[end++] = "0123456789abcdef"[rule.table[window]];
+    wanted[end++] = '\n';
+    for (int window = rule.table_length; window < CA_MOST_WINDOWS; window++)
+        if (rule.table[window] != 0)
+            return false;
+    return code == CA_CODE_DONE && length > (size_t)end && memcmp(said, wanted, (size_t)end) == 0;
+}
+
+static const char *const TEXTS[] = {
+    "110", "0", "255", "256", "000000000000000000000000000000000000110", "0000000000000000000000000000000000000110",
+    "2:3:-1:w110", "2:3:-1:t01110110", "02:03:-01:t01110110", "2:3:-0:w90", "3:2:0:t012120201", "3:2:0:T012120201", "4:2:-3:w4294967295",
+    "4:2:-3:w4294967296", "4:3:0:w340282366920938463463374607431768211455", "4:3:0:w340282366920938463463374607431768211456",
+    "6:2:1:w10314424798490535546171949055", "6:2:1:w10314424798490535546171949056", "7:2:0:w0", "16:2:0:w0", "17:2:0:w0",
+    "1:2:0:t00", "0:2:0:t", "2:1:0:t01", "2:6:0:t0", "3:4:0:w0", "5:3:0:w0", "16:3:0:t0", "2:3:14:w30", "2:3:15:w30", "2:3:-16:w30",
+    "2:3:-17:w30", "2:3:99:w30", "2:3:-1:t0111011", "2:3:-1:t011101100", "2:3:-1:t01120110", "2:3:-1:t0111011g", "2:3:-1:t",
+    "2:3:-1:w", "2:3:-1:", "2:3:-1", "2:3:-", "2:3:", "2:3", "2:", "2", "", ":", "-1", "+1", " 110", "110 ", "110x", "x110", "1a", "2:3:--1:t0",
+    "2:3:+1:w110", "2:3:1-:w110", "002:3:0:w110", "2:003:0:w110", "2:3:000:w110", "2:-3:0:w110", "-2:3:0:w110", "2:3:-1:x0",
+    "2:3:-1:w1a", "2:3:-1:w0000000000000000000000000000000000000110", "2:3:-1:w000000000000000000000000000000000000110"};
+
+static void test_read_rule(void)
+{
+    char text[600] = "11:2:0:t";
+    for (size_t at = 0; at < sizeof TEXTS / sizeof TEXTS[0]; at++)
+        is(TEXTS[at], is_read(TEXTS[at]));
+    for (int number = 0; number < 256; number++) {
+        snprintf(text, sizeof text, "2:3:%d:w%d", number % 29 - 16, number);
+        is(text, is_read(text));
+    }
+    for (int letters = 0; letters < 500; letters++) {
+        snprintf(text, sizeof text, "%s", "11:2:0:t");
+        for (int at = 0; at < letters; at++)
+            text[8 + at] = "0123456789aABcdefF"[(at + letters) % (at == letters - 5 && letters % 7 == 0 ? 18 : 12)];
+        text[8 + letters] = '\0';
+        is("a table of many digits", is_read(text));
+    }
+    struct ca_rule rule;
+    is("a rule that is read and asked", ca_read_rule("184", &rule) == CA_FAULT_NONE
+           && ca_verdicts(rule.states, rule.width, rule.table, rule.table_length).conserving);
+}
+
 /* Each fault has a text of its own, and no other number has one. */
 static void test_fault_texts(void)
 {
     const char *none = ca_fault_text(255);
     for (int fault = 0; fault <= CA_FAULT_PLACE; fault++) {
-        const bool there = fault != 9; /* no fault has this number */
-        is("the text of a fault", there == (strcmp(ca_fault_text((uint8_t)fault), none) != 0));
+        is("the text of a fault", strcmp(ca_fault_text((uint8_t)fault), none) != 0);
         for (int other = 0; other < fault; other++)
-            is("texts of two faults", !there || strcmp(ca_fault_text((uint8_t)fault), ca_fault_text((uint8_t)other)) != 0);
+            is("texts of two faults", strcmp(ca_fault_text((uint8_t)fault), ca_fault_text((uint8_t)other)) != 0);
     }
 }
 
@@ -803,22 +864,31 @@ static void *call_often(void *right)
     return NULL;
 }
 
-/* The stack that a call may take, and what the thread itself takes of it. */
-enum { STACK = 128 * 1024, OWN_STACK = 16 * 1024 };
+/* The stack that a call may take, as the header says, and the stack of the thread in which that is measured. */
+enum { STACK = 128 * 1024, WHOLE_STACK = 1024 * 1024 };
+
+/* What a thread comes to: whether its calls answer as they must, and where its stack was before the first one. */
+struct stacked {
+    bool right;
+    const volatile uint8_t *begin;
+};
 
 /* The calls that take the most stack: certificates that are nested deeply, and long ones. */
-static void *call_on_a_small_stack(void *right)
+static void *call_on_a_stack(void *stacked)
 {
+    struct stacked *const found = stacked;
     static uint8_t objects[2400000], lists[4000000], text[ROOM], letters[CA_MOST_REPORT_LETTERS];
     static const uint8_t table[8] = {0, 1, 1, 1, 0, 1, 1, 0};
     static struct ca_report report;
     static struct ca_kept_sums sums;
     size_t length;
     uint8_t order[8], rule[8] = {0};
+    volatile uint8_t begin = 0;
+    found->begin = &begin;
     for (size_t at = 0; at < sizeof objects; at++)
         objects[at] = (uint8_t)"{\"a\":"[at % 5];
     memset(lists, '[', sizeof lists);
-    *(int *)right = ca_run(WORDS("check\0"), objects, sizeof objects, text, ROOM, &length) == CA_CODE_REFUSED
+    found->right = ca_run(WORDS("check\0"), objects, sizeof objects, text, ROOM, &length) == CA_CODE_REFUSED
         && ca_run(WORDS("check\0"), lists, sizeof lists, text, ROOM, &length) == CA_CODE_REFUSED
         && ca_run_json(WORDS("check\0"), objects, sizeof objects, text, ROOM, &length) == CA_CODE_REFUSED
         && ca_run(WORDS("certify\0" "90\0"), NOTHING, text, ROOM, &length) == CA_CODE_DONE
@@ -832,17 +902,28 @@ static void *call_on_a_small_stack(void *right)
     return NULL;
 }
 
-static void test_small_stack(void)
+/* Fills a stack, has a thread call on it, and looks how far down another byte stands. */
+static void test_stack(void)
 {
     pthread_t thread;
-    pthread_attr_t stack;
-    int right = 0;
-    if (pthread_attr_init(&stack) != 0 || pthread_attr_setstacksize(&stack, STACK + OWN_STACK) != 0
-        || pthread_create(&thread, &stack, call_on_a_small_stack, &right) != 0)
+    pthread_attr_t attributes;
+    struct stacked found = {false, NULL};
+    uint8_t *const stack = mmap(NULL, WHOLE_STACK, PROT_READ | PROT_WRITE, MAP_PRIVATE | MAP_ANONYMOUS, -1, 0);
+    if (stack == MAP_FAILED)
+        abort();
+    memset(stack, FILLING, WHOLE_STACK);
+    if (pthread_attr_init(&attributes) != 0 || pthread_attr_setstack(&attributes, stack, WHOLE_STACK) != 0
+        || pthread_create(&thread, &attributes, call_on_a_stack, &found) != 0)
         abort();
     pthread_join(thread, NULL);
-    pthread_attr_destroy(&stack);
-    is("calls in a thread with a small stack", right);
+    pthread_attr_destroy(&attributes);
+    is("calls on a stack of their own", found.right);
+    const volatile uint8_t *deepest = stack;
+    while (deepest < found.begin && *deepest == FILLING)
+        deepest++;
+    printf("library_test: the calls took %ld bytes of stack\n", (long)(found.begin - deepest));
+    is("the stack that calls take", found.begin - deepest > 1024 && found.begin - deepest <= STACK);
+    munmap(stack, WHOLE_STACK);
 }
 
 static void test_threads(void)
@@ -877,8 +958,9 @@ int main(void)
     test_flux();
     test_images();
     test_null();
+    test_read_rule();
     test_fault_texts();
-    test_small_stack();
+    test_stack();
     test_threads();
     printf("%d passed, %d failed\n", passed, failed);
     return failed != 0;

@@ -18,5 +18,8 @@ int main()
     const bool refuses = ca::ca_report(1, 3, -1, cars, sizeof cars, nullptr, 0, &report, letters, sizeof letters, &length)
                              == CA_CODE_DONE
         && std::strcmp(ca_fault_text(report.fault), "there must be 2 to 16 states") == 0;
-    return reports && keeps && refuses ? 0 : 1;
+    ca_rule rule;
+    const bool reads = ca_read_rule("2:3:-1:w184", &rule) == CA_FAULT_NONE && rule.offset == -1 && rule.table_length == sizeof cars
+        && std::memcmp(rule.table, cars, sizeof cars) == 0;
+    return reports && keeps && refuses && reads ? 0 : 1;
 }

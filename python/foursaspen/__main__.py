@@ -1,10 +1,12 @@
-"""Pictures, pages, atlases, sites, lists and kept sums on the command line, and the program's own commands.
+"""Images, pictures, pages, atlases, sites, lists and kept sums on the command line, and the program's own commands.
 
     python -m foursaspen decide RULE [WEIGHTS]        and every other command of docs/COMMANDS.md: the program's output and status
     python -m foursaspen check FILE                   whether the certificate in a file is accepted; - is the input
 
-    python -m foursaspen picture RULE [SHOW]          an SVG text; SHOW is graph, orphan, erase, twins, right, left, flux,
-                                                      current, ring, or a configuration LEFT|MIDDLE|RIGHT; --weights 1,4 for the sums
+    python -m foursaspen image RULE WORD              one step: of a word, of a ring by --ring, or of LEFT|MIDDLE|RIGHT
+    python -m foursaspen picture RULE [SHOW]          an SVG text; SHOW is graph, orphan, sets, erase, twins, window, right, left,
+                                                      flux, current, ring, or a configuration LEFT|MIDDLE|RIGHT; --weights 1,4
+                                                      for the sums
     python -m foursaspen dot RULE                     the graph in the language of graphviz
     python -m foursaspen page RULE [WEIGHTS]          an HTML page of a rule
     python -m foursaspen site STATES WIDTH FOLDER     an atlas with a page for each class, linked; --from FILE for a list
@@ -30,10 +32,12 @@ from .calls import reply
 from .commands import run
 from .exports import to_dot
 from .faults import FoursaspenError, UsageError
+from .images import image
 from .library import keep_freed_memory
 from .lists import write_list
 from .pages import page
 from .pictures import SHOWN, picture
+from .report import Tail
 from .rule_values import look_at_number, read
 from .sums import kept_sums
 
@@ -48,6 +52,10 @@ def arguments() -> argparse.ArgumentParser:
                                      formatter_class=argparse.RawDescriptionHelpFormatter)
     parser.add_argument("--version", action="version", version=f"foursaspen {__version__}")
     commands = parser.add_subparsers(dest="command", required=True, metavar="COMMAND")
+    stepped = commands.add_parser("image", help="what a rule makes of a word, of a ring or of a configuration in one step")
+    stepped.add_argument("rule")
+    stepped.add_argument("word", help="letters, or a configuration LEFT|MIDDLE|RIGHT")
+    stepped.add_argument("--ring", action="store_true", help="the word is closed to a ring")
     drawn = commands.add_parser("picture", help="the de Bruijn graph of a rule, as SVG")
     drawn.add_argument("rule")
     drawn.add_argument("show", nargs="?", help=f"what stands beneath it: {', '.join(SHOWN)}, or a configuration LEFT|MIDDLE|RIGHT")
@@ -95,9 +103,18 @@ def told(text: str) -> None:
         print(f"\r{text:<30}", end="", file=sys.stderr, flush=True)
 
 
+def stepped(rule: str, word: str, ring: bool) -> str:
+    """The line of an image."""
+    if ring:
+        return image(rule, ring=word) + "\n"
+    return str(image(rule, Tail.of(word))) if "|" in word else image(rule, word) + "\n"
+
+
 def answer(asked: argparse.Namespace, parser: argparse.ArgumentParser) -> Iterator[str]:
     """What is written, piece by piece."""
-    if asked.command == "picture":
+    if asked.command == "image":
+        yield stepped(asked.rule, asked.word, asked.ring)
+    elif asked.command == "picture":
         yield picture(asked.rule, asked.show, asked.weights)
     elif asked.command == "dot":
         yield to_dot(asked.rule)

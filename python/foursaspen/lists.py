@@ -12,7 +12,8 @@ from concurrent.futures import Executor, Future, wait
 from dataclasses import dataclass
 from itertools import islice, product
 from pathlib import Path
-from typing import Any, Literal, SupportsIndex, Union, overload
+from queue import SimpleQueue
+from typing import Any, Literal, NamedTuple, SupportsIndex, Union, overload
 
 from .bits import Bit, of_table
 from .commands import brief, inverse
@@ -25,7 +26,9 @@ from .surveys import AHEAD, bar_of, executor_of
 
 PARTS = 64                                      # of a list, at least, where the shape has so many tables
 OPEN = 255                                      # no letter: its window is open
-LOOK = 0.2                                      # seconds after which a task looks again whether it is to end
+LOOK = 0.2                                      # seconds after which it is looked again what there is, and whether to end
+QUICK = 0.002                                   # seconds within which tables come quickly
+BATCH = 128                                     # tables that are searched at a time where they come quickly
 
 # The properties by their words. The number of each is that of its bit.
 PROPERTIES = {"surjective": Bit.SURJECTIVE, "injective": Bit.INJECTIVE, "right": Bit.RIGHT, "left": Bit.LEFT,
@@ -108,9 +111,9 @@ def rules(property: Properties, states: SupportsIndex, width: SupportsIndex, off
     that have no inverse of at most so many cells. With `classes` the classes of the rules come in place of the rules, each with
     its least rule and with its members that are in the list; with `shifts` rules that only read other cells are in one class.
 
-    Without an executor each rule is searched when it is asked for. An executor, any of concurrent.futures whose workers
-    have this package, searches the parts of the shape side by side, and the rules of a part come together; the order
-    is the same. `progress` is called with a Listing after each part, and `bar` shows a bar where tqdm is installed."""
+    Without an executor each rule is searched when it is asked for, with some more where they come quickly. An executor, any of
+    concurrent.futures whose workers have this package, searches the parts of the shape side by side, and the rules of a part come
+    together; the order is the same. A list that is stopped or left ends within a second. `progress` is called with a Listing after each part, and `bar` shows a bar where tqdm is installed."""
     wanted = bits_of(property)
     states, width = shape(states, width)
     begins = index("offset is", "a whole number", offset)
@@ -219,13 +222,57 @@ class Stop:
         return Stop, ()
 
 
+class Gathering(NamedTuple):
+    """Tables that are asked for: where they come from, how many or all of them, and the list into which they go."""
+    found: Iterator[bytes]
+    most: int | None
+    into: list[bytes]
+    done: Future[None]
+
+
+class Aside:
+    """A thread that calls in place of another one, which only waits. A call of the library can't be stopped and may last for
+    hours: where nobody waits for it any more it ends at its next rule, or with the process."""
+
+    def __init__(self) -> None:
+        self._asked: SimpleQueue[Gathering | None] = SimpleQueue()
+        self._left = threading.Event()
+        threading.Thread(target=self._work, daemon=True).start()
+
+    def gather(self, found: Iterator[bytes], most: int | None, into: list[bytes]) -> Future[None]:
+        """Puts the next tables into a list, so many or all."""
+        asked = Gathering(found, most, into, Future())
+        self._asked.put(asked)
+        return asked.done
+
+    def leave(self) -> None:
+        """Says that nobody waits any more."""
+        self._left.set()
+        self._asked.put(None)
+
+    def _work(self) -> None:
+        while (asked := self._asked.get()) is not None:
+            try:
+                for table in islice(asked.found, asked.most):
+                    asked.into.append(table)
+                    if self._left.is_set():
+                        break
+                asked.done.set_result(None)
+            except BaseException as fault:
+                asked.done.set_exception(fault)
+
+
 def searched(property: int, states: int, width: int, order: bytes, fixed: list[bytes],
              executor: Executor | None) -> Generator[Iterator[bytes] | list[bytes], None, None]:
     """The tables of each part, in the order of the parts. With an executor so many parts are under way at a time; where
     the list is left, those that threads are at end within a second."""
     if executor is None:
-        for begin in fixed:
-            yield tables(property, states, width, order, begin)
+        aside = Aside()
+        try:
+            for begin in fixed:
+                yield waited_for(aside, tables(property, states, width, order, begin))
+        finally:
+            aside.leave()
         return
     missing, stop = iter(fixed), Stop()
     pending: deque[Future[list[bytes]]] = deque()
@@ -242,31 +289,37 @@ def searched(property: int, states: int, width: int, order: bytes, fixed: list[b
             future.cancel()
 
 
+def waited_for(aside: Aside, found: Iterator[bytes]) -> Iterator[bytes]:
+    """The same tables, found by another thread, so that who waits hears Ctrl-C. Each is searched when it is asked for, with some
+    more where they come quickly."""
+    count = 1
+    while True:
+        batch: list[bytes] = []
+        begun, given, ended = time.monotonic(), 0, False
+        done = aside.gather(found, count, batch)
+        while not ended:
+            ended = bool(wait([done], LOOK).done)
+            for table in batch[given:]:
+                given += 1
+                yield table
+        done.result()
+        if len(batch) < count:
+            return
+        count = min(2 * count, BATCH) if time.monotonic() - begun < QUICK else 1
+
+
 def part(property: int, states: int, width: int, order: bytes, fixed: bytes, stop: Stop) -> list[bytes]:
-    """The tables of a part, or where it is stopped the first of them: a task. A call of the library can't be stopped, and may
-    last for hours, so another thread calls it: where nobody waits for it any more it ends at its next rule, or with the process."""
+    """The tables of a part, or where it is stopped the first of them: a task."""
     found: list[bytes] = []
-    searched_all: Future[None] = Future()
-    left = threading.Event()
-
-    def search() -> None:
-        try:
-            for table in tables(property, states, width, order, fixed):
-                found.append(table)
-                if left.is_set():
-                    break
-            searched_all.set_result(None)
-        except BaseException as fault:
-            searched_all.set_exception(fault)
-
-    threading.Thread(target=search, daemon=True).start()
+    aside = Aside()
+    done = aside.gather(tables(property, states, width, order, fixed), None, found)
     try:
-        while not stop.is_set() and not wait([searched_all], LOOK).done:
+        while not stop.is_set() and not wait([done], LOOK).done:
             pass
     finally:
-        left.set()
-    if searched_all.done():
-        searched_all.result()
+        aside.leave()
+    if done.done():
+        done.result()
     return list(found)
 
 

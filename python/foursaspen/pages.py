@@ -24,6 +24,7 @@ from .sums import kept_sums, ranges
 VERDICTS = ("surjective", "injective", "right", "left", "open", "conserving")
 LONGEST = 200                                   # letters of a word that is drawn, and steps of a table
 SHOWN = 24                                      # rules of a class that are named
+HEADED = 40                                     # letters of a heading
 STYLE = Path(__file__).with_name("style.css")
 PAGE = """<!doctype html>
 <html lang=en>
@@ -55,6 +56,12 @@ def whole_page(name: str, sections: str, top: str = "") -> str:
     return PAGE.format(title=escape(name), style=STYLE.read_text(encoding="utf-8"), sections=sections, top=top)
 
 
+def heading(report: Report) -> str:
+    """The name of a rule as a heading: where its text is long, how many states it has and how wide it is."""
+    rule, name = report.rule, title(report)
+    return name[0].upper() + name[1:] if len(name) <= HEADED else f"A rule of {rule.states} states and width {rule.width}"
+
+
 def said(report: Report, key: str) -> str:
     return "yes" if getattr(report, key) else "no"
 
@@ -83,8 +90,7 @@ class Sections:
     def __init__(self, report: Report, evidence: str = "", pages: dict[Rule, str] | None = None) -> None:
         work_out(report)
         self.report, self.graph, self.evidence, self.pages = report, Graph(report.rule, report.weights), evidence, pages or {}
-        name = title(report)
-        self.name = name[0].upper() + name[1:]
+        self.name = heading(report)
 
     def all(self) -> Iterator[str]:
         report = self.report
@@ -149,6 +155,13 @@ class Sections:
         made = drawn(self.report, show, with_graph=show in ("graph", "flux", "current"))
         return f"<div class=scroll tabindex=0>{made}</div>"
 
+    def told(self, show: str) -> str:
+        """What a window or a look-ahead tells, where there is room for it."""
+        try:
+            return self.drawn(show)
+        except ValueError as fault:
+            return f"<p class=note>{fault}.</p>"
+
     def names(self, nodes: Iterable[int]) -> str:
         return " ".join(self.graph.name(node) for node in sorted(nodes))
 
@@ -205,7 +218,7 @@ class Sections:
             back = None
         return "".join([
             f"<p>The letter at place {window.place}, from 0 on, of {window.letters + self.graph.width - 1} is told by their "
-            f"image, {counted(window.letters, 'letter')}: a {self.term('window')}.</p>",
+            f"image, {counted(window.letters, 'letter')}: a {self.term('window')}.</p>", self.told("window"),
             steps("Two walks that differ at that place and write the same letters",
                   ("letters of the image", "pairs of nodes that are left"), enumerate(undecided(self.graph, window))),
             f"<p>The {self.term('inverse')} is {self.to(back) if back else 'wider than a rule may be'}.</p>"])
@@ -214,7 +227,7 @@ class Sections:
         counts = left_after(self.graph if side == "right" else mirrored(self.graph), ahead)
         return "".join([
             f"<p>Where two configurations agree to the {other} of a cell, that cell is told by {counted(ahead, 'letter')} of "
-            f"their image, and by no fewer: the {self.term('look-ahead')} is {ahead}.</p>",
+            f"their image, and by no fewer: the {self.term('look-ahead')} is {ahead}.</p>", self.told(side),
             steps("Two walks from one node that read different letters first and write the same ones",
                   ("letters written", "pairs of nodes that are left"), enumerate(counts, 1))])
 

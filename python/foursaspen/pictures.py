@@ -1,5 +1,5 @@
 """Pictures of a rule as SVG: its windows; its de Bruijn graph, and beneath it how an orphan is read, two walks with one image,
-those of twins or of a split, or a configuration with a preimage of it.
+those of twins or of a split, a configuration with a preimage of it, what a window or a look-ahead tells, or a list of sets.
 """
 from __future__ import annotations
 
@@ -9,12 +9,15 @@ from .commands import decide, erase, preimage
 from .drawing import DARK, DASHES, FIRST, GREY, MARGIN, PAPER, PHONE, SECOND, SHADE, WIDEST, Canvas, Picture
 from .graphs import Edge, Graph
 from .layout import RADIUS, fits, ring
+from .node_sets import Nodes, draw_sets, sets_of
 from .operands import Weights
 from .report import Gap, Report, Tail
 from .rule_values import DIGITS, RuleLike, refuse, rule_of
+from .telling import CELL, Telling, by_look_ahead, by_window, draw_cases, draw_letter, own_place
 from .trellis import draw_reading, draw_walks
 
-SHOWN = ("graph", "orphan", "erase", "twins", "right", "left", "flux", "current", "ring")     # what a picture may show
+# What a picture may show.
+SHOWN = ("graph", "orphan", "sets", "erase", "twins", "window", "right", "left", "flux", "current", "ring")
 DRAWN = 256                                     # windows of a picture, at most
 
 
@@ -47,15 +50,23 @@ class Numbers:
     place: int
 
 
-Beneath = Walks | Reading | Numbers | None
+@dataclass(frozen=True)
+class Sets:
+    """The sets of nodes at which a walk may be, each with those that follow it."""
+    heading: str
+    found: dict[Nodes, list[Nodes]]
+
+
+Beneath = Walks | Reading | Numbers | Sets | Telling | None
 
 
 def picture(rule: RuleLike, show: str | Tail | None = None, weights: Weights | None = None) -> Picture:
-    """The graph of a rule. Beneath it stands what `show` names: the reading of the least orphan, the two walks of the
-    least twins, those of the least split of a side, `right` or `left`, that of the least ring whose sum isn't kept;
-    of a configuration, a Tail or its text, a preimage or the orphan in it; where it is None the orphan, if there is
-    one. `graph` has nothing beneath it. `flux` and `current` have these numbers at the nodes, and at the edges what they
-    carry, by the weights that are given or that a report has. ValueError where the rule has no such thing."""
+    """The graph of a rule. Beneath it stands what `show` names: the reading of the least orphan or the list of sets that shows
+    that there is none, the two walks of the least twins or what the least window tells, those of the least split of a side,
+    `right` or `left`, or what the look-ahead tells, that of the least ring whose sum isn't kept; of a configuration, a Tail or
+    its text, a preimage or the orphan in it; where it is None the orphan, if there is one. `graph` has nothing beneath it.
+    `flux` and `current` have these numbers at the nodes, and at the edges what they carry, by the weights that are given or
+    that a report has. ValueError where the rule has no such thing, or too much of it for a picture."""
     if not isinstance(show, (str, Tail, type(None))):
         raise refuse("show is", f"one of {', '.join(SHOWN)}, or a configuration, a Tail or a text LEFT|MIDDLE|RIGHT", show)
     return drawn(decide(rule, weights), show)
@@ -77,6 +88,10 @@ def drawn(report: Report, show: str | Tail | None = None, with_graph: bool = Tru
         draw_walks(canvas, graph, below.rows, below.cells, below.moved, below.heading, top)
     elif isinstance(below, Reading):
         draw_reading(canvas, graph, below.orphan, below.heading, top)
+    elif isinstance(below, Sets):
+        draw_sets(canvas, graph, below.found, below.heading, top)
+    elif isinstance(below, Telling):
+        draw_cases(canvas, graph, below, top)
     return canvas.svg()
 
 
@@ -84,26 +99,18 @@ def windows(rule: RuleLike) -> Picture:
     """The windows of a rule by their values, each with the letter that it gives beneath its own cell, or beneath its middle where
     it doesn't hold that cell."""
     known = rule_of(rule)
-    canvas, graph, size = Canvas(f"The windows of {known}, by their values, and what each gives"), Graph(known), 18
-    step = size * known.width + 14
+    canvas, graph = Canvas(f"The windows of {known}, by their values, and what each gives"), Graph(known)
+    step = CELL * known.width + 14
     in_row = 1                                  # a power of the states: windows below each other end alike
     while in_row < len(graph.edges()) and in_row * known.states * step <= WIDEST - 2 * MARGIN:
         in_row *= known.states
-    own = -known.offset if 0 <= -known.offset < known.width else (known.width - 1) / 2
     for place, edge in enumerate(graph.edges()[:DRAWN]):
-        x, y = MARGIN + step * (place % in_row), 16 + (2 * size + 16) * (place // in_row)
+        x, y = MARGIN + step * (place % in_row), 16 + (2 * CELL + 16) * (place // in_row)
         with canvas.titled(f"{graph.window(edge)} gives {DIGITS[edge.image]}"):
             for at, letter in enumerate(graph.window(edge)):
-                draw_letter(canvas, known.states, letter, x + size * at, y, size)
-            draw_letter(canvas, known.states, DIGITS[edge.image], x + size * own, y + size + 2, size)
+                draw_letter(canvas, known.states, letter, x + CELL * at, y)
+            draw_letter(canvas, known.states, DIGITS[edge.image], x + CELL * own_place(graph), y + CELL + 2)
     return canvas.svg()
-
-
-def draw_letter(canvas: Canvas, states: int, letter: str, x: float, y: float, size: int) -> None:
-    """A cell with its letter; of two states a 1 is dark."""
-    dark = states == 2 and letter == "1"
-    canvas.box(x, y, size, size, DARK if dark else PAPER, GREY)
-    canvas.text(x + size / 2, y + size / 2 + 4.3, letter, color=PAPER if dark else DARK)
 
 
 def title(report: Report) -> str:
@@ -126,8 +133,14 @@ def beneath(report: Report, show: str | Tail | None) -> Beneath:
         return None
     if show in ("flux", "current"):
         return numbers_of(report, show)
+    if show in ("window", "right", "left"):
+        told = told_of(report, show)
+        if told:
+            return told
     if show in ("twins", "erase", "right", "left", "ring"):
         return walks_of(report, show)
+    if show == "sets":
+        return sets_beneath(report)
     if show not in ("orphan", None):
         raise ValueError(f"show is one of {', '.join(SHOWN)}, or a configuration LEFT|MIDDLE|RIGHT, and not {show!r}")
     if report.orphan:
@@ -135,6 +148,26 @@ def beneath(report: Report, show: str | Tail | None) -> Beneath:
     if show:
         raise ValueError("the rule is surjective: it has no orphan")
     return None
+
+
+def sets_beneath(report: Report) -> Sets:
+    """The list of sets of a surjective rule."""
+    if report.orphan:
+        raise ValueError(f"the rule isn't surjective: after {report.orphan} the set of nodes is empty")
+    return Sets("Where a walk may be, whatever it has written: behind each letter, /0 and so on, stands the set that follows. No "
+                "set is empty, so every word has a preimage", sets_of(Graph(report.rule)))
+
+
+def told_of(report: Report, show: str) -> Telling | None:
+    """What a window or a look-ahead tells, or None where the rule doesn't close on the side; ValueError where it isn't
+    injective, or there are too many cases."""
+    graph = Graph(report.rule)
+    if show == "window":
+        if not report.window:
+            raise ValueError("the rule isn't injective: it has no window")
+        return by_window(graph, report.window)
+    ahead = (report.right if show == "right" else report.left).ahead
+    return by_look_ahead(graph, ahead, show) if ahead else None
 
 
 def numbers_of(report: Report, show: str) -> Numbers:

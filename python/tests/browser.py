@@ -5,6 +5,7 @@ import base64
 import fcntl
 import json
 import os
+import select
 import subprocess
 import tempfile
 import time
@@ -16,18 +17,34 @@ from .support import tool
 Message = dict[str, Any]
 
 
+STARTS = 3                                      # how often it is tried to start
+ANSWERS = 600                                   # seconds until an answer of the browser has come, on any machine
+PAGES = 120                                     # and until a page is there that was asked for
+
+
 class Browser:
     """One page. `console` is what the page has said there, and what went wrong in it."""
 
     def __init__(self) -> None:
         program = tool("chromium", "chromium")
+        for more in reversed(range(STARTS)):
+            try:
+                self._start(program)
+                return
+            except AssertionError:
+                self.close()
+                if not more:
+                    raise
+
+    def _start(self, program: str) -> None:
         self.room = tempfile.TemporaryDirectory(ignore_cleanup_errors=True)
         self.console: list[Message] = []
         self._count, self._rest, self._session = 0, b"", ""
         told, self._tell = high_pipe()
         self._hear, said = high_pipe()
         words = ["bash", "-c", f'exec "$@" 3<&{told} 4>&{said}', "bash", program, "--headless", "--no-sandbox", "--disable-gpu",
-                 "--no-first-run", f"--user-data-dir={self.room.name}", "--remote-debugging-pipe", "about:blank"]
+                 "--no-first-run", "--disable-dev-shm-usage", f"--user-data-dir={self.room.name}", "--remote-debugging-pipe",
+                 "about:blank"]
         self._chromium = subprocess.Popen(words, pass_fds=(told, said), stderr=subprocess.DEVNULL)
         os.close(told)
         os.close(said)
@@ -38,7 +55,11 @@ class Browser:
 
     def close(self) -> None:
         self._chromium.terminate()
-        self._chromium.wait()
+        try:
+            self._chromium.wait(60)
+        except subprocess.TimeoutExpired:
+            self._chromium.kill()
+            self._chromium.wait()
         os.close(self._tell)
         os.close(self._hear)
         self.room.cleanup()
@@ -49,7 +70,10 @@ class Browser:
         message: Message = {"id": self._count, "method": method, "params": operands}
         if self._session:
             message["sessionId"] = self._session
-        os.write(self._tell, json.dumps(message).encode() + b"\0")
+        try:
+            os.write(self._tell, json.dumps(message).encode() + b"\0")
+        except BrokenPipeError as fault:
+            raise AssertionError("chromium has ended") from fault
         while True:
             heard = self._next()
             if heard.get("id") == self._count:
@@ -60,6 +84,8 @@ class Browser:
     def _next(self) -> Message:
         """The next message, kept where it is of the console."""
         while b"\0" not in self._rest:
+            if not select.select([self._hear], [], [], ANSWERS)[0]:
+                raise AssertionError(f"chromium has said nothing for {ANSWERS} seconds")
             more = os.read(self._hear, 1 << 16)
             if not more:
                 raise AssertionError("chromium has ended")
@@ -75,9 +101,22 @@ class Browser:
         self.call("Emulation.setDeviceMetricsOverride", width=width, height=900, deviceScaleFactor=1, mobile=False)
         scheme = {"name": "prefers-color-scheme", "value": "dark" if dark else "light"}
         self.call("Emulation.setEmulatedMedia", features=[scheme])
-        self.call("Page.navigate", url="about:blank")   # so that an address with another end loads the page too
-        self.call("Page.navigate", url=address)
-        self.get("new Promise(done => document.readyState === 'complete' ? done(0) : addEventListener('load', () => done(0)))")
+        for page in ("about:blank", address):           # so that an address with another end loads the page too
+            self.call("Page.navigate", url=page)
+            self.arrives(page)
+
+    def arrives(self, end: str) -> None:
+        """Waits until a page is loaded whose address ends so."""
+        shown, last = "", time.monotonic() + PAGES
+        while not (shown.startswith("complete ") and shown.endswith(end)):
+            if time.monotonic() > last:
+                raise AssertionError(f"there is {shown}, and not {end}")
+            try:
+                shown = self.get("document.readyState + ' ' + location.href")
+            except AssertionError:                      # the page was left meanwhile
+                if self._chromium.poll() is not None:
+                    raise
+            time.sleep(0.01)
 
     def get(self, expression: str) -> Any:
         """The value of an expression of the page."""
@@ -92,16 +131,9 @@ class Browser:
         self.get("new Promise(done => requestAnimationFrame(() => setTimeout(done, 20)))")
 
     def follow(self, element: str, end: str) -> None:
-        """Clicks on a link, and waits until a page is loaded whose address ends so: for a minute at most."""
+        """Clicks on a link, and waits until a page is loaded whose address ends so."""
         self._click(element)
-        shown, last = "", time.monotonic() + 60
-        while not (shown.startswith("complete ") and shown.endswith(end)):
-            if time.monotonic() > last:
-                raise AssertionError(f"{element} leads to {shown}, and not to {end}")
-            try:
-                shown = self.get("document.readyState + ' ' + location.href")
-            except AssertionError:                      # the page was left meanwhile
-                time.sleep(0.05)
+        self.arrives(end)
 
     def _click(self, element: str) -> None:
         x, y = self.get(f"(() => {{ const it = {element}; it.scrollIntoView({{block: 'center'}});"

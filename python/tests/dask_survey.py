@@ -13,8 +13,8 @@ from foursaspen import survey_over
 
 def main(file: str) -> None:
     distributed: Any = importlib.import_module("distributed")
-    with distributed.LocalCluster(n_workers=2, threads_per_worker=1, dashboard_address=None) as cluster, \
-            distributed.Client(cluster) as client:
+    with distributed.LocalCluster(n_workers=2, threads_per_worker=1, dashboard_address=None, memory_limit=0) as cluster, \
+            distributed.Client(cluster, timeout=600) as client:
         for done in survey_over(client.get_executor(), 2, 4, file=file):
             print(done, file=sys.stderr)
         print(done.summary, len(client.scheduler_info()["workers"]), "workers", sep="")

@@ -6,8 +6,9 @@ import random
 import shutil
 import subprocess
 import sys
+import time
 import unittest
-from collections.abc import Sequence
+from collections.abc import Callable, Sequence
 from pathlib import Path
 
 TOP = Path(__file__).resolve().parents[2]
@@ -55,6 +56,14 @@ def python_with(modules: str, package: str) -> str:
     raise unittest.SkipTest(f"there is no Python with {modules} (Debian: {package})")
 
 
+def patience() -> float:
+    """How many seconds a test waits for what takes less than one on a machine with nothing else to do: two, and twenty times
+    what this one needs now to start Python with the package."""
+    begun = time.monotonic()
+    output([sys.executable, "-c", "import foursaspen; foursaspen.decide(110)"])
+    return 2 + 20 * (time.monotonic() - begun)
+
+
 def output(words: Sequence[str], environment: dict[str, str] = ENVIRONMENT, folder: str = "/") -> str:
     """What a program prints that ends well."""
     done = subprocess.run(words, env=environment, cwd=folder, stdout=subprocess.PIPE, stderr=subprocess.PIPE, text=True,
@@ -62,3 +71,16 @@ def output(words: Sequence[str], environment: dict[str, str] = ENVIRONMENT, fold
     if done.returncode:
         raise AssertionError(f"{' '.join(words)} ended with {done.returncode}: {done.stdout}{done.stderr}")
     return done.stdout
+
+
+def retried(run: Callable[[], str], tries: int = 3) -> str:
+    """What a program of others prints, which may fail to start on a busy machine: each failure but the last one is said on
+    standard error, and it is tried again."""
+    for more in reversed(range(tries)):
+        try:
+            return run()
+        except AssertionError as fault:
+            if not more:
+                raise
+            print(f"python: tried again: {str(fault)[-2000:]}", file=sys.stderr)
+    raise ValueError("tries is 1 or more")

@@ -7,12 +7,17 @@ from pathlib import Path
 
 import foursaspen as ca
 
-from .support import ENVIRONMENT, TOP, output, python_with, tool
+from .support import ENVIRONMENT, TOP, output, python_with, retried, tool
 
 TESTS = TOP / "python" / "tests"
 # That Open MPI runs for root too, and more processes than there are processors.
 MPI = ENVIRONMENT | {"OMPI_ALLOW_RUN_AS_ROOT": "1", "OMPI_ALLOW_RUN_AS_ROOT_CONFIRM": "1",
                      "OMPI_MCA_rmaps_base_oversubscribe": "1"}
+
+
+# That Dask waits for a slow machine.
+DASK = ENVIRONMENT | {"DASK_DISTRIBUTED__COMM__TIMEOUTS__CONNECT": "600s", "DASK_DISTRIBUTED__COMM__TIMEOUTS__TCP": "600s",
+                      "DASK_DISTRIBUTED__SCHEDULER__WORKER_TTL": "3600s"}
 
 
 class Clusters(unittest.TestCase):
@@ -21,7 +26,11 @@ class Clusters(unittest.TestCase):
         takes the file up. The words run a program that is handed the file."""
         with tempfile.TemporaryDirectory() as folder:
             file = Path(folder) / "survey.jsonl"
-            told = output([*words, str(file)], environment)
+
+            def asked() -> str:
+                file.unlink(missing_ok=True)
+                return output([*words, str(file)], environment)
+            told = retried(asked)
             self.assertEqual(told, f"{ca.Summary(65536, 582, 16, 314, 314, 46, 22)}2workers\n")
             lines = file.read_text().splitlines()
             self.assertEqual(len(lines), 17)
@@ -30,7 +39,7 @@ class Clusters(unittest.TestCase):
             self.assertEqual((end.summary.injective, end.resumed), (16, 8 * 4096))
 
     def test_dask(self) -> None:
-        self.compare([python_with("distributed", "python3-distributed"), str(TESTS / "dask_survey.py")], ENVIRONMENT)
+        self.compare([python_with("distributed", "python3-distributed"), str(TESTS / "dask_survey.py")], DASK)
 
     def test_mpi(self) -> None:
         python = python_with("mpi4py.futures", "python3-mpi4py")

@@ -2,6 +2,8 @@
 from __future__ import annotations
 
 import doctest
+import os
+import tempfile
 import unittest
 
 import foursaspen
@@ -12,7 +14,15 @@ from .support import TOP
 
 class Examples(unittest.TestCase):
     def test_the_page(self) -> None:
-        failed, attempted = doctest.testfile(str(TOP / "docs" / "PYTHON.md"), module_relative=False, verbose=False)
+        """In a folder of its own, into which an example writes."""
+        here = os.getcwd()
+        with tempfile.TemporaryDirectory() as folder:
+            os.chdir(folder)
+            try:
+                failed, attempted = doctest.testfile(str(TOP / "docs" / "PYTHON.md"), module_relative=False, verbose=False)
+            finally:
+                os.chdir(here)
+            self.assertEqual(os.listdir(folder), ["reversible.csv"])
         self.assertEqual(failed, 0)
         self.assertGreater(attempted, 30)
 

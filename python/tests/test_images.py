@@ -2,13 +2,14 @@
 from __future__ import annotations
 
 import random
+import sys
 import unittest
 from collections.abc import Callable
 from typing import Any
 
 import foursaspen as ca
 
-from .support import drawn
+from .support import drawn, output
 from .test_pictures import image_at
 
 
@@ -62,6 +63,16 @@ class Images(unittest.TestCase):
     def test_text(self) -> None:
         found = ca.image(110, ca.Tail("0", "1", "0"))
         self.assertEqual((found.start, str(found.tail), str(found)), (-1, "0|11|0", "image -1 0|11|0\n"))
+
+    def test_command_line(self) -> None:
+        ask = [sys.executable, "-m", "foursaspen", "image"]
+        for words, told in ((["110", "01100"], "110\n"), (["184", "--ring", "0011"], "1010\n"), (["110", "0|1|0"], "image -1 0|11|0\n"),
+                            (["2:2:0:t0110", ""], None), (["110", "0"], None)):
+            if told is None:
+                with self.assertRaisesRegex(AssertionError, "ended with 1: word has at least"):
+                    output([*ask, *words])
+            else:
+                self.assertEqual(output([*ask, *words]), told)
 
     def test_mistakes(self) -> None:
         image: Any = ca.image

@@ -1,6 +1,7 @@
 """The package as a whole: what it shows of itself, its command line, and what other programs take from it."""
 from __future__ import annotations
 
+import contextlib
 import os
 import pickle
 import pydoc
@@ -17,7 +18,7 @@ from pathlib import Path
 import foursaspen as ca
 from foursaspen.lists import Stop
 
-from .support import ENVIRONMENT, output, program, python_with
+from .support import ENVIRONMENT, output, patience, program, python_with
 
 ASK = [sys.executable, "-m", "foursaspen"]
 NETWORKX = """import networkx
@@ -105,31 +106,68 @@ class CommandLine(unittest.TestCase):
 
 
 class Stopped(unittest.TestCase):
-    CODE = """import sys
+    def test_a_terminal_is_told_how_far_it_is(self) -> None:
+        """And after Ctrl-C that it has stopped."""
+        ours, theirs = os.openpty()
+        begun = subprocess.Popen([*ASK, "atlas", "2", "4", "--csv"], env=ENVIRONMENT, cwd="/", stdout=subprocess.DEVNULL, stderr=theirs)
+        os.close(theirs)
+        said = b""
+        try:
+            while b"rule 1,000" not in said:
+                said += os.read(ours, 1000)
+            begun.send_signal(signal.SIGINT)
+            self.assertEqual(begun.wait(600), 130)
+            with contextlib.suppress(OSError):  # where nobody writes any more
+                while more := os.read(ours, 1000):
+                    said += more
+        finally:
+            begun.kill()
+            begun.wait()
+            os.close(ours)
+        self.assertRegex(said.decode(), r"^\rrule 0 +\rrule 1,000 .*stopped\r\n$")
+
+    OVER_THREADS = """import sys
 from concurrent.futures import ThreadPoolExecutor
 from foursaspen import rules
 with ThreadPoolExecutor(2) as pool:
     print("begins", flush=True)
     list(rules(sys.argv[1], int(sys.argv[2]), int(sys.argv[3]), executor=pool))
 """
+    ALONE = """import sys
+from foursaspen import rules
+print("begins", flush=True)
+list(rules(sys.argv[1], int(sys.argv[2]), int(sys.argv[3])))
+"""
+    # Lists that have no end in sight.
+    ENDLESS = (("open", "4", "3"), ("surjective", "3", "3"), ("injective", "4", "3"))
 
-    def test_threads_end_within_a_second(self) -> None:
-        """Of lists that have no end in sight. They take a third of a second, and the limit leaves room for a slow machine."""
-        for words in (("open", "4", "3"), ("surjective", "3", "3"), ("injective", "4", "3")):
-            begun = subprocess.Popen([sys.executable, "-c", self.CODE, *words], env=ENVIRONMENT, cwd="/", stdout=subprocess.PIPE,
-                                     stderr=subprocess.DEVNULL, text=True)
-            assert begun.stdout is not None
+    def stops(self, code: str, words: tuple[str, ...]) -> None:
+        """A program whose list is under way ends soon after Ctrl-C."""
+        begun = subprocess.Popen([sys.executable, "-c", code, *words], env=ENVIRONMENT, cwd="/", stdout=subprocess.PIPE,
+                                 stderr=subprocess.PIPE, text=True)
+        assert begun.stdout is not None
+        try:
             self.assertEqual(begun.stdout.readline(), "begins\n")
-            time.sleep(2.5)
+            time.sleep(1.5)
             self.assertIsNone(begun.poll(), words)
+            before = patience()
             begun.send_signal(signal.SIGINT)
             stopped = time.monotonic()
-            try:
-                begun.wait(30)
-            finally:
-                begun.kill()
-                begun.stdout.close()
-            self.assertLess(time.monotonic() - stopped, 5, words)
+            _, said = begun.communicate(timeout=600)
+            self.assertLess(time.monotonic() - stopped, max(before, patience()), words)
+            self.assertIn("KeyboardInterrupt", said)
+        finally:
+            begun.kill()
+            begun.wait()
+
+    def test_threads_end_within_a_second(self) -> None:
+        for words in self.ENDLESS:
+            self.stops(self.OVER_THREADS, words)
+
+    def test_a_list_without_an_executor_ends_within_a_second(self) -> None:
+        """Even if the search for the next rule lasts for long: of injective rules of five states with a first letter 0, 0, 1."""
+        for words in self.ENDLESS:
+            self.stops(self.ALONE, words)
 
     def test_a_worker_of_another_process_is_never_stopped(self) -> None:
         stop = Stop()

@@ -13,7 +13,7 @@ import tempfile
 import time
 import unittest
 import xml.etree.ElementTree as tree
-from collections.abc import Iterator
+from collections.abc import Callable, Iterator
 from pathlib import Path
 from typing import Any
 from unittest import mock
@@ -101,6 +101,22 @@ class Texts(unittest.TestCase):
             for part in text.split("<svg")[1:]:
                 tree.fromstring("<svg" + part.partition("</svg>")[0] + "</svg>")
 
+    def test_the_heading(self) -> None:
+        """The number of an elementary rule, a text that isn't long, or else how many states there are and how wide the rule is."""
+        known: list[tuple[ca.RuleLike, str]] = [
+            (110, "Rule 110"), ("3:2:0:t012120201", "3:2:0:t012120201"), (f"16:2:0:t{WIDE}", "A rule of 16 states and width 2")]
+        for rule, name in known:
+            text = ca.page(rule)
+            self.assertIn(f"<title>{name}</title>", text)
+            self.assertIn(f"<h1>{name}</h1>\n<p class='note mono'>{ca.Rule(rule)}</p>", text)
+
+    def test_what_windows_and_look_aheads_tell(self) -> None:
+        """Where there is room for it."""
+        known: list[tuple[ca.RuleLike, int, int]] = [(170, 3, 0), (30, 1, 0), (110, 0, 0), (f"16:2:0:t{WIDE}", 1, 2)]
+        for rule, count, note in known:
+            text = ca.page(rule)
+            self.assertEqual((text.count(" the marked cell</title>"), text.count(": a picture has at most 256 cases.</p>")), (count, note), rule)
+
     def test_words_lead_to_what_they_mean(self) -> None:
         for rule in RULES:
             text = ca.page(rule)
@@ -160,6 +176,17 @@ class Clicks(unittest.TestCase):
         file.write_text(text)
         return file.as_uri()
 
+    def comes(self, asked: Callable[[], object], wanted: object) -> None:
+        """What is asked becomes what is wanted, at once or within a minute, since a page may answer later than it is clicked."""
+        last = time.monotonic() + 60
+        while (seen := asked()) != wanted and time.monotonic() < last:
+            time.sleep(0.05)
+        self.assertEqual(seen, wanted)
+
+    def shows(self, expression: str, wanted: object) -> None:
+        """The value of an expression of the page becomes this one."""
+        self.comes(lambda: self.browser.get(expression), wanted)
+
     def look(self, address: str) -> None:
         """By day and by night, wide and narrow: the colours follow, and nothing is beyond the edge."""
         for dark, ground in ((False, "rgb(255, 255, 255)"), (True, "rgb(21, 24, 28)")):
@@ -197,11 +224,11 @@ class Clicks(unittest.TestCase):
             shown = get("[...document.querySelectorAll('.badge')].map(badge => badge.textContent)")
             self.assertEqual(shown, [f"{key}: {'yes' if getattr(report, key) else 'no'}" for key in pages.VERDICTS])
             self.browser.click("document.querySelector('.badge[href=\"#left\"]')")
-            self.assertEqual(get("location.hash"), "#left")
-            self.assertLess(abs(get("document.getElementById('left').getBoundingClientRect().top")), 900)
-            was = get("document.querySelector('details').open")
+            self.shows("location.hash", "#left")
+            self.shows("Math.abs(document.getElementById('left').getBoundingClientRect().top) < 900", True)
+            self.shows("document.querySelector('details').open", True)
             self.browser.click("document.querySelector('summary')")
-            self.assertEqual((was, get("document.querySelector('details').open")), (True, False))
+            self.shows("document.querySelector('details').open", False)
             self.assertEqual(self.browser.console, [])
 
     def links(self, folder: Path) -> int:
@@ -234,7 +261,7 @@ class Clicks(unittest.TestCase):
             self.look((folder / name).as_uri())
         self.browser.open(index)
         self.browser.follow("document.querySelector('#body a')", "/2_2_0_t0000.html")
-        self.assertEqual(get("document.querySelectorAll('#kin a').length + document.querySelectorAll('nav a').length"), 3 + 6)
+        self.shows("document.querySelectorAll('#kin a').length + document.querySelectorAll('nav a').length", 3 + 6)
         self.browser.follow("[...document.querySelectorAll('nav a')].find(a => a.textContent === 'the next class')",
                             "/2_2_0_t1000.html")
         self.assertEqual(get("document.querySelector('h1').textContent"), "2:2:0:t1000")
@@ -253,9 +280,28 @@ class Clicks(unittest.TestCase):
         self.browser.open(self.file("atlas.html", ca.atlas(2, 3)))
         get = self.browser.get
         get("(it => it.scrollTop = 1500)(document.querySelector('.scroll'))")
-        get("new Promise(done => setTimeout(done, 50))")
+        self.shows("document.querySelector('.scroll').scrollTop > 1000", True)
         places = get("['#head th', '.scroll'].map(name => document.querySelector(name).getBoundingClientRect().top)")
         self.assertLess(abs(places[0] - places[1]), 2)
+
+    def test_large_graphs_and_long_tables(self) -> None:
+        """At 360 pixels they scroll in boxes of their own, which are no higher than the screen, and headings of tables stay."""
+        get = self.browser.get
+        for name, rule in (("wide.html", f"16:2:0:t{WIDE}"), ("long.html", "2:5:0:t00110011001111001100110011000110")):
+            address = self.file(name, ca.page(rule))
+            self.look(address)
+            self.browser.open(address, 360)
+            self.named()
+            boxes = get("[...document.querySelectorAll('.scroll')].map(box => [box.clientWidth, box.clientHeight, box.scrollWidth,"
+                        "box.scrollHeight, box.tabIndex])")
+            self.assertTrue(all(wide <= 360 and high <= 0.9 * 900 for wide, high, *_ in boxes), boxes)
+            self.assertGreater(sum(whole > wide for wide, _, whole, _, _ in boxes), 1)
+            self.assertGreater(sum(whole > high for _, high, _, whole, _ in boxes), 0)
+            self.assertEqual({stop for wide, high, whole, deep, stop in boxes if whole > wide or deep > high}, {0})
+            get("(window.high = [...document.querySelectorAll('.scroll')].find(box => box.querySelector('thead') && "
+                "box.scrollHeight > box.clientHeight + 200)).scrollTop = 150")
+            self.shows("high.scrollTop", 150)
+            self.assertLess(abs(get("high.querySelector('thead th').getBoundingClientRect().top - high.getBoundingClientRect().top")), 2)
 
     def test_the_keyboard(self) -> None:
         self.browser.open(self.file("small.html", ca.atlas(2, 2)))
@@ -267,16 +313,16 @@ class Clicks(unittest.TestCase):
                 break
         self.assertEqual([name for name in seen if name in pages.VERDICTS or name in ("kept", "rule")][:8], [*pages.VERDICTS, "kept", "rule"])
         self.browser.press("Enter")
-        self.assertEqual(get("location.hash"), "#sort=members")
-        self.assertEqual(self.counts()[0][0], "0")
+        self.shows("location.hash", "#sort=members")
+        self.comes(lambda: self.counts()[0][0], "0")
         count = get("history.length")
         get("document.getElementById('rule').focus()")
         self.browser.write("2:2:1:t0110")
-        self.assertEqual((get("history.length"), self.counts()[0]), (count, ["6"]))
+        self.comes(lambda: (get("history.length"), self.counts()[0]), (count, ["6"]))
         self.browser.open(self.file("small.html", ca.atlas(2, 2)) + "#surjective=maybe&kept=7")
-        self.assertEqual((self.counts()[1], get("document.getElementById('surjective').value")), ("7 of 7 classes, 16 rules", ""))
+        self.comes(lambda: (self.counts()[1], get("document.getElementById('surjective').value")), ("7 of 7 classes, 16 rules", ""))
         self.browser.open(self.file("small.html", ca.atlas(2, 2)) + "#kept=1")
-        self.assertEqual(self.counts(), (["10"], "1 of 7 classes, 2 rules"))
+        self.comes(self.counts, (["10"], "1 of 7 classes, 2 rules"))
 
     def test_on_paper(self) -> None:
         """Headings stay with what they head, and nothing is cut off."""
@@ -298,29 +344,26 @@ class Clicks(unittest.TestCase):
         self.look(address)
         self.browser.open(address)
         get = self.browser.get
-        self.assertEqual(self.counts(), ([row[0] for row in rows[1:]], "88 of 88 classes, 256 rules"))
+        self.comes(self.counts, ([row[0] for row in rows[1:]], "88 of 88 classes, 256 rules"))
         get("(it => { it.value = 'yes'; it.dispatchEvent(new Event('change')) })(document.getElementById('injective'))")
-        get("new Promise(done => setTimeout(done, 50))")
-        self.assertEqual(self.counts(), (["15", "51", "170", "204"], "4 of 88 classes, 6 rules"))
+        self.comes(self.counts, (["15", "51", "170", "204"], "4 of 88 classes, 6 rules"))
         self.browser.click("document.querySelector('#head th:nth-child(1) button')")
+        self.shows("document.querySelector('#head th').ariaSort", "ascending")
         self.browser.click("document.querySelector('#head th:nth-child(1) button')")
-        self.assertEqual(self.counts()[0], ["204", "170", "51", "15"])
-        self.assertEqual(get("location.hash"), "#injective=yes&sort=least&down=1")
-        self.assertEqual(get("document.querySelector('#head th').ariaSort"), "descending")
+        self.comes(lambda: self.counts()[0], ["204", "170", "51", "15"])
+        self.shows("location.hash", "#injective=yes&sort=least&down=1")
+        self.shows("document.querySelector('#head th').ariaSort", "descending")
         self.browser.open(f"{address}#surjective=no&sort=surjective&down=1")
         having = [row[3] for row in rows[1:] if row[2] == "no"]
-        self.assertEqual(self.counts()[1], f"{len(having)} of 88 classes, 226 rules")
-        self.assertEqual(get("document.querySelector('#body td:nth-child(3) code').textContent.length"), max(map(len, having)))
+        self.comes(lambda: self.counts()[1], f"{len(having)} of 88 classes, 226 rules")
+        self.shows("document.querySelector('#body td:nth-child(3) code').textContent.length", max(map(len, having)))
         self.browser.open(f"{address}#rule=124")
-        self.assertEqual(self.counts(), (["110"], "1 of 88 classes, 4 rules"))
+        self.comes(self.counts, (["110"], "1 of 88 classes, 4 rules"))
         self.browser.call("Page.setDownloadBehavior", behavior="allow", downloadPath=str(self.room))
         self.browser.click("document.getElementById('down')")
         file = self.room / "classes.csv"
-        for _ in range(100):
-            if file.exists() and file.read_text():
-                break
-            time.sleep(0.05)
-        self.assertEqual(list(csv.reader(io.StringIO(file.read_text()))), [rows[0], *(row for row in rows if row[0] == "110")])
+        wanted = [rows[0], *(row for row in rows if row[0] == "110")]
+        self.comes(lambda: list(csv.reader(io.StringIO(file.read_text()))) if file.exists() else [], wanted)
         self.assertEqual(self.browser.console, [])
 
 

@@ -1,6 +1,8 @@
 """Pictures: what they show is so, they can be read, and docs/ has what the package makes."""
 from __future__ import annotations
 
+import functools
+import itertools
 import math
 import random
 import tempfile
@@ -10,6 +12,7 @@ from collections.abc import Iterator
 from pathlib import Path
 
 import foursaspen as ca
+from foursaspen import node_sets
 from foursaspen.drawing import FIRST, MARK, NIGHT, PAPER, SECOND
 from foursaspen.graphs import Graph
 from foursaspen.layout import RADII, RADIUS, fits, ring
@@ -74,6 +77,69 @@ def pairs_of(report: ca.Report) -> Iterator[tuple[str, list[str], range]]:
             yield side, [str(split.first), str(split.second)], range(-left - before, middle + right + behind)
 
 
+def words(states: int, letters: int) -> Iterator[str]:
+    """All words of so many letters."""
+    return map("".join, itertools.product("0123456789abcdef"[:states], repeat=letters))
+
+
+def writes(rule: ca.Rule, word: str) -> str:
+    """What the rule's table gives on the windows of a word."""
+    return "".join(f"{rule.table[int_of(rule.states, word[at:at + rule.width])]:x}" for at in range(len(word) - rule.width + 1))
+
+
+def int_of(states: int, word: str) -> int:
+    return functools.reduce(lambda value, letter: value * states + int(letter, 16), word, 0)
+
+
+def told_by(rule: ca.Rule, side: str, ahead: int) -> dict[tuple[str, str], set[str]]:
+    """The letters of which a word of width - 1 letters beside them and so many letters of the image tell, by these two."""
+    known: dict[tuple[str, str], set[str]] = {}
+    ends = rule.width - 1
+    for word in words(rule.states, ends + ahead):
+        beside, letter = (word[:ends], word[ends]) if side == "right" else (word[-ends:], word[-ends - 1])
+        known.setdefault((beside, writes(rule, word)), set()).add(letter)
+    return known
+
+
+def are_few(report: ca.Report, side: ca.Closing) -> bool:
+    """Whether the cases of a look-ahead are drawn."""
+    name, ahead = "right" if side is report.right else "left", side.ahead or 0
+    states = report.rule.states
+    return states ** (report.rule.width - 1 + ahead) <= 65536 and len(told_by(report.rule, name, ahead)) <= 256
+
+
+def sets_of(rule: ca.Rule) -> set[frozenset[str]]:
+    """The sets of words of width - 1 letters at which a walk may be that has written any word: what follows of them all."""
+    seen: set[frozenset[str]] = set()
+    waiting = [frozenset(words(rule.states, rule.width - 1))]
+    while waiting:
+        here = waiting.pop()
+        if here not in seen:
+            seen.add(here)
+            waiting += [frozenset((word + read)[1:] for word in here for read in words(rule.states, 1)
+                                  if writes(rule, word + read) == letter) for letter in words(rule.states, 1)]
+    return seen
+
+
+def told_in(svg: str) -> list[tuple[str, str, str]]:
+    """The cases that a picture draws: the cells, a blank for each that has no letter, the letter that is marked, and the letters
+    of the image below."""
+    cases = []
+    for group in tree.fromstring(svg).iter(f"{SVG}g"):
+        boxes = [(float(box.get("y", 0)), float(box.get("x", 0)), box.get("fill")) for box in group.iter(f"{SVG}rect")]
+        letters = {(round(float(text.get("x", 0)) - 9, 1), float(text.get("y", 0))): text.text or "" for text in group.iter(f"{SVG}text")}
+        if " tells " in (group[0].text or ""):
+            rows: dict[float, str] = {}
+            marked = ""
+            for y, x, fill in sorted(boxes):
+                letter = next((text for (left, base), text in letters.items() if abs(left - x) < 1 and 0 < base - y < 18), " ")
+                rows[y] = rows.get(y, "") + letter
+                marked += letter if fill == MARK else ""
+            above, below = (rows[y] for y in sorted(rows))
+            cases.append((above, marked, below))
+    return cases
+
+
 class Pictures(unittest.TestCase):
     def test_the_pictures_of_the_docs(self) -> None:
         """Each is what the line of docs/EVIDENCE.md makes that names its file."""
@@ -116,8 +182,11 @@ class Pictures(unittest.TestCase):
             report = ca.decide(rule)
             for show in (None, *SHOWN):
                 with self.subTest(rule=rule, show=show):
-                    there = {None: True, "graph": True, "orphan": report.orphan, "erase": report.orphan, "twins": report.twins, "right": report.right.split,
-                             "left": report.left.split, "flux": report.flux, "ring": report.ring,
+                    there = {None: True, "graph": True, "orphan": report.orphan, "erase": report.orphan, "twins": report.twins,
+                             "right": report.right.split or are_few(report, report.right),
+                             "left": report.left.split or are_few(report, report.left),
+                             "window": report.window and report.rule.states ** report.window.letters <= 256,
+                             "sets": report.surjective and len(sets_of(report.rule)) <= 64, "flux": report.flux, "ring": report.ring,
                              "current": report.flux and 0 <= -report.rule.offset < report.rule.width}[show]
                     if not there:
                         self.assertRaises(ValueError, ca.picture, rule, show)
@@ -213,6 +282,74 @@ class Cells(unittest.TestCase):
         numbers = sorted(text for text in texts(ca.picture(184, "flux")) if text.lstrip("+-").isdigit())
         nodes, edges = ["00", "0", "01", "0", "10", "0", "11", "-1"], ["+1", "-1", *"000000"]
         self.assertEqual(numbers, sorted(nodes + edges))
+
+
+class Told(unittest.TestCase):
+    """What tells a letter, and the sets of nodes: each picture has all cases, held against the rule's table alone."""
+
+    def test_windows_tell_the_marked_cell(self) -> None:
+        rules = [*(str(rule) for rule in ca.rules("injective", 2, 3, -1)), *(str(rule) for rule in ca.rules("injective", 2, 4, -2)),
+                 *(str(rule) for rule in ca.rules("injective", 3, 2)), "5:2:3:t" + "01234" * 5]
+        for rule in rules:
+            report = ca.decide(rule)
+            assert report.window is not None
+            letters, place = report.window.letters, report.window.place
+            cases = told_in(ca.picture(rule, "window"))
+            self.assertEqual(sorted(image for _, _, image in cases), sorted(words(report.rule.states, letters)))
+            told = {image: (marked, cells.strip(), cells.index(marked)) for cells, marked, image in cases}
+            for word in words(report.rule.states, letters + report.rule.width - 1):
+                self.assertEqual(told[writes(report.rule, word)], (word[place], word[place], place), (rule, word))
+
+    def test_look_aheads_tell_the_marked_cell(self) -> None:
+        seen = 0
+        for rule in [*map(str, range(256)), *drawn(60, seed=31)]:
+            report = ca.decide(rule)
+            for side, closing in (("right", report.right), ("left", report.left)):
+                if closing.ahead and are_few(report, closing):
+                    wanted = told_by(report.rule, side, closing.ahead)
+                    self.assertEqual({len(letters) for letters in wanted.values()}, {1})
+                    found = {}
+                    for cells, marked, image in told_in(ca.picture(rule, side)):
+                        known = cells.strip()
+                        beside = known[:-1] if side == "right" else known[1:]
+                        self.assertEqual(known[-1] if side == "right" else known[0], marked)
+                        self.assertEqual(len(cells) - len(known), closing.ahead - 1)
+                        found[beside, image] = {marked}
+                    self.assertEqual(found, wanted, (rule, side))
+                    seen += 1
+        self.assertGreater(seen, 60)
+
+    def test_the_list_of_sets(self) -> None:
+        """Those of a certificate, in which a node is the bit of its value, and of the table; each is followed by listed ones."""
+        seen = 0
+        for rule in [*map(str, range(256)), *drawn(40, seed=32)]:
+            report = ca.decide(rule)
+            if not report.surjective:
+                self.assertRaisesRegex(ValueError, "isn't surjective", ca.picture, rule, "sets")
+                continue
+            listed = node_sets.sets_of(Graph(rule)) if len(sets_of(report.rule)) <= 64 else None
+            if listed is None:
+                self.assertRaisesRegex(ValueError, "more than 64 sets", ca.picture, rule, "sets")
+                continue
+            graph = Graph(rule)
+            self.assertEqual({frozenset(map(graph.name, nodes)) for nodes in listed}, sets_of(report.rule))
+            self.assertEqual({sum(1 << node for node in nodes) for nodes in listed}, set(ca.certify(rule).data["surjective"]["sets"]))
+            numbers = {nodes: str(place) for place, nodes in enumerate(listed, 1)}
+            shown = texts(ca.picture(rule, "sets"))[-len(listed) * (1 + graph.states):]
+            self.assertEqual(shown, [text for nodes, after in listed.items() for text in (numbers[nodes], *map(numbers.__getitem__, after))])
+            for nodes, after in listed.items():
+                for letter, there in enumerate(after):
+                    self.assertEqual(set(map(graph.name, there)), {(graph.name(node) + read)[1:] for node in nodes for read in
+                                     words(graph.states, 1) if writes(report.rule, graph.name(node) + read) == f"{letter:x}"})
+            seen += 1
+        self.assertGreater(seen, 30)
+
+    def test_too_many_cases(self) -> None:
+        wide = "16:2:0:t" + "".join(f"{(x + 2 * y) % 16:x}" for x in range(16) for y in range(16))
+        for show in ("window", "right", "left"):
+            if show == "window" or (getattr(ca.decide(wide), show).ahead or 0) > 1:
+                self.assertRaisesRegex(ValueError, ": a picture has at most 256 cases", ca.picture, wide, show)
+        self.assertRaisesRegex(ValueError, "isn't injective: it has no window", ca.picture, 110, "window")
 
 
 class Walks(unittest.TestCase):

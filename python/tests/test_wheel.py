@@ -2,6 +2,10 @@
 variable that names a library."""
 from __future__ import annotations
 
+import base64
+import csv
+import email
+import hashlib
 import os
 import sys
 import tempfile
@@ -52,6 +56,24 @@ class Wheel(unittest.TestCase):
 
     def test_its_tag(self) -> None:
         self.assertRegex(self.wheel.name, rf"^foursaspen-{foursaspen.__version__}-py3-none-manylinux_2_\d+_\w+\.whl$")
+
+    def test_what_an_index_asks_for(self) -> None:
+        """Names and a version in METADATA, a tag as in the file's name, and in RECORD the sum and the size of every file."""
+        info = f"foursaspen-{foursaspen.__version__}.dist-info"
+        with zipfile.ZipFile(self.wheel) as wheel:
+            files = {name: wheel.read(name) for name in wheel.namelist()}
+        told = email.message_from_bytes(files[f"{info}/METADATA"])
+        self.assertEqual([told[name] for name in ("Metadata-Version", "Name", "Version", "License", "Requires-Python")],
+                         ["2.1", "foursaspen", foursaspen.__version__, "MIT", ">=3.10"])
+        self.assertEqual(str(told.get_payload()), (TOP / "python" / "README.md").read_text())
+        self.assertNotRegex(str(told.get_payload()), r"\]\((?!https?:)")       # an index can't follow a link into the repository
+        tags = email.message_from_bytes(files[f"{info}/WHEEL"])
+        self.assertEqual((tags["Wheel-Version"], tags["Root-Is-Purelib"]), ("1.0", "false"))
+        self.assertEqual(self.wheel.name, f"foursaspen-{foursaspen.__version__}-{tags['Tag']}.whl")
+        rows = {name: (told_sum, size) for name, told_sum, size in csv.reader(files[f"{info}/RECORD"].decode().splitlines())}
+        self.assertEqual(rows.pop(f"{info}/RECORD"), ("", ""))
+        self.assertEqual(rows, {name: ("sha256=" + base64.urlsafe_b64encode(hashlib.sha256(data).digest()).decode().rstrip("="),
+                                       str(len(data))) for name, data in files.items() if name != f"{info}/RECORD"})
 
     def test_the_same_files_make_the_same_wheel(self) -> None:
         with tempfile.TemporaryDirectory() as folder:

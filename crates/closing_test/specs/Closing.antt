@@ -1,4 +1,4 @@
--- What the answers of `right` and `left` say.
+-- The meaning of the results of `right` and `left`.
 use Rattle.std.specs.Prelude.{◌≡◌, ℕ, ◌+◌, ◌≤◌, length}
 use Rattle.least_walk.specs.Queues.{most_steps}
 use Rattle.pair_rank.specs.Sides.{most_rank}
@@ -10,7 +10,7 @@ use Rattle.tail_config.specs.TailValues.{TailOver}
 use Rattle.closing_test.specs.declared.closing.Closing.{Closing}
 use Rattle.closing_test.specs.declared.closing.Closing.TheVariants.{Ahead, Split}
 
--- the most letters of a least look-ahead: two more than the greatest rank
+-- the greatest number of letters of a least look-ahead: two more than the greatest rank
 abbrev pub most_ahead : ℕ
 most_ahead = most_rank + 2
 

@@ -1,4 +1,4 @@
--- What was found of two windows that differ in the letter at their end on a side.
+-- The nodes at the ends of two windows that differ only in the letter at their end on a side.
 use Rattle.std.specs.Prelude.{◌≡◌, ℕ, ◌<◌}
 use Rattle.word_image.specs.LocalRules.{LocalRule, node_count}
 use Rattle.word_image.specs.declared.side.Side.{Side}
@@ -11,7 +11,7 @@ pub record AreEndNodes (side : Side) (r : LocalRule) (w a u v : ℕ) : Type 0 wh
   pub second : v ≡ end_node side r (with_end side r w a)
   pub node : v < node_count r
 
--- what was found of a window and of one with another letter at its end, which has the same label
+-- the nodes at the ends of a window and of one with another letter at its end, which have equal labels
 pub record IsFound (side : Side) (r : LocalRule) (w a u v : ℕ) : Type 0 where
   pub first : AreFirst side r w a
   pub ends : AreEndNodes side r w a u v

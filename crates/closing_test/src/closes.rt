@@ -12,23 +12,23 @@ use crate::ends::first_nodes;
 use pair_rank::Endless;
 use word_image::Side;
 
-/// Whether a rule is right-closing, by its endless pairs: no first pair of the right is endless. It
-/// takes time **O(k·k^m)** and no memory.
+/// Returns whether a rule is right-closing: whether no first pair on the right is endless. Takes time **O(k·k^m)**
+/// and no memory.
 pub fn is_right_closing(endless: &Endless) -> bool
     ensures { IsTrue result ↔ IsRightClosing endless.now }
 {
     closes(Side::Right, endless)
 }
 
-/// Whether a rule is left-closing, by its endless pairs: no first pair of the left is endless. It takes
-/// time **O(k·k^m)** and no memory.
+/// Returns whether a rule is left-closing: whether no first pair on the left is endless. Takes time **O(k·k^m)** and
+/// no memory.
 pub fn is_left_closing(endless: &Endless) -> bool
     ensures { IsTrue result ↔ IsLeftClosing endless.now }
 {
     closes(Side::Left, endless)
 }
 
-/// Whether the rule closes on this side.
+/// Returns whether the rule closes on this side.
 fn closes(side: Side, endless: &Endless) -> bool
     ensures { IsTrue result ↔ IsClosing side endless.now }
 {
@@ -40,7 +40,7 @@ fn closes(side: Side, endless: &Endless) -> bool
     true
 }
 
-/// Whether the ends of this window and another one are an endless first pair.
+/// Returns whether the ends of this window and of some other one are an endless first pair.
 fn is_endless_at(side: Side, endless: &Endless, window: u16) -> bool
     requires { window < endless.now.states ^ endless.now.width }
     ensures { IsTrue result ↔ IsEndlessAt side endless.now window }
@@ -53,7 +53,7 @@ fn is_endless_at(side: Side, endless: &Endless, window: u16) -> bool
     false
 }
 
-/// Whether the ends of this window and of that with this letter at its end are one.
+/// Returns whether the ends of this window and of the window with this letter at its end are an endless first pair.
 fn is_endless_with(side: Side, endless: &Endless, window: u16, letter: u8) -> bool
     requires window { window < endless.now.states ^ endless.now.width }
     requires letter { letter < endless.now.states }
@@ -65,7 +65,7 @@ fn is_endless_with(side: Side, endless: &Endless, window: u16, letter: u8) -> bo
     endless_nodes(side, endless, u) >> v & 1 == 1
 }
 
-/// The nodes with which u goes on together towards this side for ever; node v is bit v.
+/// Returns the nodes that are endless with u on this side. Bit v stands for node v.
 fn endless_nodes(side: Side, endless: &Endless, u: u8) -> u16
     requires { u < node_count endless.now }
     ensures { (v : ℕ) → v < most_nodes → (IsBitSet result v ↔ IsEndless (Together side endless.now u v)) }

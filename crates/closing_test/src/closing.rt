@@ -1,4 +1,4 @@
-//! Whether a rule closes on a side.
+//! Whether a rule closes on a side, with evidence.
 
 ghost use Rattle.std.specs.Prelude.{◌≡◌, IfOk};
 ghost use Rattle.closing_test.specs.Closing.{IsRightAnswer, IsLeftAnswer};
@@ -12,17 +12,17 @@ use std::alloc::{AllocError, Global};
 use tail_config::Tail;
 use word_image::Rule;
 
-/// Why a rule closes on a side, or why it doesn't.
+/// The evidence that a rule closes on a side, or that it doesn't.
 #[derive(Debug, Drop)]
 pub enum Closing {
-    /// It does, since this is its least look-ahead.
+    /// It closes, and this is its least look-ahead.
     Ahead(u16),
-    /// It doesn't, since this is its least normal split.
+    /// It doesn't close, and this is its least normal split.
     Split(Tail, Tail),
 }
 
-/// The least right look-ahead exactly where the rule is right-closing, else its least normal right
-/// split, in Tails with middles and periods of at most 512 letters. The ranks are those of the rule.
+/// Returns the least right look-ahead if the rule is right-closing, and otherwise its least normal right split, as
+/// Tails whose middles and periods have at most 512 letters. The ranks belong to the rule.
 pub fn right(
     alloc: Global,
     rule: &Rule,
@@ -35,7 +35,7 @@ pub fn right(
     right_over(alloc, &Pairs::of(rule), ranks, walker)
 }
 
-/// What `right` gives of the rule of these pairs, which aren't made again.
+/// Does the same as `right` for the rule of these pairs.
 pub fn right_over(
     alloc: Global,
     pairs: &Pairs,
@@ -52,8 +52,8 @@ pub fn right_over(
     Ok(Closing::Split(first, second))
 }
 
-/// The least left look-ahead exactly where the rule is left-closing, else its least normal left
-/// split, in Tails with middles and periods of at most 512 letters. The ranks are those of the rule.
+/// Returns the least left look-ahead if the rule is left-closing, and otherwise its least normal left split, as Tails
+/// whose middles and periods have at most 512 letters. The ranks belong to the rule.
 pub fn left(
     alloc: Global,
     rule: &Rule,
@@ -66,7 +66,7 @@ pub fn left(
     left_over(alloc, &Pairs::of(rule), ranks, walker)
 }
 
-/// What `left` gives of the rule of these pairs, which aren't made again.
+/// Does the same as `left` for the rule of these pairs.
 pub fn left_over(
     alloc: Global,
     pairs: &Pairs,

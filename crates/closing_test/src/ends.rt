@@ -1,4 +1,4 @@
-//! Windows that differ in the letter at an end.
+//! Windows that differ only in the letter at an end.
 
 ghost use Rattle.std.specs.Prelude.{◌≡◌, ◌^◌, ◌<◌, MatchOption};
 ghost use Rattle.word_image.specs.LocalRules.{IsRule};
@@ -7,8 +7,8 @@ ghost use Rattle.closing_test.specs.Sides.{IsFound};
 
 use word_image::{Rule, Side};
 
-/// The nodes at the ends of this window and of that with this letter at its end, if they are two
-/// windows with one label.
+/// Returns the nodes at the ends of this window and of the window with this letter at its end, if these are two
+/// windows with equal labels.
 pub fn first_nodes(side: Side, rule: &Rule, window: u16, letter: u8) -> Option<(u8, u8)>
     requires window { window < rule.now.states ^ rule.now.width }
     requires letter { letter < rule.now.states }
@@ -23,7 +23,7 @@ pub fn first_nodes(side: Side, rule: &Rule, window: u16, letter: u8) -> Option<(
     Some((node, side.end_node(rule, other)))
 }
 
-/// The window with this letter at its end on this side.
+/// Returns the window with this letter at its end on this side.
 fn with_end(side: Side, rule: &Rule, window: u16, letter: u8) -> u16
     requires window { window < rule.now.states ^ rule.now.width }
     requires letter { letter < rule.now.states }

@@ -1,31 +1,31 @@
-//! Decides on which sides a cellular automaton closes (Amoroso and Patt 1972, Sutner 1991).
+//! Decides whether a cellular automaton closes on each side (Amoroso and Patt 1972, Sutner 1991).
 //!
-//! A right split is two different configurations that have one image and agree left of some place. A
-//! rule without one is right-closing, and one without a left split, which agrees on the right, is
-//! left-closing. A number n is a right look-ahead where the first m - 1 letters of a word and the first
-//! n letters of its image determine the word's next letter. A rule is right-closing exactly where it
-//! has a right look-ahead. The left side of a rule is the right side of the mirrored rule.
+//! A right split consists of two different configurations with the same image that agree to the left of some place. A
+//! rule without one is right-closing. A rule without a left split, whose configurations agree on the right, is
+//! left-closing. A number n is a right look-ahead if the first m - 1 letters of a word and the first n letters of its
+//! image determine the next letter of the word. A rule is right-closing if and only if it has a right look-ahead. The
+//! left side of a rule is the right side of the mirrored rule.
 //!
-//! A first pair of the right is a pair of nodes of the de Bruijn graph to which two different letters
-//! lead from one node along edges with one label. So n is a right look-ahead exactly where no first
-//! pair begins together for n - 1: the least one is 2 more than the greatest rank of a first pair, 1
-//! where there is no first pair, and none where a first pair is endless.
+//! A first pair on the right is a pair of nodes of the de Bruijn graph that two different letters reach from the same
+//! node, along edges with equal labels. So n is a right look-ahead if and only if no first pair has a forward rank of
+//! n - 1 or more. The least right look-ahead is 2 more than the greatest rank of a first pair. It is 1 if there is no
+//! first pair, and there is none if some first pair is endless.
 //!
-//! Rule 60 gives the sum of the two left cells of its window modulo 2. From the node 00 both letters
-//! have the label 0, and lead to the first pair 00 and 01, whose next labels are 0 and 1. So does each
-//! other node, and the least right look-ahead is 2. Two windows that differ in their first letter alone
-//! have different labels, so the least left look-ahead is 1.
+//! Rule 60 gives the sum of the two left cells of its window modulo 2. From the node 00 both letters have the label
+//! 0. They lead to the first pair 00 and 01, whose next labels are 0 and 1. The other nodes are similar, and the
+//! least right look-ahead is 2. Two windows that differ only in their first letter have different labels, so the
+//! least left look-ahead is 1.
 //!
-//! A normal right split is two walks in the marked graph of pairs: one from the pair of the nodes of
-//! zeros to a state, which spells the middles, and one from that state round to its pair with the mark,
-//! which spells the right periods. For each of the 2 N² states the least walks make the least split, and
-//! the least of these is the least of all. Under rule 110 the letter pairs (1, 1), (0, 1), (0, 1) lead
-//! from the pair of 00 with itself to that of 00 and 11, with the mark, and (0, 1) leads round it. The
-//! images of `0|100|0` and `0|111|1` are both 1 at the places -1 and 0 alone.
+//! A normal right split consists of two walks in the marked graph of pairs. The first leads from the pair of the node
+//! of zeros with itself to a state, and spells the middles. The second leads from that state back to its pair, with
+//! the mark, and spells the right periods. For each of the 2 N² states the least walks give its least split, and the
+//! least of these is the least of all. Under rule 110 the pairs of letters (1, 1), (0, 1), (0, 1) lead from the pair
+//! of 00 with itself to the pair of 00 and 11, with the mark, and (0, 1) leads from there back to it. The image of
+//! `0|100|0`, and of `0|111|1`, is 1 exactly at the places -1 and 0.
 //!
-//! For N = k^(m - 1) nodes a look-ahead takes time **O(k·k^m)** and no memory, and so does whether a rule
-//! closes. A split takes one search for all middles and one for the period of each state, which stops
-//! where the split would come after the best one so far: time **O(k·N⁴)** in operations on rows, and
+//! If there are N = k^(m - 1) nodes, a look-ahead takes time **O(k·k^m)** and no memory. So does the test whether a
+//! rule closes. A split takes one search for all middles and one for the period of each state. The latter ends where
+//! the split would be greater than the least one so far. This takes time **O(k·N⁴)** in operations on rows, and
 //! memory O(N²).
 #![tactic(auto)]
 

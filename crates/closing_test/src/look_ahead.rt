@@ -15,8 +15,8 @@ use crate::ends::first_nodes;
 use pair_rank::Ranks;
 use word_image::{Rule, Side};
 
-/// The least right look-ahead, at most 121, by the ranks of the rule; `None` exactly where there is
-/// none, and so exactly where the rule isn't right-closing. A rule that has one is surjective.
+/// Returns the least right look-ahead, at most 121, or None if there is none, which means that the rule isn't
+/// right-closing. The ranks belong to the rule. A rule that has a look-ahead is surjective.
 pub fn ahead_right(rule: &Rule, ranks: &Ranks) -> Option<u16>
     requires { ranks.now ≡ rule.now }
     ensures closing { IsSome result ↔ IsRightClosing rule.now }
@@ -29,9 +29,9 @@ pub fn ahead_right(rule: &Rule, ranks: &Ranks) -> Option<u16>
     least_ahead(Side::Right, rule, ranks)
 }
 
-/// The least left look-ahead, at most 121, by the ranks of the rule: the least right one of the
-/// mirrored rule. `None` exactly where there is none, and so exactly where the rule isn't
-/// left-closing. A rule that has one is surjective.
+/// Returns the least left look-ahead, at most 121, or None if there is none, which means that the rule isn't
+/// left-closing. It is the least right look-ahead of the mirrored rule. The ranks belong to the rule. A rule that has
+/// a look-ahead is surjective.
 pub fn ahead_left(rule: &Rule, ranks: &Ranks) -> Option<u16>
     requires { ranks.now ≡ rule.now }
     ensures closing { IsSome result ↔ IsLeftClosing rule.now }
@@ -44,8 +44,8 @@ pub fn ahead_left(rule: &Rule, ranks: &Ranks) -> Option<u16>
     least_ahead(Side::Left, rule, ranks)
 }
 
-/// The least look-ahead on a side: 2 more than the greatest rank of a first pair, or 1 where there
-/// is no first pair.
+/// Returns the least look-ahead on a side: 2 more than the greatest rank of a first pair, or 1 if there is no first
+/// pair.
 fn least_ahead(side: Side, rule: &Rule, ranks: &Ranks) -> Option<u16>
     requires { ranks.now ≡ rule.now }
     ensures closing { IsSome result ↔ IsClosing side rule.now }
@@ -61,8 +61,8 @@ fn least_ahead(side: Side, rule: &Rule, ranks: &Ranks) -> Option<u16>
     Some(ahead)
 }
 
-/// The least number for the first pairs at the ends of this window and another one; `None` where one
-/// of them is endless.
+/// Returns the least look-ahead for the first pairs at the ends of this window and other ones, or None if one of them
+/// is endless.
 fn ahead_at(side: Side, rule: &Rule, ranks: &Ranks, window: u16) -> Option<u16>
     requires ranks { ranks.now ≡ rule.now }
     requires window { window < rule.now.states ^ rule.now.width }
@@ -76,8 +76,8 @@ fn ahead_at(side: Side, rule: &Rule, ranks: &Ranks, window: u16) -> Option<u16>
     Some(ahead)
 }
 
-/// The same for the pair at the ends of this window and of that with this letter at its end, if it
-/// is a first pair.
+/// Does the same for the pair at the ends of this window and of the window with this letter at its end, if it is a
+/// first pair.
 fn ahead_with(side: Side, rule: &Rule, ranks: &Ranks, window: u16, letter: u8) -> Option<u16>
     requires ranks { ranks.now ≡ rule.now }
     requires window { window < rule.now.states ^ rule.now.width }

@@ -16,14 +16,14 @@ use pair_graph::Pairs;
 use std::alloc::{AllocError, Global};
 use tail_config::Tail;
 
-/// One of the letters of a letter pair.
+/// One of the letters of a pair of letters.
 #[derive(Clone, Copy)]
 pub enum Letter {
     First,
     Second,
 }
 
-/// The least normal right split of a rule that isn't right-closing.
+/// Returns the least normal right split of a rule that isn't right-closing.
 pub fn least_split(
     alloc: Global,
     pairs: &Pairs,
@@ -41,8 +41,8 @@ pub fn least_split(
     Ok((first, second))
 }
 
-/// The walks of the least normal right split, if there is one: the earliest of at most one candidate
-/// for each state of the marked graph, those of short middles first, so that later periods are short too.
+/// Returns the walks of the least normal right split, if there is one: the least of at most one candidate for each
+/// state of the marked graph. States with short middles come first, so that later searches for periods are short.
 fn least_walks(
     alloc: Global,
     pairs: &Pairs,
@@ -60,7 +60,7 @@ fn least_walks(
     Ok(best)
 }
 
-/// Of the splits whose period is one letter pair the least one that is found, if there is any: it keeps the
+/// Returns the least split that is found among those whose period is one pair of letters, if any. It keeps the
 /// searches for longer periods short.
 fn short_walks(
     alloc: Global,
@@ -86,7 +86,7 @@ fn short_walks(
     Ok(best)
 }
 
-/// The Tail of one letter of each letter pair of two walks, with the letter 0 for ever on its left.
+/// Returns the Tail of one letter of each pair of letters of two walks, with the letter 0 for ever on the left.
 fn tail_of(alloc: Global, k: u8, walks: &Walks, letter: Letter) -> Result<Tail, AllocError>
     requires least { 2 ≤ k }
     requires most { k ≤ most_states }
@@ -102,7 +102,7 @@ fn tail_of(alloc: Global, k: u8, walks: &Walks, letter: Letter) -> Result<Tail, 
     }
 }
 
-/// One letter of each letter pair.
+/// Returns one letter of each pair of letters.
 fn letters(alloc: Global, steps: &[u8], letter: Letter) -> Result<Vec<u8>, AllocError>
     ensures { IfOk result (λ letters. letters.items ≡ map (letter_of letter) steps.now) }
 {

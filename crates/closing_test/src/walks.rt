@@ -11,13 +11,13 @@ use least_walk::{MOST_STEPS, WalkTree, Walker};
 use pair_graph::Pairs;
 use std::alloc::{AllocError, Global};
 
-/// Two walks of letter pairs, each pair (a, b) written as a * 16 + b, that make two Tails which share
-/// an image: the letter 0 for ever, the letters of the first walk, and those of the second one for ever.
+/// Two walks of pairs of letters, where the pair (a, b) is a * 16 + b, that form two Tails with the same image: the
+/// letter 0 for ever, the letters of the first walk, and the letters of the second walk for ever.
 #[derive(Debug, Drop)]
 pub struct Walks {
-    /// From the pair of the nodes of zeros, without a mark, to a state of the marked graph.
+    /// From the pair of the node of zeros with itself, without a mark, to a state of the marked graph.
     pub middle: Vec<u8>,
-    /// From that state round to its pair with the mark.
+    /// From that state back to its pair, with the mark.
     pub period: Vec<u8>,
     ghost short_middle: { length middle.items ≤ most_steps },
     ghost short_period: { length period.items ≤ most_steps },
@@ -26,14 +26,14 @@ pub struct Walks {
 impl Walks {
     ghost use Rattle.closing_test.specs.Walks.{ComesBefore, IsMostAfter, IsNoneBefore, AreEarlier, split_by};
 
-    /// How many letters both walks have.
+    /// Returns the number of letters of both walks.
     fn letters(&self) -> usize
         ensures { result ≡ length self.now.middle.items + length self.now.period.items }
     {
         self.middle.len() + self.period.len()
     }
 
-    /// Whether the split that these walks make comes after that of others.
+    /// Returns whether the split of these walks is greater than the split of the others.
     fn is_after(&self, other: &Walks) -> bool
         ensures { IsTrue result ↔ (splits_cmp (split_by self.now) (split_by other.now) ≡ Greater) }
     {
@@ -46,8 +46,8 @@ impl Walks {
             .is_gt()
     }
 
-    /// The walks of the least normal split at a state, if it comes before the best one so far. The
-    /// middles are the least walks from the pair of the nodes of zeros.
+    /// Returns the walks of the least normal split at a state, if it is less than the best one so far. The middles
+    /// are the least walks from the pair of the node of zeros with itself.
     pub fn earlier(
         alloc: Global,
         pairs: &Pairs,
@@ -81,7 +81,7 @@ impl Walks {
         Ok(found.if_before(best))
     }
 
-    /// These walks, if their split comes before the best one so far.
+    /// Returns these walks if their split is less than the best one so far.
     fn if_before(self, best: &Option<Walks>) -> Option<Walks>
         ensures { SomeIff result (ComesBefore (split_by self) best.now) self }
     {
@@ -91,8 +91,9 @@ impl Walks {
         }
     }
 
-    /// How many steps a period after a middle of so many may have, for the split to come before the best
-    /// one so far. Of two splits with as many letters the one with the longer middle comes later.
+    /// Returns the greatest number of steps of a period, after a middle of this length, for which the split can be
+    /// less than the best one so far. Of two splits with the same number of letters the one with the longer middle is
+    /// greater.
     fn most_steps(best: &Option<Walks>, middle: usize) -> usize
         ensures { MatchOption best.now (result ≡ most_steps) (λ walks. IsMostAfter walks middle result) }
     {

@@ -1,4 +1,4 @@
--- A rule under which a configuration tells the letters of its preimages only from far away, and what the definitions give on configurations done by hand, which the check computes.
+-- A rule for which a configuration determines the letters of its preimages only from far away, and examples of the definitions, worked by hand, which the check computes.
 use Rattle.std.specs.Prelude.{◌≡◌, ℕ, [], ◌∷◌, ◌==◌, if◌then◌else◌, pos, negsuc, refl}
 use Rattle.std.specs.List.{repeat}
 use Rattle.word_image.specs.LocalRules.{LocalRule}
@@ -6,16 +6,16 @@ use Rattle.word_image.specs.Rings.{ring_image}
 use Rattle.tail_config.specs.Configs.{Config, run, image_of}
 use Rattle.config_laws.specs.Sums.{weight_on, weight_within}
 
--- 2 becomes 1 and 3 becomes 2; 0 and 1 become 0 if the letter to the right is even or odd as they are, and 3 if not: the text 4:2:0:t0303303011112222
+-- 2 becomes 1 and 3 becomes 2; 0 and 1 become 0 if they have the parity of the letter to the right, and 3 if not: the text 4:2:0:t0303303011112222
 abbrev pub parities : LocalRule
 parities = record { states = 4; width = 2; offset = pos 0; table = 0 ∷ 3 ∷ 0 ∷ 3 ∷ 3 ∷ 0 ∷ 3 ∷ 0 ∷ 1 ∷ 1 ∷ 1 ∷ 1 ∷ 2 ∷ 2 ∷ 2 ∷ 2 ∷ [] }
 
--- the letter a up to place 0, b at place 1, and zeros from there on
+-- the letter a up to place 0, b at place 1, and zeros after it
 abbrev steps_to : ℕ → ℕ → Config
 steps_to a b (pos i) = if i == 0 then a else (if i == 1 then b else 0)
 steps_to a b (negsuc i) = a
 
--- zeros before a 2, and ones before a 3: the two images are equal left of place 1, and differ there
+-- zeros before a 2, and ones before a 3: the two images are equal to the left of place 1 and differ there
 
 image_of-zeros_2 : run (image_of parities (steps_to 0 2)) (negsuc 1) 5 ≡ 0 ∷ 0 ∷ 0 ∷ 1 ∷ 0 ∷ []
 image_of-zeros_2 = refl

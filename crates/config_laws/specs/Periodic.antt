@@ -1,9 +1,9 @@
--- Configurations that are periodic, and what is said of a rule's map of them.
+-- Periodic configurations, and properties of a rule's map on them.
 use Rattle.std.specs.Prelude.{◌≡◌, ℕ, ◌≤◌, ℤ, pos, ◌+ℤ◌}
 use Rattle.word_image.specs.LocalRules.{LocalRule}
 use Rattle.tail_config.specs.Configs.{Config, IsConfig, image_of}
 
--- the letters come again p places on
+-- the letters repeat every p places
 pub record HasPeriod (p : ℕ) (x : Config) : Type 0 where
   pub some : 1 ≤ p
   pub again : (i : ℤ) → x (i +ℤ pos p) ≡ x i

@@ -1,26 +1,26 @@
--- Configurations that repeat far to the left and far to the right.
+-- Configurations that are periodic far to the left and far to the right.
 use Rattle.std.specs.Prelude.{◌≡◌, ℕ, ◌≤◌, ℤ, pos, ◌+ℤ◌, ◌-ℤ◌, ◌≤ℤ◌}
 use Rattle.word_image.specs.LocalRules.{LocalRule}
 use Rattle.tail_config.specs.Configs.{Config, IsConfig, image_of}
 
--- right of some place the letters come again one period on
+-- to the right of some place the letters repeat with some period
 pub record RepeatsFarRight (x : Config) : Type 0 where
   pub place : ℤ
   pub period : ℕ
   pub some : 1 ≤ period
   pub again : (i : ℤ) → place ≤ℤ i → x (i +ℤ pos period) ≡ x i
 
--- left of some place the letters come again one period back
+-- to the left of some place the letters repeat with some period
 pub record RepeatsFarLeft (x : Config) : Type 0 where
   pub place : ℤ
   pub period : ℕ
   pub some : 1 ≤ period
   pub again : (i : ℤ) → i ≤ℤ place → x (i -ℤ pos period) ≡ x i
 
--- the configuration repeats far out on both sides
+-- the configuration is periodic far out on both sides
 abbrev pub HasTails : Config → Type 0
 HasTails x = RepeatsFarLeft x × RepeatsFarRight x
 
--- each configuration that repeats far out is the image of one that does
+-- each configuration with periodic tails is the image of one with periodic tails
 abbrev pub IsOntoTails : LocalRule → Type 0
 IsOntoTails r = (y : Config) → IsConfig r.states y → HasTails y → (x : Config) × IsConfig r.states x × HasTails x × (image_of r x ≡ y)

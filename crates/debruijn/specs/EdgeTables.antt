@@ -1,4 +1,4 @@
--- The rows of edges are one table, and so a rule tells them.
+-- The rows of edges form one table, so the rule determines them.
 use Rattle.std.proofs.Common.{◌≡◌, ℕ, zero, suc, ◌+◌, ◌*◌, ◌/◌, ◌%◌, ◌^◌, ◌<◌, ◌≤◌, List, [], length, replicate, slice_index_or, refl, sym, ◌∙◌, subst, arith, ⊎_elim, mod-lt}
 use Rattle.std.proofs.lemmas.Bool.{cases_lt}
 use Rattle.std.proofs.lemmas.Grind.{same_number_lists}
@@ -23,11 +23,11 @@ abbrev first_edges : Side → LocalRule → ℕ → List (List ℕ)
 first_edges side r zero = replicate most_states (replicate most_nodes 0)
 first_edges side r (suc n) = with_ends (first_edges side r n) (label_at side r (n / r.states) (n % r.states)) (n / r.states) (2 ^ end_at side r (n / r.states) (n % r.states))
 
--- the table of all edges
+-- the table of all edges of the rule
 abbrev pub edge_table : Side → LocalRule → List (List ℕ)
 edge_table side r = first_edges side r (node_count r * r.states)
 
--- there is one table of the edges
+-- two tables of a rule's edges are equal
 pub AreEdgeRows-one : {side : Side} {r : LocalRule} {rows others : List (List ℕ)} → AreEdgeRows side r rows → AreRowsOf16 rows → AreEdgeRows side r others → AreRowsOf16 others → rows ≡ others
 AreEdgeRows-one {side} {r} {rows} {others} edges size also as_many = same_lists rows others (size.tall ∙ sym as_many.tall) (λ label d inside.
     let below : label < most_states = omega (arith, size.tall, inside) in
@@ -42,14 +42,14 @@ AreEdgeRows-one {side} {r} {rows} {others} edges size also as_many = same_lists 
     (cases_lt u (node_count r)))
     ∙ get_or_default others label [] d (omega (arith, size.tall, as_many.tall, inside)))
 
--- a label is one of 16
+-- a label is below 16
 label_at-below : (side : Side) {r : LocalRule} → IsRule r → (u a : ℕ) → u < node_count r → a < r.states → label_at side r u a < most_states
 label_at-below side {r} rule u a node letter =
     let window = window_with side r u a in
     let within : window < length r.table = omega (arith, rule.entries, window_with-within side rule u a node letter) in
     omega (arith, rule.shape.most_states, All-get_or (λ b. b < r.states) r.table window 0 within rule.letters)
 
--- the table of the first edges has them
+-- the table of the first n edges holds exactly these edges
 HaveEdges-first : (side : Side) {r : LocalRule} → IsRule r → (n : ℕ) → n ≤ node_count r * r.states → HaveEdges side r n (first_edges side r n)
 HaveEdges-first side {r} rule zero few = HaveEdges-none side r
 HaveEdges-first side {r} rule (suc n) few =
@@ -63,7 +63,7 @@ HaveEdges-first side {r} rule (suc n) few =
     subst (λ i. HaveEdges side r i (first_edges side r (suc n))) (omega (arith, edge))
     (HaveEdges-more rule node letter before (label_at side r u a) u (2 ^ end_at side r u a) refl refl refl (label_at-below side rule u a node letter) (omega (arith, node, rule.shape.most_nodes)))
 
--- the table of a rule is that of its edges
+-- any table of a rule's edges equals the table that is computed here
 pub edge_table-one : {side : Side} {r : LocalRule} {rows : List (List ℕ)} → IsRule r → AreEdgeRows side r rows → AreRowsOf16 rows → edge_table side r ≡ rows
 edge_table-one {side} {r} {rows} rule edges size =
     let h = HaveEdges-first side rule (node_count r * r.states) (omega arith) in

@@ -1,4 +1,4 @@
-//! The graph, with its tables.
+//! The graph with its tables.
 
 ghost use Rattle.std.specs.Prelude.{◌≡◌, ◌<◌, ℕ, List, [], ◌∷◌, ◌++◌, IsBitSet};
 ghost use Rattle.word_image.specs.LocalRules.{IsRule, node_count};
@@ -6,13 +6,13 @@ ghost use Rattle.word_image.specs.LocalRules.{IsRule, node_count};
 use std::marker::Model;
 use word_image::{EdgeRows, MOST_NODES, Rule, Side, after, edge_rows, step};
 
-/// The de Bruijn graph of a rule, seen as that rule. A node or a set of nodes is looked up in tables
-/// that are made once.
+/// The de Bruijn graph of a rule. In contracts it is the rule. Nodes and sets of nodes are looked up in tables that
+/// `of` fills once.
 #[derive(Clone, Copy, Debug)]
 pub struct Graph {
-    // The rule. Its table has the label of each edge, node by node and letter by letter.
+    // The rule. Its table has the label of each edge, in the order of nodes and then of letters.
     rule: Rule,
-    // For each label and node the set of the nodes where edges with that label lead from it.
+    // For each label and node, the set of nodes to which the edges with that label lead from the node.
     ends: EdgeRows,
 }
 
@@ -38,7 +38,7 @@ impl Graph {
     ghost use Rattle.word_image.specs.Ranks.{IsLastSet};
     ghost use Rattle.word_image.specs.Edges.{AreEdgeRows, IsEnds, IsStep};
 
-    /// The graph of this rule.
+    /// Makes the graph of this rule.
     pub fn of(rule: &Rule) -> Graph
         ensures { result ≡ rule.now }
     {
@@ -48,14 +48,14 @@ impl Graph {
         }
     }
 
-    /// The rule that it is of.
+    /// Returns the rule of the graph.
     pub fn rule(&self) -> &Rule
         ensures { result.now ≡ self.now }
     {
         &self.rule
     }
 
-    /// The number of states k: the letters and the labels are those below it.
+    /// Returns the number of states k. Letters and labels are the numbers below k.
     pub fn k(&self) -> u8
         ensures states { result ≡ self.now.states }
         ensures rule { IsRule self.now }
@@ -63,7 +63,7 @@ impl Graph {
         self.rule.k()
     }
 
-    /// The number of nodes N, from 2 to 16.
+    /// Returns the number of nodes N, from 2 to 16.
     pub fn nodes(&self) -> u8
         ensures nodes { result ≡ node_count self.now }
         ensures rule { IsRule self.now }
@@ -71,7 +71,7 @@ impl Graph {
         self.rule.nodes()
     }
 
-    /// The node to which letter a leads from node u.
+    /// Returns the node to which letter `a` leads from node `u`.
     pub fn next(&self, u: u8, a: u8) -> u8
         requires node { u < node_count self.now }
         requires letter { a < self.now.states }
@@ -81,7 +81,7 @@ impl Graph {
         Side::Right.end_node(&self.rule, Side::Right.window_with(&self.rule, u, a))
     }
 
-    /// What the rule gives on the window of node u and letter a.
+    /// Returns the letter that the rule gives for the window of node `u` and letter `a`.
     pub fn label(&self, u: u8, a: u8) -> u8
         requires node { u < node_count self.now }
         requires letter { a < self.now.states }
@@ -91,7 +91,7 @@ impl Graph {
         self.rule.at(Side::Right.window_with(&self.rule, u, a))
     }
 
-    /// The edges, for each label and node the nodes to which they lead.
+    /// Returns, for each label and node, the set of nodes to which the edges with that label lead from the node.
     pub fn edges(&self) -> &EdgeRows
         ensures edges { AreEdgeRows Side.Right self.now result.now }
         ensures rule { IsRule self.now }
@@ -99,7 +99,7 @@ impl Graph {
         &self.ends
     }
 
-    /// The nodes to which an edge with this label leads from node u: node v is bit v.
+    /// Returns the set of nodes to which edges with this label lead from node `u`. Bit v stands for node v.
     pub fn ends(&self, u: u8, label: u8) -> u16
         requires node { u < node_count self.now }
         requires label { label < self.now.states }
@@ -108,7 +108,7 @@ impl Graph {
         self.edges()[usize::from(label)][usize::from(u)]
     }
 
-    /// The set of all nodes, node u as bit u: the last nodes of the empty word.
+    /// Returns the set of all nodes, which is the set of the empty word. Bit u stands for node u.
     pub fn full(&self) -> u16
         ensures set { result ≡ full_set self.now }
         ensures rule { IsRule self.now }
@@ -116,8 +116,8 @@ impl Graph {
         self.rule.all_nodes()
     }
 
-    /// The nodes to which an edge labelled a leads from a node of the set. Where the set is that of a
-    /// word, the answer is that of the word followed by a.
+    /// Returns the nodes to which edges with the label `a` lead from the nodes of `set`. If `set` belongs to a word,
+    /// the result belongs to the word followed by `a`.
     pub fn step(&self, set: u16, a: u8) -> u16
         requires { a < self.now.states }
         ensures step { IsStep self.now set a result }
@@ -126,7 +126,8 @@ impl Graph {
         step(&self.rule, &self.ends, set, a)
     }
 
-    /// The nodes to which a node of the set is related, where row u is the set of those to which node u is.
+    /// Returns the union of the rows of those nodes that are in `set`: row u is the set of nodes that are related to
+    /// node u.
     pub fn after(&self, rows: &[u16; MOST_NODES], set: u16) -> u16
         requires { AreSets self.now rows.now }
         ensures { IsNodeSet self.now (λ v. (u : ℕ) × (u < node_count self.now) × (IsBitSet set u × HasBit rows.now u v)) result }

@@ -1,10 +1,10 @@
--- Sets of pairs of nodes as rows: for each node u the set of the nodes v whose pair with u is in it, as a number in which node v is bit v.
+-- Sets of pairs of nodes as rows: for each node u the set of the nodes v for which the pair (u, v) is in it. Bit v stands for node v.
 use Rattle.std.specs.Prelude.{◌≡◌, ◌≢◌, ℕ, ◌<◌, ◌≤◌, ◌⊎◌, ◌↔◌, List, length, slice_index, IsBitSet}
 use Rattle.word_image.specs.LocalRules.{LocalRule, node_count, most_nodes}
 use Rattle.word_image.specs.Graphs.{next, label, pair_of, HasBit, AreSets}
 use Rattle.eden_laws.specs.ReachedPairs.{IsReached}
 
--- a letter other than a leads from the node to v, with the label of a
+-- a letter other than a leads from the node to v, with the same label as a
 pub record LeadsApart (r : LocalRule) (node a v : ℕ) : Type 0 where
   pub b : ℕ
   pub letter : b < r.states
@@ -12,7 +12,7 @@ pub record LeadsApart (r : LocalRule) (node a v : ℕ) : Type 0 where
   pub one_label : label r node a ≡ label r node b
   pub leads : next r node b ≡ v
 
--- a letter leads from a node of the set to v, with the label of a from this node
+-- a letter leads from a node of the set to v, with the label that a has at this node
 pub record LeadsBeside (r : LocalRule) (node set a v : ℕ) : Type 0 where
   pub other : ℕ
   pub b : ℕ
@@ -27,7 +27,7 @@ pub record AreNodeRows (r : LocalRule) (rows : List ℕ) : Type 0 where
   pub long : length rows ≡ most_nodes
   pub within : AreSets r rows
 
--- the pairs of where the first n letters lead from the node, each with what it has, were added
+-- the pairs of the nodes that the first n letters reach from the node, with the nodes that each has, were added
 pub record AreAdded (r : LocalRule) (node : ℕ) (Has : ℕ → ℕ → Type 0) (n : ℕ) (old new : List ℕ) : Type 0 where
   pub rows : AreNodeRows r new
   pub grown : (u : ℕ) → u < node_count r → slice_index old u ≤ slice_index new u

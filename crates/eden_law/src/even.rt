@@ -1,10 +1,10 @@
-//! Whether each letter stands in a table equally often, as under every surjective rule.
+//! Whether all letters occur equally often in a table, as they do for every surjective rule.
 ghost use Rattle.std.specs.Prelude.{◌≡◌, ◌==◌, ◌≤◌, ◌↔◌, length, count_by, IsTrue};
 ghost use Rattle.word_image.specs.LocalRules.{LocalRule, IsRule, most_states, most_windows};
 ghost use Rattle.word_image.specs.Words.{IsSurjective};
 ghost use Rattle.table_laws.specs.Tables.{IsEven};
 
-/// Whether each of k letters stands in a table equally often. A rule whose table isn't so is not
+/// Returns whether all k letters occur equally often in a table. If they don't, no rule with this table is
 /// surjective.
 pub fn is_even(k: u8, table: &[u8]) -> bool
     requires states { k ≤ most_states }
@@ -20,7 +20,7 @@ pub fn is_even(k: u8, table: &[u8]) -> bool
     true
 }
 
-/// How often a letter stands in a table.
+/// Returns how often a letter occurs in a table.
 fn how_often(letter: u8, table: &[u8]) -> u16
     requires { length table.now ≤ most_windows }
     ensures count { result ≡ count_by (λ a. a == letter) table.now }

@@ -1,4 +1,4 @@
-//! Whether a rule is surjective, by the pairs that are reached, as rows of sets of nodes.
+//! Whether a rule is surjective, by the reached pairs, stored as one set of nodes for each node.
 ghost use Rattle.std.specs.Prelude.{◌≡◌, ◌≢◌, ◌^◌, ◌<◌, ◌≤◌, ◌↔◌, ℕ, IsTrue, IsFalse, MatchOption, slice_index};
 ghost use Rattle.word_image.specs.LocalRules.{node_count, most_nodes};
 ghost use Rattle.word_image.specs.Graphs.{next, HasBit};
@@ -9,11 +9,11 @@ ghost use Rattle.eden_law.specs.ReachedRows.{LeadsApart, LeadsBeside, AreNodeRow
 use debruijn::Graph;
 use word_image::MOST_NODES;
 
-/// For each node u the set of the nodes v whose pair with u is in a set of pairs; node v is bit v.
+/// For each node u, the set of the nodes v for which the pair (u, v) is in a set of pairs. Bit v stands for node v.
 type Rows = [u16; MOST_NODES];
 
-/// Whether the rule of this graph is surjective: whether no reached pair has two equal nodes. Where it
-/// isn't, the rule is neither injective nor closing on a side. It takes no memory.
+/// Returns whether the rule of this graph is surjective: whether no reached pair has two equal nodes. If it isn't
+/// surjective, it is neither injective nor closing on a side. Needs no memory.
 pub fn is_surjective(graph: &Graph) -> bool
     ensures surjective { IsTrue result ↔ IsSurjective graph.now }
     ensures injective { IsInjective graph.now → IsTrue result }
@@ -31,7 +31,7 @@ pub fn is_surjective(graph: &Graph) -> bool
     true
 }
 
-/// Adds the first pairs of the right to which letters lead from this node.
+/// Adds the first pairs on the right that letters reach from this node.
 fn add_firsts(graph: &Graph, node: u8, found: &mut Rows)
     requires node { node < node_count graph.now }
     requires rows { AreNodeRows graph.now found.old }
@@ -44,8 +44,8 @@ fn add_firsts(graph: &Graph, node: u8, found: &mut Rows)
     }
 }
 
-/// Follows the steps from what was found, until all are followed, or one leads to a pair of two equal
-/// nodes; answers whether none does.
+/// Follows the steps from what was found, until all are followed or one leads to a pair of two equal nodes. Returns
+/// whether none does.
 fn follow_all(graph: &Graph, found: &mut Rows, followed: &mut Rows) -> bool
     requires { IsRowSearch graph.now found.old followed.old }
     ensures search { IsTrue result → IsRowSearch graph.now found.new followed.new }
@@ -63,7 +63,7 @@ fn follow_all(graph: &Graph, found: &mut Rows, followed: &mut Rows) -> bool
     true
 }
 
-/// The first node of which something was found that wasn't followed yet.
+/// Returns the first node for which something was found that wasn't followed yet.
 fn open_row(nodes: u8, found: &Rows, followed: &Rows) -> Option<u8>
     requires { nodes ≤ most_nodes }
     ensures { MatchOption result ((u : ℕ) → u < nodes → slice_index followed.now u ≡ slice_index found.now u) (λ u. (u < nodes) × (slice_index followed.now u ≢ slice_index found.now u)) }
@@ -76,8 +76,8 @@ fn open_row(nodes: u8, found: &Rows, followed: &Rows) -> Option<u8>
     None
 }
 
-/// Adds the pairs to which steps lead from the pairs of a node with those of a set, unless one has two
-/// equal nodes; answers whether none has.
+/// Adds the pairs that steps reach from the pairs of a node with the nodes of a set, unless one of them has two equal
+/// nodes. Returns whether none has.
 fn add_steps(graph: &Graph, node: u8, set: u16, found: &mut Rows) -> bool
     requires node { node < node_count graph.now }
     requires set { set < 2 ^ node_count graph.now }

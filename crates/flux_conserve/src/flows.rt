@@ -1,4 +1,5 @@
-//! What the windows gain along the walks to node 0, and whether that is a flux.
+//! The gains of windows along the walks to node 0, and whether they form a flux. The gain of a window is the weight
+//! of its image minus the weight of its first letter.
 ghost use Rattle.std.specs.Prelude.{◌≡◌, ◌-◌, ◌^◌, ◌<◌, ◌↔◌, ◌≤ℤ◌, length, slice_index, IsTrue, pos, negsuc, ◌++◌, replicate};
 ghost use Rattle.word_image.specs.LocalRules.{node_count, most_nodes};
 ghost use Rattle.word_image.specs.Rings.{IsFlux};
@@ -7,7 +8,7 @@ ghost use Rattle.ring_laws.proofs.FluxWindows.{window_gain, FlowsAt};
 
 use word_image::{MOST_NODES, Rule, Side, Weights};
 
-/// What the walk from each node gains that reads m - 1 letters 0, and zeros after the last node.
+/// Returns for each node the gain of the walk from it that reads m - 1 letters 0, followed by zeros.
 pub(crate) fn walk_flows(rule: &Rule, weights: &Weights) -> [i32; MOST_NODES]
     requires { length weights.now ≡ rule.now.states }
     ensures { result ≡ walk_gains (slice_index weights.now) rule.now ++ replicate (most_nodes - node_count rule.now) (pos 0) }
@@ -19,7 +20,7 @@ pub(crate) fn walk_flows(rule: &Rule, weights: &Weights) -> [i32; MOST_NODES]
     flows
 }
 
-/// What the walk from a node gains that reads m - 1 letters 0.
+/// Returns the gain of the walk from a node that reads m - 1 letters 0.
 fn walk_flow(rule: &Rule, weights: &Weights, node: u8) -> i32
     requires letters { length weights.now ≡ rule.now.states }
     requires node { node < node_count rule.now }
@@ -35,7 +36,7 @@ fn walk_flow(rule: &Rule, weights: &Weights, node: u8) -> i32
     flow
 }
 
-/// What a window gains: the weight of the letter that the rule gives on it, less that of its first
+/// Returns the gain of a window: the weight of the letter that the rule gives for it, minus the weight of its first
 /// letter.
 fn window_flow(rule: &Rule, weights: &Weights, window: u16) -> i32
     requires letters { length weights.now ≡ rule.now.states }
@@ -48,7 +49,7 @@ fn window_flow(rule: &Rule, weights: &Weights, window: u16) -> i32
         - i32::from(weights.at(Side::Left.end_letter(rule, window)))
 }
 
-/// Whether the numbers of the nodes are a flux.
+/// Returns whether these numbers, one for each node, are a flux.
 pub(crate) fn is_flux(rule: &Rule, weights: &Weights, numbers: &[i32]) -> bool
     requires letters { length weights.now ≡ rule.now.states }
     requires nodes { length numbers.now ≡ node_count rule.now }
@@ -62,7 +63,7 @@ pub(crate) fn is_flux(rule: &Rule, weights: &Weights, numbers: &[i32]) -> bool
     true
 }
 
-/// Whether a window gains the number of its first node less that of its last one.
+/// Returns whether the gain of a window is the number of its first node minus the number of its last node.
 fn flows(rule: &Rule, weights: &Weights, numbers: &[i32], window: u16) -> bool
     requires letters { length weights.now ≡ rule.now.states }
     requires nodes { length numbers.now ≡ node_count rule.now }
@@ -74,8 +75,8 @@ fn flows(rule: &Rule, weights: &Weights, numbers: &[i32], window: u16) -> bool
     i64::from(window_flow(rule, weights, window)) == i64::from(first) - i64::from(last)
 }
 
-/// Whether a window gains what the walk from its first node gains, less what that from its last one
-/// does.
+/// Returns whether the gain of a window is the gain of the walk from its first node minus the gain of the walk from
+/// its last node.
 pub(crate) fn walks_flow(rule: &Rule, weights: &Weights, window: u16) -> bool
     requires letters { length weights.now ≡ rule.now.states }
     requires window { window < rule.now.states ^ rule.now.width }

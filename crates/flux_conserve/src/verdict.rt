@@ -1,4 +1,4 @@
-//! Whether a rule is conserving, and what shows it.
+//! Whether a rule is conserving, with evidence.
 ghost use Rattle.std.specs.Prelude.{◌≡◌, ◌↔◌, length, slice_index, IsTrue};
 ghost use Rattle.word_image.specs.Rings.{IsConserving};
 ghost use Rattle.flux_conserve.specs.Keepings.{IsShown, IsShort, has_flux};
@@ -7,18 +7,18 @@ use crate::flows::{is_flux, walk_flows};
 use crate::rings::{SmallRing, first_lossy_of, first_lossy_ring};
 use word_image::{MOST_NODES, Rule, Weights};
 
-/// What shows that a rule is conserving, or that it isn't.
+/// The evidence that a rule is conserving, or that it isn't.
 #[derive(Debug, Drop)]
 pub enum Keeping {
-    /// The flux that has 0 at node 0, and zeros after the last node.
+    /// The flux that is 0 at node 0, followed by zeros.
     Flux([i32; MOST_NODES]),
-    /// The first ring in the order of words whose image has another sum.
+    /// The least ring, in the order of words, whose image has another sum.
     Ring(SmallRing),
 }
 
-/// The flux of a rule that has 0 at node 0 exactly where the rule is conserving with these weights of
-/// its letters: where every ring, however long, has the sum of its image. Else the first ring that
-/// hasn't, of at most 2m - 1 letters.
+/// Returns the flux that is 0 at node 0 if the rule is conserving under these weights of its letters, which means
+/// that every ring has the same sum as its image. Otherwise returns the least ring that doesn't, of at most 2m - 1
+/// letters.
 pub fn conserve(rule: &Rule, weights: &Weights) -> Keeping
     requires { length weights.now ≡ rule.now.states }
     ensures conserving { IsTrue (has_flux result) ↔ IsConserving (slice_index weights.now) rule.now }

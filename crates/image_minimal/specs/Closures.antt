@@ -6,41 +6,41 @@ use Rattle.word_image.specs.Edges.{IsEdge, IsStep}
 use Rattle.word_image.specs.declared.side.Side.TheVariants.{Right}
 use Rattle.search_laws.specs.Walks.{Walk}
 
--- the nodes of the one set are nodes of the other
+-- every node of the one set is in the other
 abbrev pub IsWithin : LocalRule → ℕ → ℕ → Type 0
 IsWithin r set other = (u : ℕ) → u < node_count r → IsBitSet set u → IsBitSet other u
 
--- all edges labelled a lead into the set from node u
+-- all edges with label a from node u lead into the set
 abbrev pub IsLedInto : LocalRule → ℕ → ℕ → ℕ → Type 0
 IsLedInto r set a u = (v : ℕ) → IsEdge Right r a u v → IsBitSet set v
 
--- the nodes from which all edges labelled a lead into the set
+-- the set of the nodes from which all edges with label a lead into the other set
 pub record IsBack (r : LocalRule) (set a before : ℕ) : Type 0 where
   pub of : IsNodeSet r (IsLedInto r set a) before
 
--- letter a leads from a set to a rest: the set has the nodes from which all edges labelled a lead into the rest
+-- the set consists of the nodes from which all edges with label a lead into the rest
 abbrev pub StepsInto : LocalRule → ℕ → ℕ → ℕ → Type 0
 StepsInto r set a rest = (a < r.states) × IsBack r rest a set
 
--- the nodes from which the word isn't read: its letters lead from them to the empty set
+-- the set of the nodes from which the word z isn't read
 abbrev pub IsUnread : LocalRule → List ℕ → ℕ → Type 0
 IsUnread r z set = Walk (StepsInto r) set z 0
 
--- a set has the nodes from which some word isn't read
+-- a set is unread: it consists of the nodes from which some word isn't read
 abbrev pub IsUnreadSet : LocalRule → ℕ → Type 0
 IsUnreadSet r set = (z : List ℕ) × IsUnread r z set
 
--- the closure of a set: the nodes from which no word is read that isn't read from the set
+-- the closure of a set: the intersection of the unread sets that contain it
 pub record IsClosure (r : LocalRule) (set closure : ℕ) : Type 0 where
   pub of : IsNodeSet r (λ u. (unread : ℕ) → IsUnreadSet r unread → IsWithin r set unread → IsBitSet unread u) closure
 
--- a step, and the closure of the set to which it leads
+-- a step of a set, followed by the closure
 pub record IsClosedStep (r : LocalRule) (set a after : ℕ) : Type 0 where
   pub to : ℕ
   pub step : IsStep r set a to
   pub closure : IsClosure r to after
 
--- the closures of the sets from n on, set by set
+-- the closures of the sets from n on, in the order of the sets
 pub record AreClosuresFrom (r : LocalRule) (n : ℕ) (closures : List ℕ) : Type 0 where
   pub long : length closures ≡ 2 ^ node_count r
   pub closure : (set : ℕ) → n ≤ set → set < 2 ^ node_count r → IsClosure r set (slice_index closures set)

@@ -2,16 +2,16 @@
 use Rattle.std.specs.Prelude.{◌≡◌, ℕ, ◌<◌, ◌↔◌, ◌⊎◌, List, [], ◌∷◌, ◌++◌, length, slice_get, get_or, Option, Some, None, Contains}
 use Rattle.word_image.specs.LocalRules.{most_sets}
 
--- the place at which the set stands; none if it doesn't
+-- the place of a set in the list, or None if it isn't there
 abbrev pub IsPlaceOf : List ℕ → ℕ → Option ℕ → Type 0
 IsPlaceOf sets set place = (i : ℕ) → (place ≡ Some i) ↔ (slice_get sets i ≡ Some set)
 
--- the index has the place of each set
+-- the index stores the place of each set
 pub record IsExactIndex (sets : List ℕ) (places : List (Option ℕ)) : Type 0 where
   pub long : length places ≡ most_sets
   pub within : (i set : ℕ) → slice_get sets i ≡ Some set → set < most_sets
   pub each : (set : ℕ) → set < length places → IsPlaceOf sets set (get_or places set None)
 
--- the set was in the list, or it was new and stands last
+-- the set was in the list, or it was new and was appended
 abbrev pub IsInserted : List ℕ → List ℕ → ℕ → Type 0
 IsInserted old new set = ((new ≡ old) × Contains old set) ⊎ ((¬ Contains old set) × (new ≡ old ++ set ∷ []))

@@ -1,21 +1,20 @@
--- Numbers that are joined to classes (Galler and Fischer 1964): each leads to a lesser one of its class, or is the root of its class itself.
--- Two numbers are in one class exactly if they have one colour whenever each number has the colour of its parent.
+-- Numbers that are joined into classes (Galler and Fischer 1964). Each has as its parent a lesser number of its class, or is the root of its class. Two numbers are in the same class if and only if they have the same colour under every colouring in which each number has the colour of its parent.
 use Rattle.std.specs.Prelude.{◌≡◌, ℕ, ◌+◌, ◌<◌, ◌≤◌, List, length, slice_index, Bool, false, if◌then◌else◌}
 use Rattle.std.specs.List.{sum_by}
 
--- each number has the colour of its parent, so that all numbers of a class have one
+-- a colouring in which each number has the colour of its parent, so that each class has one colour
 abbrev pub AreColours : List ℕ → (ℕ → Bool) → Type 0
 AreColours parents f = (x : ℕ) → x < length parents → f (slice_index parents x) ≡ f x
 
--- no number leads to a greater one
+-- no number has a greater parent
 abbrev pub IsFalling : List ℕ → Type 0
 IsFalling parents = (x : ℕ) → x < length parents → slice_index parents x ≤ x
 
--- all parents together
+-- the sum of all parents
 abbrev pub total : List ℕ → ℕ
 total = sum_by (λ x. x)
 
--- each number leads to one of its class, the roots are the same, and the parents aren't greater
+-- each number has a parent in its class, the roots are the same, and no parent has grown
 pub record IsHalved (old new : List ℕ) : Type 0 where
   pub long : length new ≡ length old
   pub falling : IsFalling new
@@ -23,13 +22,13 @@ pub record IsHalved (old new : List ℕ) : Type 0 where
   pub roots : (x : ℕ) → x < length old → slice_index old x ≡ x → slice_index new x ≡ x
   pub no_more : total new ≤ total old
 
--- a lesser number of the class of a number is met on a way that is halved
+-- the path from a number is halved up to a lesser number of its class
 pub record IsOnWay (old new : List ℕ) (number at : ℕ) : Type 0 where
   pub halved : IsHalved old new
   pub within : at ≤ number
   pub one : (f : ℕ → Bool) → AreColours old f → f number ≡ f at
 
--- the classes of two numbers are joined, or they were one
+-- the classes of two numbers are joined, or they were the same
 pub record IsJoin (old new : List ℕ) (x y : ℕ) (joined : Bool) : Type 0 where
   pub long : length new ≡ length old
   pub one : (f : ℕ → Bool) → AreColours old f → joined ≡ false → f x ≡ f y

@@ -1,4 +1,4 @@
--- Pairs of sets to which one word leads under two rules, linked (Hopcroft and Karp 1971).
+-- Pairs of sets that the same word reaches under two rules, linked (Hopcroft and Karp 1971).
 use Rattle.std.specs.Prelude.{◌≡◌, ℕ, ◌+◌, ◌≤◌, ◌^◌, List, length, map, slice_get, Some, Bool, nat_eq}
 use Rattle.std.specs.List.{range_with_len}
 use Rattle.search_laws.specs.SearchQueues.{Place, TreeSpells, IsFilled, filled}
@@ -15,28 +15,27 @@ link_place x = record { state = (x.first, x.second); parent = x.parent; letter =
 abbrev pub link_places : List Link → List (Place (ℕ × ℕ))
 link_places = map link_place
 
--- both sets of each link that was made by the time e edges had been followed have one colour; set s of the second rule stands at n + s
+-- the two sets of each link that was made before the first e edges had been followed have the same colour; set s of the second rule has the number n + s
 abbrev pub HaveOneColour : ℕ → ℕ → List Link → ℕ → (ℕ → Bool) → Type 0
 HaveOneColour n k links e f = (i : ℕ) (x : Link) → slice_get links i ≡ Some x → filled k i (link_place x) ≤ e → f x.first ≡ f (n + x.second)
 
--- a step on one letter on both sides
+-- a step on the same letter under both rules
 abbrev pub LinkStep : LocalRule → LocalRule → ℕ × ℕ → ℕ → ℕ × ℕ → Type 0
 LinkStep r q from a to = IsStep r from.0 a to.0 × IsStep q from.1 a to.1
 
--- links that were made by the time e edges had been followed join two sets: these have one colour whenever both sets of each of these links do
+-- the links made before the first e edges had been followed join two sets: these have the same colour under every colouring in which the two sets of each of these links do
 abbrev pub HasChain : LocalRule → List Link → ℕ × ℕ → ℕ → Type 0
 HasChain r links pair e = (f : ℕ → Bool) → HaveOneColour (2 ^ node_count r) r.states links e f → f pair.0 ≡ f (2 ^ node_count r + pair.1)
 
--- how many sets there are under both rules
+-- the number of sets under both rules together
 abbrev pub set_count : LocalRule → LocalRule → ℕ
 set_count r q = 2 ^ node_count r + 2 ^ node_count q
 
--- no more links than parents can become lesser
+-- a bound on the number of links: each link makes some parent less
 abbrev pub most_links : LocalRule → LocalRule → ℕ
 most_links r q = total (range_with_len 0 (set_count r q)) + 1
 
--- a search through linked sets of two rules, from all nodes on both sides on, breadth first, in which the first e edges have been followed. A pair that is
--- joined already makes no link, each pair that was met is empty on both sides or on neither, and the sets of both rules are in classes that the links join.
+-- A breadth-first search through linked sets of two rules, starting with all nodes on both sides, in which the first e edges have been followed. A pair that is already joined makes no link, each pair that was reached is empty on both sides or on neither, and the links join the sets of both rules into classes.
 pub record IsLinkSearch (r q : LocalRule) (links : List Link) (parents : List ℕ) (e : ℕ) : Type 0 where
   pub fills : IsFilled (LinkStep r q) (HasChain r links) r.states (full_set r, full_set q) (link_places links) e
   pub even : (i : ℕ) (x : Link) → slice_get links i ≡ Some x → nat_eq x.first 0 ≡ nat_eq x.second 0

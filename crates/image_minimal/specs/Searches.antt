@@ -1,4 +1,4 @@
--- Searches through sets of nodes, in which some edges have been followed.
+-- Searches through sets of nodes in which some edges have been followed.
 use Rattle.std.specs.Prelude.{◌≡◌, ℕ, ◌+◌, ◌*◌, ◌^◌, ◌<◌, ◌≤◌, ◌↔◌, List, length, slice_get, slice_index, Some, Contains}
 use Rattle.word_image.specs.LocalRules.{LocalRule, IsRule, node_count}
 use Rattle.word_image.specs.Graphs.{full_set}
@@ -8,15 +8,15 @@ use Rattle.image_minimal.specs.ImageLanguages.{Automaton, IsLeastAutomaton}
 use Rattle.image_minimal.specs.Closures.{IsUnreadSet, IsClosedStep, AreClosures}
 use Rattle.image_minimal.specs.Indexes.{IsPlaceOf}
 
--- exactly the unread sets are listed
+-- the list has exactly the unread sets
 abbrev pub AreUnreadSets : LocalRule → List ℕ → Type 0
 AreUnreadSets r sets = (set : ℕ) → Contains sets set ↔ IsUnreadSet r set
 
--- closed steps from the full set on lead to the sets
+-- a search through the sets that closed steps reach from the set of all nodes
 abbrev pub IsClassSearch : LocalRule → List ℕ → ℕ → Type 0
 IsClassSearch r = IsSearch (IsClosedStep r) r.states (full_set r)
 
--- the closures of all sets, and those of the classes in the order of the least automaton; a step from a class leads where the automaton says
+-- the closures of all sets, and the closures of the classes in the order of the least automaton; each step leads to the class that the automaton names
 pub record HasClasses (r : LocalRule) (closures classes : List ℕ) : Type 0 where
   pub rule : IsRule r
   pub closed : AreClosures r closures

@@ -1,4 +1,4 @@
-//! The classes of alike words, found breadth first by the closures of their sets.
+//! The classes of equivalent words, found breadth first by the closures of their sets.
 
 ghost use Rattle.std.specs.Prelude.{◌≡◌, ◌+◌, ◌*◌, ◌<◌, ◌≤◌, ℕ, length, slice_get, slice_index, Some, IfOk};
 ghost use Rattle.word_image.specs.LocalRules.{LocalRule, IsRule, most_sets};
@@ -13,14 +13,14 @@ use std::alloc::{AllocError, Global};
 use std::marker::Model;
 use word_image::Rule;
 
-/// The least automaton of a rule: the classes of alike words, numbered in the order of their least words, and
-/// the classes of a word of each class followed by each letter. It is seen as the rule, which has one least
+/// The least automaton of a rule: its classes of equivalent words, numbered in the order of their least words, and
+/// the class that follows each class on each letter. In contracts it is the rule, which has exactly one least
 /// automaton.
 #[derive(Debug, Drop)]
 pub struct Minimal {
-    // The steps between the sets of the rule.
+    // The steps between the sets of nodes of the rule.
     subsets: Subsets,
-    // For each set its closure.
+    // The closure of each set of nodes.
     closures: Vec<u16>,
     // The closure of each class.
     classes: Listed,
@@ -37,7 +37,7 @@ impl Model for Minimal {
     ghost invariant = { λ m. HasClasses m.subsets m.closures.items m.classes };
 }
 
-/// The least automaton of this rule.
+/// Computes the least automaton of this rule.
 pub fn least(alloc: Global, rule: &Rule) -> Result<Minimal, AllocError>
     ensures rule { IfOk result (λ minimal. minimal ≡ rule.now) }
     ensures some { IfOk result (λ _. (a : Automaton) × IsLeastAutomaton rule.now a) }
@@ -52,13 +52,13 @@ pub fn least(alloc: Global, rule: &Rule) -> Result<Minimal, AllocError>
     })
 }
 
-/// A rule has at most one least automaton.
+/// Law: a rule has at most one least automaton.
 pub fn one_least_automaton()
     ensures { (r : LocalRule) (a b : Automaton) → IsRule r → IsLeastAutomaton r a → IsLeastAutomaton r b → a ≡ b }
 {}
 
 impl Minimal {
-    /// How many classes the least automaton has, which there is: from 1 to 65,536.
+    /// Returns the number of classes, from 1 to 65,536. The contract also says that the rule has a least automaton.
     pub fn len(&self) -> u32
         ensures automaton { (a : Automaton) × IsLeastAutomaton self.now a }
         ensures len { (a : Automaton) → IsLeastAutomaton self.now a → result ≡ a.classes }
@@ -68,13 +68,13 @@ impl Minimal {
         self.classes.len()
     }
 
-    /// The class of a word of each class followed by each letter, class by class, letters ascending: `len` times
-    /// `k` of them.
+    /// Returns the class that follows each class on each letter, in the order of the classes and then of the letters:
+    /// `len` times `k` numbers.
     pub fn rows(&self, alloc: Global) -> Result<Vec<u16>, AllocError>
         ensures { IfOk result (λ rows. (a : Automaton) → IsLeastAutomaton self.now a → rows.items ≡ a.next) }
     {
         let classes = self.classes.len();
-        // Borrowed once: the loop then reads a pointer less for each letter.
+        // Borrowed once, so that the loop reads one pointer less for each letter.
         let closures: &[u16] = &self.closures;
         let mut rows = Vec::with_capacity(alloc, classes as usize * usize::from(self.k()))?;
         for class in 0..classes {
@@ -88,7 +88,7 @@ impl Minimal {
         Ok(rows)
     }
 
-    /// The class of a word of class i followed by letter a.
+    /// Returns the class of a word of class `i` followed by letter `a`.
     pub fn next(&self, i: u32, a: u8) -> u32
         requires class { (m : Automaton) → IsLeastAutomaton self.now m → i < m.classes }
         requires letter { a < self.now.states }
@@ -101,7 +101,7 @@ impl Minimal {
         u32::from(class_of(&self.closures, &self.classes, after))
     }
 
-    /// The class of the orphans; `None` exactly where the rule is surjective.
+    /// Returns the class of the orphans, or None if the rule is surjective.
     pub fn dead(&self) -> Option<u32>
         ensures { (m : Automaton) → IsLeastAutomaton self.now m → result ≡ m.dead }
     {
@@ -111,7 +111,7 @@ impl Minimal {
         }
     }
 
-    /// The number of states k of the rule.
+    /// Returns the number of states k of the rule.
     pub fn k(&self) -> u8
         ensures states { result ≡ self.now.states }
         ensures rule { IsRule self.now }
@@ -120,7 +120,7 @@ impl Minimal {
     }
 }
 
-/// The class whose closure is that of the set.
+/// Returns the class with the closure of this set.
 fn class_of(closures: &[u16], classes: &Listed, set: u16) -> u16
     requires set { set < length closures.now }
     requires class { (j : ℕ) × (slice_get classes.now j ≡ Some (slice_index closures.now set)) }
@@ -130,7 +130,7 @@ fn class_of(closures: &[u16], classes: &Listed, set: u16) -> u16
     class.unwrap()
 }
 
-/// The closures of the classes, which are found breadth first from that of all nodes.
+/// Finds the closures of the classes breadth first, starting with the closure of the set of all nodes.
 fn search(alloc: Global, subsets: &Subsets, closures: &[u16]) -> Result<Listed, AllocError>
     requires { AreClosures subsets.now closures.now }
     ensures { IfOk result (HasClasses subsets.now closures.now) }

@@ -9,7 +9,7 @@ use crate::listed::Listed;
 use debruijn::Graph;
 use std::alloc::{AllocError, Global};
 
-/// For each set of nodes its closure.
+/// Returns the closure of each set of nodes.
 pub fn closures(alloc: Global, graph: &Graph) -> Result<Vec<u16>, AllocError>
     ensures { IfOk result (λ closures. AreClosures graph.now closures.items) }
 {
@@ -27,7 +27,7 @@ pub fn closures(alloc: Global, graph: &Graph) -> Result<Vec<u16>, AllocError>
     Ok(closures)
 }
 
-/// The closure of this set, which isn't unread, by those of the sets above it.
+/// Returns the closure of a set that isn't unread, from the closures of the sets with one node more.
 fn closure_above(graph: &Graph, closures: &[u16], set: u16) -> u16
     requires set { set < 2 ^ node_count graph.now }
     requires closures { AreClosuresFrom graph.now (set + 1) closures.now }
@@ -43,7 +43,7 @@ fn closure_above(graph: &Graph, closures: &[u16], set: u16) -> u16
     closure
 }
 
-/// The unread sets, each once.
+/// Returns the unread sets, each once.
 fn unread_sets(alloc: Global, graph: &Graph) -> Result<Listed, AllocError>
     ensures { IfOk result (AreUnreadSets graph.now) }
 {
@@ -60,7 +60,7 @@ fn unread_sets(alloc: Global, graph: &Graph) -> Result<Listed, AllocError>
     Ok(sets)
 }
 
-/// The nodes from which all edges labelled a lead into the set.
+/// Returns the nodes from which all edges with the label `a` lead into the set.
 fn back(graph: &Graph, set: u16, a: u8) -> u16
     requires { a < graph.now.states }
     ensures { IsBack graph.now set a result }

@@ -1,4 +1,4 @@
-//! Numbers in classes that are joined two by two (Galler and Fischer 1964).
+//! Disjoint classes of numbers that are joined two at a time (union-find, Galler and Fischer 1964).
 
 ghost use Rattle.std.specs.Prelude.{◌≡◌, ◌<◌, length, slice_index, IfOk};
 ghost use Rattle.std.specs.List.{range_with_len};
@@ -7,8 +7,8 @@ ghost use Rattle.image_minimal.specs.Joins.{IsFalling, IsOnWay, IsJoin};
 use std::alloc::{AllocError, Global};
 use std::marker::Model;
 
-/// Numbers in classes, seen as the parent of each: a lesser number of its class, or the number itself,
-/// which is then the root of the class.
+/// Numbers in classes. In contracts it is the parent of each number: a lesser number of its class, or the number
+/// itself if it is the root of its class.
 #[derive(Debug, Drop)]
 pub struct Joined {
     parents: Vec<u32>,
@@ -26,7 +26,7 @@ impl Model for Joined {
 }
 
 impl Joined {
-    /// The numbers below count, each in a class of its own.
+    /// Puts each number below `count` in a class of its own.
     pub fn new(alloc: Global, count: u32) -> Result<Joined, AllocError>
         ensures { IfOk result (λ joined. joined ≡ range_with_len 0 count) }
     {
@@ -37,7 +37,7 @@ impl Joined {
         Ok(Joined { parents })
     }
 
-    /// Joins the classes of two numbers, and says whether they weren't one.
+    /// Joins the classes of two numbers, and returns whether they were different.
     pub fn join(&mut self, x: u32, y: u32) -> bool
         requires first { x < length self.old }
         requires second { y < length self.old }
@@ -53,7 +53,7 @@ impl Joined {
     }
 }
 
-/// The root of the class of a number. The way there is halved.
+/// Returns the root of the class of a number, and halves the path to it.
 fn root(parents: &mut Vec<u32>, number: u32) -> u32
     requires number { number < length parents.old.items }
     requires falling { IsFalling parents.old.items }

@@ -1,31 +1,33 @@
-//! The least automaton of the words that have a preimage (Myhill 1957, Nerode 1958), and the least word
-//! that tells two rules apart by them.
+//! The least automaton of the words that have a preimage (Myhill 1957, Nerode 1958), and the least word with a
+//! preimage under only one of two rules.
 //!
-//! Two words are alike where, followed by any word, they are orphans or not together. The last nodes of
-//! a word w are those at the ends of its preimages. A word z is read from a node if some walk from there
-//! spells it by its labels. So w followed by z is an orphan exactly where z is read from no last node of w:
-//! where the last nodes of w are all among the nodes from which z isn't read. Such a set of nodes, of some
-//! word z, is unread. The closure of a set is the intersection of the unread sets that contain it: the greatest
-//! set from which no other words are read. Two words are alike exactly where their last nodes have one closure.
+//! Two words are equivalent if, followed by any word, both are orphans or neither is. The last nodes of a word w are
+//! the last m - 1 letters of its preimages. A word z is read from a node if the labels of some walk from the node
+//! spell z. So w followed by z is an orphan if and only if z is read from none of the last nodes of w. For each word
+//! z, the set of the nodes from which z isn't read is called an unread set. The closure of a set is the intersection
+//! of all unread sets that contain it: the greatest set from which no other words are read. Two words are equivalent
+//! if and only if their sets of last nodes have the same closure.
 //!
-//! Steps backwards from the empty set reach the unread sets. Then the closures are found from the set of all nodes
-//! down: a set that is unread is its own closure, and that of any other set is the intersection of those of the
-//! sets with one node more. This is the second of Brzozowski's two reversals (1962), with a set of nodes in place
-//! of a set of sets. The classes are found breadth first by their closures, letters ascending, so that each is
-//! found first by its least word, and they are numbered in the order of these.
+//! Steps backward from the empty set reach all unread sets. Then the closures are computed from the set of all nodes
+//! down to the empty set. An unread set is its own closure. The closure of any other set is the intersection of the
+//! closures of the sets with one node more. This is the second of Brzozowski's two reversals (1962), with a set of
+//! nodes instead of a set of sets. A breadth-first search with letters ascending finds each class by its least word
+//! first, and the classes are numbered in this order.
 //!
-//! Two rules are compared by links (Hopcroft and Karp 1971): pairs of sets to which one word leads, breadth
-//! first. A pair is left out where earlier links join its two sets already. Each of these has a lesser word,
-//! and where a word tells the two sets of the pair apart, it tells those of some such link apart. So the first
-//! pair with exactly one empty set is met by the least word that is an orphan of exactly one rule.
+//! Two rules are compared by links (Hopcroft and Karp 1971). A link is a pair of sets that the same word reaches
+//! under the two rules. The links are found breadth first, and a pair is left out if earlier links already join its
+//! two sets. Each of the links that join them has a lesser word, and if a word distinguishes the two sets of the
+//! pair, it distinguishes the sets of such a link, too. So the least word that is an orphan of exactly one rule leads
+//! to the first pair with exactly one empty set.
 //!
-//! Under the rule that gives 1 on 11 alone the orphans are the words with 101 in them. From node 1 alone 01 isn't
-//! read, so the set 2 is unread, and so are the sets 0, 1 and 3: each is its own closure. The classes have the least
-//! words of none, 1, 10 and 101, and the last nodes 3, 2, 1 and 0 of these.
+//! Under the rule that gives 1 only for the window 11, the orphans are the words that contain 101. The word 01 isn't
+//! read from node 1, so the set 2, which contains only this node, is unread. The sets 0, 1 and 3 are unread, too, and
+//! each is its own closure. The classes have the least words (empty), 1, 10 and 101, whose sets of last nodes are 3,
+//! 2, 1 and 0.
 //!
-//! For N nodes, u unread sets and c classes `least` takes **O(u k N + 2^N N + c k)** time and **O(2^N)** space. The
-//! classes after each class, c k of them, aren't kept: `Minimal::rows` makes them all in **O(c k)** time.
-//! For n sets under both rules together `separate` takes **O(n k log n)** time and **O(n)** space.
+//! For N nodes, u unread sets and c classes `least` takes time **O(u k N + 2^N N + c k)** and space **O(2^N)**. It
+//! doesn't store the c k classes that follow each class on each letter: `Minimal::rows` computes all of them in time
+//! **O(c k)**. For n sets under both rules together `separate` takes time **O(n k log n)** and space **O(n)**.
 #![tactic(auto)]
 
 mod classes;

@@ -1,4 +1,4 @@
-//! Different sets of nodes in the order in which they were found, with an index by set.
+//! Different sets of nodes in the order in which they were found, and an index to look them up.
 
 ghost use Rattle.std.specs.Prelude.{◌≡◌, ◌<◌, ◌≤◌, [], length, slice_index, IfOk};
 ghost use Rattle.word_image.specs.LocalRules.{most_sets};
@@ -7,12 +7,12 @@ ghost use Rattle.image_minimal.specs.Indexes.{IsInserted, IsPlaceOf};
 use std::alloc::{AllocError, Global};
 use std::marker::Model;
 
-/// A list of different sets, seen as that list.
+/// A list of different sets. In contracts it is that list.
 #[derive(Debug, Drop)]
 pub struct Listed {
     // The sets in their order.
     sets: Vec<u16>,
-    // For each set its place, if it is in the list.
+    // For each set of nodes its place, if it is in the list.
     places: Vec<Option<u16>>,
 }
 
@@ -28,7 +28,7 @@ impl Model for Listed {
 }
 
 impl Listed {
-    /// An empty list. Its index takes 256 KB.
+    /// Allocates an empty list. Its index takes 256 KB.
     pub fn new(alloc: Global) -> Result<Listed, AllocError>
         ensures { IfOk result (λ listed. listed ≡ []) }
     {
@@ -38,7 +38,7 @@ impl Listed {
         })
     }
 
-    /// How many sets there are, at most 65,536.
+    /// Returns the number of sets, at most 65,536.
     pub fn len(&self) -> u32
         ensures len { result ≡ length self.now }
         ensures most { result ≤ most_sets }
@@ -46,7 +46,7 @@ impl Listed {
         self.sets.len() as u32
     }
 
-    /// The set at place i.
+    /// Returns the set at place `i`.
     pub fn at(&self, i: u32) -> u16
         requires { i < length self.now }
         ensures { result ≡ slice_index self.now i }
@@ -54,14 +54,14 @@ impl Listed {
         self.sets[i as usize]
     }
 
-    /// The place of the set; `None` exactly where it isn't there.
+    /// Returns the place of the set, or None if it isn't in the list.
     pub fn place(&self, set: u16) -> Option<u16>
         ensures { IsPlaceOf self.now set result }
     {
         self.places[usize::from(set)]
     }
 
-    /// Puts the set at the end, if it isn't there.
+    /// Appends the set if it isn't in the list.
     pub fn insert(&mut self, set: u16) -> Result<(), AllocError>
         ensures { IfOk result (λ _. IsInserted self.old self.new set) }
     {

@@ -11,7 +11,7 @@ use crate::subsets::Subsets;
 use std::alloc::{AllocError, Global};
 use word_image::{Rule, Word};
 
-/// Why no word is sought.
+/// Why no word is searched for.
 #[derive(Debug, Drop)]
 pub enum SepFault {
     /// The two rules have different numbers of states.
@@ -30,9 +30,9 @@ impl From<AllocError> for SepFault {
     }
 }
 
-/// The least word that is an orphan of exactly one of the rules; `None` exactly where they have the same orphans.
+/// Returns the least word that is an orphan of exactly one of the rules, or None if they have the same orphans.
 ///
-/// With n sets under both rules together it takes **O(n k (N + log n))** time and **O(n)** space.
+/// For n sets under both rules together it takes time **O(n k (N + log n))** and space **O(n)**.
 pub fn separate(alloc: Global, first: &Rule, second: &Rule) -> Result<Option<Word>, SepFault>
     ensures states { IsErrOf result SepFault.States ↔ (first.now.states ≢ second.now.states) }
     ensures word { IfOk result (λ word. MatchOption word (HaveSameOrphans first.now second.now) (Separates first.now second.now)) }
@@ -45,8 +45,8 @@ pub fn separate(alloc: Global, first: &Rule, second: &Rule) -> Result<Option<Wor
     Ok(search(alloc, &one, &other)?)
 }
 
-/// Finds the word if the rules have one number of states. Follows links breadth first, letters ascending, until a letter
-/// leads to two sets of which exactly one is empty.
+/// Searches for the word; the rules have the same number of states. Follows links breadth first, with letters
+/// ascending, until a letter leads to two sets of which exactly one is empty.
 fn search(alloc: Global, first: &Subsets, second: &Subsets) -> Result<Option<Word>, AllocError>
     requires { first.now.states ≡ second.now.states }
     ensures { IfOk result (λ word. MatchOption word (HaveSameOrphans first.now second.now) (Separates first.now second.now)) }
@@ -71,7 +71,7 @@ fn search(alloc: Global, first: &Subsets, second: &Subsets) -> Result<Option<Wor
             if (s == 0) != (t == 0) {
                 return Ok(Some(word_to(alloc, &links, place, letter)?));
             }
-            // Earlier links may join the two sets already.
+            // Earlier links may already join the two sets.
             if joined.join(u32::from(s), below + u32::from(t)) {
                 links.push(Link {
                     first: s,
@@ -86,7 +86,7 @@ fn search(alloc: Global, first: &Subsets, second: &Subsets) -> Result<Option<Wor
     Ok(None)
 }
 
-/// The word on the way to the link at this place, and a letter after it.
+/// Returns the word on the way to the link at this place, followed by a letter.
 fn word_to(alloc: Global, links: &[Link], at: usize, last: u8) -> Result<Word, AllocError>
     requires at { at < length links.now }
     requires earlier { (i : ℕ) (x : Link) → 0 < i → slice_get links.now i ≡ Some x → x.parent < i }

@@ -11,7 +11,7 @@ use std::alloc::{AllocError, Global};
 use std::marker::Model;
 use word_image::{MOST_STATES, Rule};
 
-/// The subset automaton of a rule, seen as that rule.
+/// The subset automaton of a rule. In contracts it is the rule.
 #[derive(Debug, Drop)]
 pub struct Subsets {
     graph: Graph,
@@ -31,7 +31,7 @@ impl Model for Subsets {
 }
 
 impl Subsets {
-    /// The subset automaton of this rule.
+    /// Makes the subset automaton of this rule.
     pub fn of(alloc: Global, rule: &Rule) -> Result<Subsets, AllocError>
         ensures { IfOk result (λ subsets. subsets ≡ rule.now) }
     {
@@ -41,7 +41,7 @@ impl Subsets {
         Ok(Subsets { graph, tables })
     }
 
-    /// The number of states k.
+    /// Returns the number of states k.
     pub fn k(&self) -> u8
         ensures states { result ≡ self.now.states }
         ensures rule { IsRule self.now }
@@ -49,14 +49,14 @@ impl Subsets {
         self.graph.k()
     }
 
-    /// The graph of the rule.
+    /// Returns the de Bruijn graph of the rule.
     pub fn graph(&self) -> &Graph
         ensures { result.now ≡ self.now }
     {
         &self.graph
     }
 
-    /// How many sets of nodes there are.
+    /// Returns the number of sets of nodes.
     pub fn count(&self) -> u32
         ensures count { result ≡ 2 ^ node_count self.now }
         ensures rule { IsRule self.now }
@@ -64,7 +64,7 @@ impl Subsets {
         1u32 << self.graph.nodes()
     }
 
-    /// The set of all nodes.
+    /// Returns the set of all nodes.
     pub fn full(&self) -> u16
         ensures set { result ≡ full_set self.now }
         ensures rule { IsRule self.now }
@@ -72,7 +72,7 @@ impl Subsets {
         self.graph.full()
     }
 
-    /// The steps of the set, letter by letter.
+    /// Returns the steps of the set, in the order of the letters.
     pub fn steps(&self, set: u16) -> [u16; MOST_STATES]
         requires { set < 2 ^ node_count self.now }
         ensures { (a : ℕ) → a < self.now.states → IsStep self.now set a (slice_index result a) }

@@ -5,18 +5,18 @@ use Rattle.word_image.specs.Graphs.{full_set}
 use Rattle.word_image.specs.Edges.{IsStep}
 use Rattle.word_image.specs.Families.{IsFamily}
 
--- sets in their order, and for each the place and the letter of a step that leads to it, if it has one
+-- the sets in their order, and for each the place and the letter of a step that leads to it, if it has one
 pub record FamilyTree : Type 0 where
   pub sets : List ℕ
   pub parents : List (Option (ℕ × ℕ))
 
--- there are at most 65,536 sets; the first alone has no parent, and each parent stands before its set
+-- there are at most 65,536 sets; only the first has no parent, and each parent is before its set
 pub record IsTree (tree : FamilyTree) : Type 0 where
   pub most : length tree.sets ≤ most_sets
   pub one_each : length tree.parents ≡ length tree.sets
   pub earlier : (i : ℕ) (way : Option (ℕ × ℕ)) → slice_get tree.parents i ≡ Some way → MatchOption way (i ≡ 0) (λ (p, a). p < i)
 
--- p is the least place from which a step leads to the set at place i, and a the least letter on which one does from there
+-- p is the least place from which a step leads to the set at place i, and a is the least letter of such a step
 pub record IsLeastParent (r : LocalRule) (sets : List ℕ) (i p a : ℕ) : Type 0 where
   pub earlier : p < i
   pub letter : a < r.states
@@ -24,7 +24,7 @@ pub record IsLeastParent (r : LocalRule) (sets : List ℕ) (i p a : ℕ) : Type 
   pub least_place : (q b : ℕ) → q < length sets → b < r.states → IsStep r (slice_index sets q) b (slice_index sets i) → p ≤ q
   pub least_letter : (b : ℕ) → b < r.states → IsStep r (slice_index sets p) b (slice_index sets i) → a ≤ b
 
--- the family of an accepted rule, the full set first; each set but the first has its least parent
+-- the family of an accepted rule, with the set of all nodes first; each other set has its least parent
 pub record IsFamilyTree (r : LocalRule) (tree : FamilyTree) : Type 0 where
   pub rule : IsRule r
   pub family : IsFamily r tree.sets

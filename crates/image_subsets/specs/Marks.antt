@@ -1,4 +1,4 @@
--- Marks on sets of nodes, in rows of 64 bits, and those of the sets that contain one of a family.
+-- Marks on sets of nodes in rows of 64 bits, and marks on the sets that contain a set of a family.
 use Rattle.std.specs.Prelude.{◌≢◌, AllPairs, ℕ, ◌-◌, ◌*◌, ◌/◌, ◌%◌, ◌^◌, ◌<◌, ◌≤◌, ◌↔◌, ◌⊎◌, List, length, slice_index, Contains, IsBitSet, bit_and}
 use Rattle.word_image.specs.LocalRules.{most_nodes}
 use Rattle.word_image.specs.Graphs.{HasBit}
@@ -7,7 +7,7 @@ use Rattle.word_image.specs.Graphs.{HasBit}
 abbrev pub IsSetMarked : List ℕ → ℕ → Type 0
 IsSetMarked rows x = HasBit rows (x / 64) (x % 64)
 
--- all nodes of the one set are nodes of the other
+-- every node of the set s is in the set x
 abbrev pub IsPart : ℕ → ℕ → Type 0
 IsPart s x = (i : ℕ) → IsBitSet s i → IsBitSet x i
 
@@ -15,48 +15,48 @@ IsPart s x = (i : ℕ) → IsBitSet s i → IsBitSet x i
 abbrev pub set_without : ℕ → ℕ → ℕ
 set_without x u = bit_and x (65535 - 2 ^ u)
 
--- set x has node u, and without it is marked
+-- set x contains node u, and becomes a marked set when u is removed
 abbrev pub HoldsWithout : List ℕ → ℕ → ℕ → Type 0
 HoldsWithout rows u x = IsBitSet x u × IsSetMarked rows (set_without x u)
 
--- of the first n sets those are marked that were, or that have node u and without it are marked in other rows
+-- among the first n sets, the marked ones are those that were marked before and those that contain node u and become marked sets of the other rows when u is removed
 pub record IsSpreadTo (u n : ℕ) (others old new : List ℕ) : Type 0 where
   pub done : (x : ℕ) → x < n → (IsSetMarked new x ↔ (IsSetMarked old x ⊎ HoldsWithout others u x))
   pub rest : (x : ℕ) → n ≤ x → (IsSetMarked new x ↔ IsSetMarked old x)
 
--- of the sets of n nodes exactly these are marked
+-- among the sets of n nodes, exactly those of the list are marked
 pub record AreListed (sets : List ℕ) (n : ℕ) (rows : List ℕ) : Type 0 where
   pub within : (i : ℕ) → i < length sets → slice_index sets i < 2 ^ n
   pub marked : (x : ℕ) → x < 2 ^ n → (IsSetMarked rows x ↔ Contains sets x)
 
--- of the sets of n nodes exactly those are marked that contain one of these
+-- among the sets of n nodes, exactly those are marked that contain a set of the list
 abbrev pub AreAbove : List ℕ → ℕ → List ℕ → Type 0
 AreAbove sets n rows = (x : ℕ) → x < 2 ^ n → (IsSetMarked rows x ↔ ((i : ℕ) × (i < length sets) × IsPart (slice_index sets i) x))
 
--- of the sets of n nodes exactly those are marked that contain another one of these
+-- among the sets of n nodes, exactly those are marked that contain a different set of the list
 abbrev pub AreBeyond : List ℕ → ℕ → List ℕ → Type 0
 AreBeyond sets n rows = (x : ℕ) → x < 2 ^ n → (IsSetMarked rows x ↔ ((i : ℕ) × (i < length sets) × (slice_index sets i ≢ x) × IsPart (slice_index sets i) x))
 
--- the set without one of its first n nodes is marked
+-- the set becomes a marked one when one of its first n nodes is removed
 abbrev pub HoldsSmaller : List ℕ → ℕ → ℕ → Type 0
 HoldsSmaller rows n set = (u : ℕ) × (u < n) × HoldsWithout rows u set
 
--- one of the sets of a list is part of x, and has each node of x from u on
+-- some set of the list is part of x, and contains each node of x from u on
 pub record ContainsBy (sets : List ℕ) (u x : ℕ) : Type 0 where
   pub place : ℕ
   pub below : place < length sets
   pub part : IsPart (slice_index sets place) x
   pub agree : (i : ℕ) → u ≤ i → IsBitSet x i → IsBitSet (slice_index sets place) i
 
--- of the sets of n nodes exactly those are marked that contain one of these and differ from it in the first u nodes alone
+-- among the sets of n nodes, exactly those are marked that contain a set of the list and differ from it only in the first u nodes
 abbrev pub AreMarksTo : List ℕ → ℕ → ℕ → List ℕ → Type 0
 AreMarksTo sets n u rows = (x : ℕ) → x < 2 ^ n → (IsSetMarked rows x ↔ ContainsBy sets u x)
 
--- no other set is part of that at place i
+-- the set at place i contains no other set of the list
 abbrev pub IsMinimal : List ℕ → ℕ → Type 0
 IsMinimal sets i = (j : ℕ) → j < length sets → j ≢ i → ¬ IsPart (slice_index sets j) (slice_index sets i)
 
--- the marks are those of the sets that contain another one of these, which are different
+-- the marked sets are those that contain a different set of the list, whose sets are all different
 pub record AreCovers (sets rows : List ℕ) : Type 0 where
   pub nodes : ℕ
   pub few : nodes ≤ most_nodes

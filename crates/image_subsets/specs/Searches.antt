@@ -1,15 +1,15 @@
--- A search through the sets, in which some edges of the subset automaton have been followed.
+-- A search through the sets in which some edges of the subset automaton have been followed.
 use Rattle.std.specs.Prelude.{◌≡◌, ℕ, ◌-◌, ◌<◌, List, length, slice_get, Option, Some, MatchOption, Contains, Bool, true, false}
 use Rattle.word_image.specs.LocalRules.{LocalRule}
 use Rattle.word_image.specs.Graphs.{full_set}
 use Rattle.word_image.specs.Edges.{IsStep}
 use Rattle.search_laws.specs.SearchQueues.{Place, IsSearch}
 
--- no way leads to the first place of a tree, and to each other the step from its parent
+-- the first place of a tree has no way, and each other place has the step from its parent
 abbrev pub IsWay : List (Place ℕ) → ℕ → Option (ℕ × ℕ) → Type 0
 IsWay tree i way = MatchOption way (i ≡ 0) (λ (p, a). (x : Place ℕ) × (0 < i) × (slice_get tree i ≡ Some x) × (x.parent ≡ p) × (x.letter ≡ a))
 
--- the first e edges have been followed: letter a from place i is edge i * k + a. Each set has its parent.
+-- The first e edges have been followed: letter a of place i is edge i * k + a. Each set has its parent.
 pub record IsTreeSearch (r : LocalRule) (sets : List ℕ) (parents : List (Option (ℕ × ℕ))) (e : ℕ) : Type 0 where
   pub search : IsSearch (IsStep r) r.states (full_set r) sets e
   pub one_each : length parents ≡ length sets
@@ -19,7 +19,7 @@ pub record IsTreeSearch (r : LocalRule) (sets : List ℕ) (parents : List (Optio
 abbrev pub EndsEmpty : List ℕ → Type 0
 EndsEmpty sets = slice_get sets (length sets - 1) ≡ Some 0
 
--- the search stopped at the empty set, or it followed the first e edges and found none
+-- the search stopped at the empty set, or it followed the first e edges and found no empty set
 abbrev pub IsExpanded : LocalRule → List ℕ → List (Option (ℕ × ℕ)) → ℕ → Bool → Type 0
 IsExpanded r sets parents e true = ((n : ℕ) × IsTreeSearch r sets parents n) × EndsEmpty sets
 IsExpanded r sets parents e false = IsTreeSearch r sets parents e × ¬ Contains sets 0

@@ -1,9 +1,9 @@
--- Tables of the steps of sets: one by the lower eight bits of a set, and one by the upper eight.
+-- Tables of the steps of sets: one for the lower eight bits of a set, and one for the upper eight.
 use Rattle.std.specs.Prelude.{◌≡◌, ℕ, ◌-◌, ◌*◌, ◌/◌, ◌%◌, ◌^◌, ◌<◌, List, [], length, get_or, slice_index, min}
 use Rattle.word_image.specs.LocalRules.{LocalRule, IsRule, node_count, most_states}
 use Rattle.word_image.specs.Edges.{IsStep}
 
--- row x has, label by label, the steps of the set with the bits of x, of which the lowest stands for the node `first`
+-- row x has, for each label, the step of the set with the bits of x, whose lowest bit stands for the node `first`
 pub record AreSteps (r : LocalRule) (first count : ℕ) (rows : List (List ℕ)) : Type 0 where
   pub long : length rows ≡ 2 ^ count
   pub wide : (x : ℕ) → x < 2 ^ count → length (get_or rows x []) ≡ most_states
@@ -20,7 +20,7 @@ pub record AreTables (r : LocalRule) (rows : Rows) : Type 0 where
   pub low : AreSteps r 0 (min 8 (node_count r)) rows.low
   pub high : AreSteps r 8 (node_count r - 8) rows.high
 
--- there are rows for both halves of a set
+-- both halves of a set have a row
 pub record HasRows (rows : Rows) (set : ℕ) : Type 0 where
   pub low : set % 256 < length rows.low
   pub high : set / 256 < length rows.high

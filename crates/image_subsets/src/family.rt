@@ -1,4 +1,4 @@
-//! The sets that are reached from the full one, in the order in which they are found.
+//! The sets of last nodes of a rule, in the order in which a search finds them.
 
 ghost use Rattle.std.specs.Prelude.{◌≡◌, ◌≢◌, ◌+◌, ◌*◌, ◌≤◌, ◌<◌, AllPairs, Contains, [], length, slice_index, slice_get, vec_capacity, Some, MatchOption, false, IfOk};
 ghost use Rattle.word_image.specs.LocalRules.{most_sets};
@@ -14,21 +14,21 @@ use debruijn::Graph;
 use std::alloc::{AllocError, Global};
 use std::marker::Model;
 
-/// A family of sets: the sets of last nodes of a rule in the order of their least words, and how each was
-/// found. It is seen as its sets and their parents. All its room, below 1 MB, is taken when it is made.
+/// The family of a rule: its sets of last nodes in the order of their least words, and for each set how it was found.
+/// In contracts it is the list of sets and the list of their parents. `new` allocates all memory, less than 1 MB,
+/// once.
 ///
-/// It is the subset construction, breadth first with letters ascending. One of s sets takes
-/// **O(s k + 2^8 k)** time, and **O(N 2^N)** more where none is empty; s is at most 2^N for the N nodes,
-/// so 65,536.
+/// `explore` is the subset construction: breadth first, with letters ascending. It takes time **O(s k + 2^8 k)** for
+/// s sets, and **O(N 2^N)** more if no set is empty. If there are N nodes, s is at most 2^N, so at most 65,536.
 #[derive(Debug, Drop)]
 pub struct Family {
     // The sets, in the order in which they were found.
     sets: Masks,
-    // For each set the place and the letter from which it was found; none for the full set.
+    // For each set, the place and the letter from which it was found, or None for the set of all nodes.
     parents: Vec<Option<(u16, u8)>>,
     // The steps of the graph that was explored last.
     tables: StepTables,
-    // Where no set is empty, a mark on each set that contains another one of the family.
+    // If no set is empty, a mark on each set that contains another set of the family.
     marks: Marks,
 }
 
@@ -47,7 +47,7 @@ impl Model for Family {
 }
 
 impl Family {
-    /// A family that has explored no graph: it has no sets.
+    /// Allocates the memory of a family. Until a graph is explored, it has no sets.
     pub fn new(alloc: Global) -> Result<Family, AllocError>
         ensures { IfOk result (λ family. family.sets ≡ []) }
     {
@@ -59,7 +59,7 @@ impl Family {
         })
     }
 
-    /// Makes it the family of the rule of this graph, whatever it was.
+    /// Replaces the contents by the family of this graph's rule.
     pub fn explore(&mut self, graph: &Graph)
         ensures { IsFamilyTree graph.now self.new }
     {
@@ -84,8 +84,7 @@ impl Family {
         self.marks.mark(&self.sets, graph.nodes());
     }
 
-    /// How many sets there are: none before a graph is explored, and then from 1 to 65,536 different
-    /// ones.
+    /// Returns the number of sets: 0 before a graph is explored, and from 1 to 65,536 after.
     pub fn len(&self) -> u32
         ensures len { result ≡ length self.now.sets }
         ensures most { result ≤ most_sets }
@@ -94,8 +93,8 @@ impl Family {
         self.sets.len() as u32
     }
 
-    /// Whether no other set of the family is part of that at place i, where none is empty. It takes
-    /// O(1) time, by marks that `explore` makes in O(N 2^N).
+    /// Returns whether the set at place `i` contains no other set of the family. No set of the family is empty. Takes
+    /// O(1) time, by the marks of `explore`.
     pub fn minimal(&self, i: u32) -> bool
         requires place { i < length self.now.sets }
         requires nonempty { ¬ Contains self.now.sets 0 }
@@ -104,7 +103,7 @@ impl Family {
         !self.marks.has(self.set(i))
     }
 
-    /// The set at place i: node u is bit u.
+    /// Returns the set at place `i`. Bit u stands for node u.
     pub fn set(&self, i: u32) -> u16
         requires { i < length self.now.sets }
         ensures { result ≡ slice_index self.now.sets i }
@@ -112,15 +111,15 @@ impl Family {
         self.sets.at(i as usize)
     }
 
-    /// The sets, each at its place.
+    /// Returns the sets in their order.
     pub fn sets(&self) -> &[u16]
         ensures { result.now ≡ self.now.sets }
     {
         self.sets.as_slice()
     }
 
-    /// The least place from which a step leads to the set at place i, and the least letter on which one
-    /// does from there; `None` exactly for the full set, which stands first.
+    /// Returns the least place from which a step leads to the set at place `i`, and the least letter of such a step.
+    /// Returns None for the set of all nodes, which is first.
     pub fn parent(&self, i: u32) -> Option<(u32, u8)>
         requires { i < length self.now.sets }
         ensures parent { slice_get self.now.parents i ≡ Some result }
@@ -133,8 +132,8 @@ impl Family {
     }
 }
 
-/// Adds the sets to which steps lead from the set at this place. Stops where the empty set is found,
-/// and answers whether it was.
+/// Adds the sets to which steps lead from the set at this place. Stops at the empty set, and returns whether it was
+/// found.
 fn expand(
     graph: &Graph,
     tables: &StepTables,

@@ -1,4 +1,4 @@
-//! The set of the empty word, and steps from the set of a word to those of the words that are a letter longer.
+//! The set of the empty word, and steps from the set of a word to the sets of the words that are one letter longer.
 
 ghost use Rattle.std.specs.Prelude.{◌≡◌, ◌<◌, ℕ, List, [], ◌∷◌, ◌++◌};
 ghost use Rattle.word_image.specs.LocalRules.{IsRule};
@@ -8,7 +8,7 @@ ghost use Rattle.word_image.specs.Edges.{IsStep};
 
 use debruijn::Graph;
 
-/// The set of all nodes, node u as bit u: the last nodes of the empty word.
+/// Returns the set of all nodes, which is the set of the empty word. Bit u stands for node u.
 pub fn full(graph: &Graph) -> u16
     ensures set { result ≡ full_set graph.now }
     ensures rule { IsRule graph.now }
@@ -16,8 +16,8 @@ pub fn full(graph: &Graph) -> u16
     graph.full()
 }
 
-/// The nodes to which an edge labelled a leads from a node of the set. Where the set is that of a
-/// word, the answer is that of the word followed by a.
+/// Returns the nodes to which edges with the label `a` lead from the nodes of `set`. If `set` belongs to a word, the
+/// result belongs to the word followed by `a`.
 pub fn step(graph: &Graph, set: u16, a: u8) -> u16
     requires { a < graph.now.states }
     ensures step { IsStep graph.now set a result }

@@ -1,4 +1,4 @@
-//! Marks of the sets that contain another one of a family.
+//! Marks on the sets that contain another set of a family.
 
 ghost use Rattle.std.specs.Prelude.{◌≡◌, ◌*◌, ◌^◌, ◌<◌, ◌≤◌, ◌↔◌, ◌⊎◌, ℕ, List, [], length, slice_index, vec_capacity, replicate, IsTrue, IfOk};
 ghost use Rattle.word_image.specs.LocalRules.{most_nodes};
@@ -9,13 +9,13 @@ use crate::rows::{MOST_ROWS, ROW, is_marked, spread, spread_from};
 use std::alloc::{AllocError, Global};
 use std::marker::Model;
 
-/// A mark on each set that contains another one of a family, seen as rows of 64 marks. All room is taken
-/// when it is made.
+/// A mark on each set that contains another set of a family. In contracts it is rows of 64 marks. `new` allocates all
+/// memory.
 #[derive(Debug, Drop)]
 pub(crate) struct Marks {
-    // A mark on each set that contains one of the family.
+    // A mark on each set that contains a set of the family.
     above: Vec<u64>,
-    // A mark on each of these that contains another one.
+    // A mark on each set that contains a different set of the family.
     beyond: Vec<u64>,
 }
 
@@ -31,7 +31,7 @@ impl Model for Marks {
 }
 
 impl Marks {
-    /// No marks.
+    /// Allocates the memory, without marks.
     pub fn new(alloc: Global) -> Result<Marks, AllocError>
         ensures { IfOk result (λ marks. marks ≡ []) }
     {
@@ -41,7 +41,7 @@ impl Marks {
         })
     }
 
-    /// Marks the sets of n nodes that contain another one of these, in O(n 2^n) time.
+    /// Marks the sets of n nodes that contain a different set of `sets`, in O(n 2^n) time.
     pub fn mark(&mut self, sets: &Masks, n: u8)
         requires nodes { n ≤ most_nodes }
         requires sets { (i : ℕ) → i < length sets.now → slice_index sets.now i < 2 ^ n }
@@ -55,7 +55,7 @@ impl Marks {
         mark_beyond(&mut self.beyond, &self.above, n);
     }
 
-    /// Whether a set is marked.
+    /// Returns whether a set is marked.
     pub fn has(&self, set: u16) -> bool
         requires { set < 64 * length self.now }
         ensures { IsTrue result ↔ IsSetMarked self.now set }
@@ -64,7 +64,7 @@ impl Marks {
     }
 }
 
-/// Makes them copies of the first ones of these.
+/// Replaces the rows by copies of the first `count` other rows.
 fn copy(rows: &mut Vec<u64>, others: &[u64], count: usize)
     requires count { count ≤ length others.now }
     requires most { count ≤ 1024 }
@@ -79,7 +79,7 @@ fn copy(rows: &mut Vec<u64>, others: &[u64], count: usize)
     }
 }
 
-/// Makes them so many rows without marks.
+/// Replaces the rows by `count` rows without marks.
 fn blank(rows: &mut Vec<u64>, count: usize)
     requires most { count ≤ 1024 }
     requires room { MOST_ROWS ≤ vec_capacity rows.old }
@@ -92,7 +92,7 @@ fn blank(rows: &mut Vec<u64>, count: usize)
     }
 }
 
-/// Marks the sets of n nodes that contain a marked one.
+/// Marks each set of n nodes that contains a marked one.
 fn mark_above(rows: &mut [u64], n: u8)
     requires nodes { n ≤ most_nodes }
     requires most { length rows.old ≤ 1024 }
@@ -104,7 +104,7 @@ fn mark_above(rows: &mut [u64], n: u8)
     }
 }
 
-/// Marks the sets that without one of the first n nodes are marked in other rows.
+/// Marks each set that becomes a marked set of the other rows when one of the first n nodes is removed.
 fn mark_beyond(rows: &mut [u64], others: &[u64], n: u8)
     requires nodes { n ≤ most_nodes }
     requires most { length others.now ≤ 1024 }

@@ -1,4 +1,4 @@
-//! Different sets of nodes in the order in which they were put in, with a mark on each.
+//! Different sets of nodes, in the order in which they were inserted, with a mark on each.
 
 ghost use Rattle.std.specs.Prelude.{◌≡◌, ◌≢◌, ◌<◌, ◌↔◌, AllPairs, List, ℕ, [], length, slice_index, Contains, IsTrue, IfOk};
 ghost use Rattle.word_image.specs.LocalRules.{most_sets};
@@ -10,17 +10,17 @@ use std::alloc::{AllocError, Global};
 use std::marker::Model;
 use word_image::MOST_NODES;
 
-/// How many sets of at most 16 nodes there are.
+/// The number of sets of at most 16 nodes.
 pub const MOST_SETS: usize = 1 << MOST_NODES;
 
-/// A list of different sets, seen as that list. All its room is taken when it is made.
+/// A list of different sets. In contracts it is that list. `new` allocates all memory.
 ///
-/// A set is looked up in O(1) time, and the list is emptied in the time of its length.
+/// It takes O(1) time to look up a set. To clear the list takes time proportional to its length.
 #[derive(Debug, Drop)]
 pub(crate) struct Masks {
     // The sets in their order.
     sets: Vec<u16>,
-    // A mark on each of them, in rows of 64.
+    // A mark on each of the sets, in rows of 64.
     members: Vec<u64>,
 }
 
@@ -37,7 +37,7 @@ impl Model for Masks {
 }
 
 impl Masks {
-    /// An empty list.
+    /// Allocates the memory of an empty list.
     pub fn new(alloc: Global) -> Result<Masks, AllocError>
         ensures { IfOk result (λ masks. masks ≡ []) }
     {
@@ -47,7 +47,7 @@ impl Masks {
         })
     }
 
-    /// How many sets there are, at most 65,536.
+    /// Returns the number of sets, at most 65,536.
     pub fn len(&self) -> usize
         ensures len { result ≡ length self.now }
         ensures apart { AllPairs (λ s t. s ≢ t) self.now }
@@ -55,7 +55,7 @@ impl Masks {
         self.sets.len()
     }
 
-    /// The set at place i.
+    /// Returns the set at place `i`.
     pub fn at(&self, i: usize) -> u16
         requires { i < length self.now }
         ensures { result ≡ slice_index self.now i }
@@ -63,14 +63,14 @@ impl Masks {
         self.sets[i]
     }
 
-    /// The sets in their order.
+    /// Returns the sets in their order.
     pub fn as_slice(&self) -> &[u16]
         ensures { result.now ≡ self.now }
     {
         &self.sets
     }
 
-    /// A mark on each of the sets, for all sets of sixteen nodes.
+    /// Returns rows of marks for all sets of sixteen nodes. Exactly the sets of the list are marked.
     pub fn rows(&self) -> &[u64]
         ensures rows { length result.now ≡ 1024 }
         ensures marked { (x : ℕ) → x < most_sets → (IsSetMarked result.now x ↔ Contains self.now x) }
@@ -78,7 +78,7 @@ impl Masks {
         &self.members
     }
 
-    /// Takes all sets out.
+    /// Removes all sets.
     pub fn clear(&mut self)
         ensures { self.new ≡ [] }
     {
@@ -86,7 +86,7 @@ impl Masks {
         self.sets.clear();
     }
 
-    /// Puts the set at the end, if it isn't there, and says whether it wasn't.
+    /// Appends the set if it isn't in the list yet, and returns whether it was appended.
     pub fn insert(&mut self, set: u16) -> bool
         ensures { IsInserted self.old self.new set result }
     {

@@ -1,4 +1,4 @@
-//! Rows of marks on sets of nodes, 64 sets a row: set s is bit s % 64 of row s / 64.
+//! Rows of marks on sets of nodes, with 64 sets in each row: set s is bit s % 64 of row s / 64.
 
 ghost use Rattle.std.specs.Prelude.{◌≡◌, ◌+◌, ◌*◌, ◌/◌, ◌<◌, ◌≤◌, ◌↔◌, ◌⊎◌, ℕ, length, Contains, IsTrue, IsBitSet};
 ghost use Rattle.word_image.specs.LocalRules.{most_nodes};
@@ -6,16 +6,16 @@ ghost use Rattle.image_subsets.specs.Marks.{IsSetMarked, IsSpreadTo, HoldsWithou
 
 use word_image::MOST_NODES;
 
-/// How many sets a row has.
+/// The number of sets in a row.
 pub const ROW: usize = 64;
 
-/// How many rows have all sets of sixteen nodes.
+/// The number of rows for all sets of sixteen nodes.
 pub const MOST_ROWS: usize = (1 << MOST_NODES) / ROW;
 
-/// How many nodes the sets of one row are of.
+/// The number of nodes of the sets in one row.
 const LOW_NODES: u8 = 6;
 
-/// For each of these nodes the sets of a row that have it.
+/// For each of the first six nodes, the sets of a row that contain it.
 const WITH_LOW_NODE: [u64; 6] = [
     0xaaaa_aaaa_aaaa_aaaa,
     0xcccc_cccc_cccc_cccc,
@@ -25,7 +25,7 @@ const WITH_LOW_NODE: [u64; 6] = [
     0xffff_ffff_0000_0000,
 ];
 
-/// Whether a set is marked.
+/// Returns whether a set is marked.
 pub fn is_marked(rows: &[u64], set: u16) -> bool
     requires { set / 64 < length rows.now }
     ensures { IsTrue result ↔ IsSetMarked rows.now set }
@@ -33,7 +33,7 @@ pub fn is_marked(rows: &[u64], set: u16) -> bool
     rows[usize::from(set / 64)] >> (set % 64) & 1 == 1
 }
 
-/// Takes the marks from the rows of these sets.
+/// Removes the marks of these sets.
 pub fn unmark(rows: &mut [u64], sets: &[u16])
     requires { 1024 ≤ length rows.old }
     ensures { (x : ℕ) → IsSetMarked rows.new x → IsSetMarked rows.old x × ¬ Contains sets.now x }
@@ -43,7 +43,7 @@ pub fn unmark(rows: &mut [u64], sets: &[u16])
     }
 }
 
-/// Marks those sets that have node u and without it are marked.
+/// Marks each set that contains node `u` and becomes a marked set when `u` is removed.
 pub fn spread(rows: &mut [u64], u: u8)
     requires node { u < most_nodes }
     requires rows { length rows.old ≤ 1024 }
@@ -55,7 +55,7 @@ pub fn spread(rows: &mut [u64], u: u8)
     }
 }
 
-/// Marks those sets that have node u and without it are marked in other rows.
+/// Marks each set that contains node `u` and becomes a marked set of the other rows when `u` is removed.
 pub fn spread_from(rows: &mut [u64], others: &[u64], u: u8)
     requires node { u < most_nodes }
     requires most { length others.now ≤ 1024 }
@@ -67,7 +67,7 @@ pub fn spread_from(rows: &mut [u64], others: &[u64], u: u8)
     }
 }
 
-/// Those sets of row i that have node u and without it are marked.
+/// Returns the sets of row i that contain node `u` and become marked sets when `u` is removed.
 fn with_node(rows: &[u64], i: usize, u: u8) -> u64
     requires node { u < most_nodes }
     requires row { i < length rows.now }

@@ -1,4 +1,4 @@
-//! Steps of sets by two look-ups, one by the lower and one by the upper eight bits.
+//! Steps of sets by two table look-ups: one for the lower eight bits, one for the upper eight.
 
 ghost use Rattle.std.specs.Prelude.{◌≡◌, ◌+◌, ◌-◌, ◌*◌, ◌^◌, ◌<◌, ◌≤◌, ℕ, [], ◌++◌, map, length, slice_index, vec_len, vec_capacity, IfOk};
 ghost use Rattle.std.specs.Int.Bits.{bit_or};
@@ -14,16 +14,16 @@ use std::marker::Model;
 use std::simd::u16x16;
 use word_image::MOST_STATES;
 
-/// How many sets of eight nodes there are.
+/// The number of sets of eight nodes.
 const ROWS: usize = 256;
 
-/// The steps of all sets of at most eight nodes on all letters, one lane a letter, so that a step of a set
-/// is the union of two rows. All room, 16 KiB, is taken when it is made.
+/// The steps of all sets of at most eight nodes on all letters, with one lane for each letter. A step of a set is the
+/// union of two rows. `new` allocates all memory, 16 KiB.
 #[derive(Debug, Drop)]
 pub struct StepTables {
     // The steps of the sets of the nodes 0 to 7.
     low: Vec<u16x16>,
-    // Those of the sets of the nodes 8 to 15.
+    // The steps of the sets of the nodes 8 to 15.
     high: Vec<u16x16>,
 }
 
@@ -40,7 +40,7 @@ impl Model for StepTables {
 }
 
 impl StepTables {
-    /// Tables of no graph: they have no rows.
+    /// Allocates the memory of tables without rows.
     pub fn new(alloc: Global) -> Result<StepTables, AllocError>
         ensures { IfOk result (λ tables. tables ≡ record { low = []; high = [] }) }
     {
@@ -50,7 +50,7 @@ impl StepTables {
         })
     }
 
-    /// Makes them those of this graph, in O(2^8) time.
+    /// Fills the tables for this graph, in O(2^8) time.
     pub fn fill(&mut self, graph: &Graph)
         ensures { AreTables graph.now self.new }
     {
@@ -59,7 +59,8 @@ impl StepTables {
         fill(&mut self.high, graph, 8, nodes);
     }
 
-    /// The steps of the set on all letters, letter by letter, where these are the tables of its graph.
+    /// Returns the steps of the set on all letters, in the order of the letters. The tables are those of the set's
+    /// graph.
     pub fn steps(&self, set: u16) -> [u16; MOST_STATES]
         requires { HasRows self.now set }
         ensures { (r : LocalRule) (a : ℕ) → AreTables r self.now → set < 2 ^ node_count r → a < r.states →
@@ -71,7 +72,7 @@ impl StepTables {
     }
 }
 
-/// Makes the rows the steps of the sets of nodes from `first` to the one before `end`, at most eight.
+/// Fills the rows with the steps of the sets of the nodes from `first` to `end - 1`, at most eight nodes.
 fn fill(rows: &mut Vec<u16x16>, graph: &Graph, first: u8, end: u8)
     requires nodes { end ≤ node_count graph.now }
     requires few { end - first ≤ 8 }
@@ -86,7 +87,7 @@ fn fill(rows: &mut Vec<u16x16>, graph: &Graph, first: u8, end: u8)
     }
 }
 
-/// Adds the unions of each row with these sets.
+/// Appends the union of each row with `ends`.
 fn double(rows: &mut Vec<u16x16>, ends: u16x16)
     requires { 2 * vec_len rows.old ≤ vec_capacity rows.old }
     ensures rows { rows.new.items ≡ rows.old.items ++ map (λ row. zip2 bit_or row ends) rows.old.items }
@@ -98,7 +99,7 @@ fn double(rows: &mut Vec<u16x16>, ends: u16x16)
     }
 }
 
-/// The nodes to which edges lead from node u, label by label.
+/// Returns the nodes to which edges lead from node `u`, in the order of the labels.
 fn ends_of(graph: &Graph, u: u8) -> u16x16
     requires { u < node_count graph.now }
     ensures rule { IsRule graph.now }

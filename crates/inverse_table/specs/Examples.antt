@@ -1,15 +1,15 @@
--- Worked examples: maps as rules, and what they make of words, done by hand, which the check computes.
+-- Worked examples: maps as rules and their images of words, worked by hand, which the check computes.
 use Rattle.std.specs.Prelude.{◌≡◌, [], ◌∷◌, refl, pos, negsuc, Some, None}
 use Rattle.word_image.specs.declared.local_rule.RuleFault.TheVariants.{Width, Offset}
 use Rattle.tail_config.specs.InverseMaps.{WindowMap}
 use Rattle.inverse_table.specs.InverseMaps.{map_rule, map_image}
 use Rattle.inverse_table.specs.MapLimits.{rule_limit_fault}
 
--- the inverse of rule 170, which moves all cells to the left: it reads the one letter on the left
+-- the inverse of rule 170, which moves all cells to the left: it reads one letter, on the left
 abbrev right_shift : WindowMap
 right_shift = record { states = 2; width = 1; offset = negsuc 0; table = 0 ∷ 1 ∷ [] }
 
--- the right shift at width 2, with a second cell that is ignored: the text 2:2:-1:t0011
+-- the right shift at width 2, which ignores its second cell: the text 2:2:-1:t0011
 map_rule-right_shift : map_rule right_shift ≡ record { states = 2; width = 2; offset = negsuc 0; table = 0 ∷ 0 ∷ 1 ∷ 1 ∷ [] }
 map_rule-right_shift = refl
 
@@ -17,7 +17,7 @@ map_rule-right_shift = refl
 abbrev sum : WindowMap
 sum = record { states = 2; width = 2; offset = pos 0; table = 0 ∷ 1 ∷ 1 ∷ 0 ∷ [] }
 
--- each letter but the last is added to the next one
+-- each letter except the last is added to the next one
 map_image-sum : map_image sum (0 ∷ 1 ∷ 1 ∷ 0 ∷ []) ≡ 1 ∷ 0 ∷ 1 ∷ []
 map_image-sum = refl
 

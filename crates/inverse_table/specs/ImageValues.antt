@@ -12,36 +12,36 @@ pub record AreImageValues (r : LocalRule) (n : ℕ) (images : List ℕ) : Type 0
 abbrev pub labels_from : LocalRule → ℕ → List ℕ
 labels_from r u = slice_range r.table (u * r.states) (u * r.states + r.states)
 
--- a letter of the word with this value, where `unit` is k to the power of how many letters stand behind it
+-- a letter of the word with this value, where unit is k to the power of the number of letters after the letter
 abbrev pub letter_by_unit : ℕ → ℕ → ℕ → ℕ
 letter_by_unit k unit word = word / unit % k
 
--- the letter of one of the first words with this image, and 16 where none of them has it
+-- the letter of one of the first words with this image, or 16 if none of them has it
 abbrev pub IsLetterBack : (ℕ → ℕ) → List ℕ → ℕ → ℕ → ℕ → Type 0
 IsLetterBack letter images count e a =
     ((word : ℕ) × (word < count) × (slice_index images word ≡ e) × (a ≡ letter word))
     ⊎ (((word : ℕ) → word < count → slice_index images word ≢ e) × (a ≡ 16))
 
--- for each image the letter of one of the first words with it, and 16 where none of them has it
+-- for each image the letter of one of the first words with it, or 16 if none of them has it
 abbrev pub AreLettersBack : (ℕ → ℕ) → List ℕ → ℕ → List ℕ → Type 0
 AreLettersBack letter images count letters = (e : ℕ) → e < length letters → IsLetterBack letter images count e (slice_index letters e)
 
--- the letter of each of the first words is the one that is read back from its image
+-- the letter of each of the first words is the one that is stored for its image
 abbrev pub AreReadBack : (ℕ → ℕ) → List ℕ → ℕ → List ℕ → Type 0
 AreReadBack letter images count letters = (word : ℕ) → word < count → slice_index letters (slice_index images word) ≡ letter word
 
--- the letters are read back from the images of the first words
+-- the letters are read from the images of the first words
 pub record IsRead (letter : ℕ → ℕ) (images : List ℕ) (count : ℕ) (letters : List ℕ) : Type 0 where
   pub each : AreReadBack letter images count letters
   pub back : AreLettersBack letter images count letters
 
--- two words that have one image and different letters
+-- two words with the same image and different letters
 pub record AreUndetermined (letter : ℕ → ℕ) (images : List ℕ) (x y : ℕ) : Type 0 where
   pub first : x < length images
   pub second : y < length images
   pub one_image : slice_index images x ≡ slice_index images y
   pub differ : letter x ≢ letter y
 
--- a word that is apart from another one
+-- some word has the same image as this one and another letter
 abbrev pub HasApart : (ℕ → ℕ) → List ℕ → ℕ → Type 0
 HasApart letter images x = (y : ℕ) × AreUndetermined letter images x y

@@ -1,4 +1,4 @@
--- When a window of a rule has no inverse map.
+-- The reasons why a window of a rule has no inverse map.
 use Rattle.std.specs.Prelude.{◌≢◌, ℕ, ◌^◌, ◌<◌, ◌≤◌, List, slice_index}
 use Rattle.inverse_table.specs.MapLimits.{most_map_entries}
 use Rattle.word_image.specs.LocalRules.{LocalRule}
@@ -6,12 +6,12 @@ use Rattle.word_image.specs.Windows.{HaveOneImage}
 use Rattle.inverse_table.specs.declared.tables.InvFault.{InvFault}
 use Rattle.inverse_table.specs.declared.tables.InvFault.TheVariants.{Wide, NotDetermined, Memory}
 
--- two words with one image that differ at c: the window (n, c) isn't determined
+-- two words with the same image that differ at c: the window (n, c) isn't determined
 pub record IsApartAt (r : LocalRule) (n c : ℕ) (x y : List ℕ) : Type 0 where
   pub one_image : HaveOneImage r n x y
   pub differ : slice_index x c ≢ slice_index y c
 
--- when each fault comes: a map of more than 65,536 letters is refused first
+-- the condition of each fault: a map of more than 65,536 letters is refused first
 abbrev pub IsInvFault : LocalRule → ℕ → ℕ → InvFault → Type 0
 IsInvFault r n c Wide = most_map_entries < r.states ^ n
 IsInvFault r n c (NotDetermined x y) = (r.states ^ n ≤ most_map_entries) × IsApartAt r n c x y

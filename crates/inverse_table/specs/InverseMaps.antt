@@ -1,4 +1,4 @@
--- What the inverse map of a determined window gives back, and the map as a rule.
+-- Properties of the inverse map of a determined window, and the map as a rule.
 use Rattle.std.specs.Prelude.{◌≡◌, ℕ, ◌+◌, ◌*◌, ◌/◌, List, length, map, max, slice_index, ◌==◌, if◌then◌else◌, ℤ, pos, ◌-◌, slice_range, ◌+ℤ◌}
 use Rattle.std.specs.List.{range_with_len}
 use Rattle.word_image.specs.LocalRules.{LocalRule, IsWord, local_map}
@@ -6,7 +6,7 @@ use Rattle.word_image.specs.Words.{image, IsPreimage}
 use Rattle.tail_config.specs.InverseMaps.{WindowMap, map_letter}
 use Rattle.tail_config.specs.Tails.{cell, TailConfig, IsTail, image_cell}
 
--- the map as a rule: a map that reads one letter is written at width 2, and ignores the second cell
+-- the map as a rule: a map that reads one letter has width 2 and ignores the second cell
 abbrev pub map_rule : WindowMap → LocalRule
 map_rule g = record {
   states = g.states;
@@ -15,17 +15,17 @@ map_rule g = record {
   table = if g.width == 1 then map (λ v. slice_index g.table (v / g.states)) (range_with_len 0 (g.states * g.states)) else g.table;
 }
 
--- what the map gives on the consecutive words of `width` letters of a word
+-- the letters that the map gives for the consecutive words of `width` letters of a word
 abbrev pub map_image : WindowMap → List ℕ → List ℕ
 map_image g x = map (λ i. map_letter g (slice_range x i (i + g.width))) (range_with_len 0 (length x + 1 - g.width))
 
--- what the map of a determined window does with configurations, with words of n + m - 1 letters, and with their images
+-- properties of the map of a determined window for configurations, for words of n + m - 1 letters, and for their images
 pub record GivesBack (r : LocalRule) (n c : ℕ) (g : WindowMap) : Type 0 where
-  -- the map gives each cell of a configuration back from the n cells of its image from the offset on
+  -- the map computes each cell of a configuration from n cells of its image, starting at the offset
   pub cells : (t : TailConfig) → IsTail r.states t → (i : ℤ) → map_letter g (map (λ j. image_cell r t (i +ℤ g.offset +ℤ pos j)) (range_with_len 0 n)) ≡ cell t i
-  -- the map gives a letter of a word back from the word's image
+  -- the map computes a letter of a word from the word's image
   pub back : (x : List ℕ) → IsWord r.states x → length x ≡ n + (r.width - 1) → map_letter g (image r x) ≡ slice_index x c
-  -- the rule gives the letter back from what the map makes of the word
+  -- the rule undoes the map on words
   pub forth : (x : List ℕ) → IsWord r.states x → length x ≡ n + (r.width - 1) → local_map r (map_image g x) ≡ slice_index x c
-  -- every word of n letters has a preimage, so no letter is 0 for want of one
+  -- every word of n letters has a preimage, so no letter is 0 for lack of one
   pub onto : (w : List ℕ) → IsWord r.states w → length w ≡ n → (x : List ℕ) × IsPreimage r w x

@@ -1,19 +1,19 @@
--- The maps that there are, and the limits of a map as a rule.
+-- The maps that are computed, and the limits of a map as a rule.
 use Rattle.std.specs.Prelude.{◌≡◌, ℕ, ◌^◌, ◌≤◌, length, pos, negsuc, ◌≤ℤ◌, ◌-◌, Option, Some, None, nat_lt, ◌||◌, if◌then◌else◌, ◌+ℤ◌, int_lt}
 use Rattle.word_image.specs.LocalRules.{IsWord, LocalRule, most_nodes, most_states, most_width}
 use Rattle.tail_config.specs.InverseMaps.{WindowMap}
 use Rattle.word_image.specs.declared.local_rule.RuleFault.{RuleFault}
 use Rattle.word_image.specs.declared.local_rule.RuleFault.TheVariants.{Width, Nodes, Offset}
 
--- the most words for which a map has a letter
+-- the greatest number of words for which a map has a letter
 abbrev pub most_map_entries : ℕ
 most_map_entries = 65536
 
--- the most letters of the image in a window of which a map is asked for: a least window has at most half as many
+-- the greatest number of letters of the image in a window for which a map can be computed: least windows have at most half as many
 abbrev pub longest_window : ℕ
 longest_window = 480
 
--- the maps that there are: a letter for each of at most 65,536 words
+-- a map has a letter for each of at most 65,536 words
 pub record IsWindowMap (g : WindowMap) : Type 0 where
   pub least_states : 2 ≤ g.states
   pub most_states : g.states ≤ most_states
@@ -25,7 +25,7 @@ pub record IsWindowMap (g : WindowMap) : Type 0 where
   pub most_entries : g.states ^ g.width ≤ most_map_entries
   pub letters : IsWord g.states g.table
 
--- the first limit of a rule that it breaks
+-- the first limit of a rule that it breaks, if any
 abbrev pub rule_limit_fault : LocalRule → Option RuleFault
 rule_limit_fault r =
     if nat_lt most_width r.width then Some Width

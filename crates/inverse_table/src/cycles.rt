@@ -1,7 +1,7 @@
-//! Numbers that come round, as the letters of words in their order do.
+//! Numbers that start again at 0, as the letters of the words in their order do.
 ghost use Rattle.std.specs.Prelude.{◌≡◌, ℕ, ◌+◌, ◌*◌, ◌%◌, ◌<◌, ◌≤◌};
 
-/// The number after i of those below `count`, and 0 after the last.
+/// Returns the number after `i`, or 0 after the last number below `count`.
 pub(crate) fn after(i: usize, count: usize) -> usize
     requires { i < count }
     ensures next { (n : ℕ) → i ≡ n % count → result ≡ (n + 1) % count }
@@ -10,8 +10,8 @@ pub(crate) fn after(i: usize, count: usize) -> usize
     if i + 1 == count { 0 } else { i + 1 }
 }
 
-/// The first place of the row behind the one that begins at this place, in a list of `count` numbers that is cut into rows of
-/// `row`, and 0 after the last.
+/// Returns the first place of the next row, or 0 after the last one. A list of `count` numbers is cut into rows of
+/// `row` numbers, and one row begins at `place`.
 pub(crate) fn after_row(place: usize, row: usize, count: usize) -> usize
     requires some { 0 < row }
     requires inside { place + row ≤ count }

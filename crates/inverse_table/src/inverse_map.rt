@@ -1,4 +1,4 @@
-//! The inverse map as a value, and as a rule.
+//! The inverse map as a value and as a rule.
 ghost use Rattle.std.specs.Prelude.{◌≡◌, ◌<◌, ◌^◌, ◌↔◌, slice_index, IfOk, IsOk};
 ghost use Rattle.std.specs.Result.{result_err};
 ghost use Rattle.word_image.specs.LocalRules.{IsRule};
@@ -8,15 +8,15 @@ ghost use Rattle.inverse_table.specs.MapLimits.{IsWindowMap, rule_limit_fault};
 use std::marker::Model;
 use word_image::{Rule, RuleFault, check_shape};
 
-/// What gives a letter of a word back from n letters of its image: a letter for each word of n
-/// letters, in the order of their values.
+/// A map that computes a letter of a word from n letters of its image. It has a letter for each word of n letters, in
+/// the order of their values.
 #[derive(Debug, Drop)]
 pub struct InverseMap {
-    // How many letters there are.
+    // The number of letters k.
     k: u8,
-    // How many letters of the image are read.
+    // The number of letters of the image that are read.
     n: u16,
-    // Where they begin, for cell 0.
+    // The place at which they begin, for cell 0.
     offset: i32,
     // The letter for each of the k^n words of n letters.
     letters: Vec<u8>,
@@ -34,7 +34,7 @@ impl Model for InverseMap {
 }
 
 impl InverseMap {
-    /// The map of these letters.
+    /// Makes the map with these letters.
     pub(crate) fn of(k: u8, n: u16, offset: i32, letters: Vec<u8>) -> Self
         requires { IsWindowMap (record { states = k; width = n; offset = offset; table = letters.items }) }
         ensures { result ≡ record { states = k; width = n; offset = offset; table = letters.items } }
@@ -47,7 +47,7 @@ impl InverseMap {
         }
     }
 
-    /// How many letters there are, from 2 to 16.
+    /// Returns the number of letters k, from 2 to 16.
     pub fn k(&self) -> u8
         ensures states { result ≡ self.now.states }
         ensures map { IsWindowMap self.now }
@@ -55,7 +55,7 @@ impl InverseMap {
         self.k
     }
 
-    /// How many letters of the image are read, from 1 to 16.
+    /// Returns the number of letters of the image that are read, from 1 to 16.
     pub fn n(&self) -> u16
         ensures width { result ≡ self.now.width }
         ensures map { IsWindowMap self.now }
@@ -63,7 +63,7 @@ impl InverseMap {
         self.n
     }
 
-    /// Where they begin: the letter of cell i is read from the cells of the image from i + offset on.
+    /// Returns the offset: the letter of cell i is computed from the cells of the image that begin at i + offset.
     pub fn offset(&self) -> i32
         ensures offset { result ≡ self.now.offset }
         ensures map { IsWindowMap self.now }
@@ -71,7 +71,7 @@ impl InverseMap {
         self.offset
     }
 
-    /// The letter for each of the k^n words of n letters, in the order of their values.
+    /// Returns the letter for each of the k^n words of n letters, in the order of their values.
     pub fn table(&self) -> &[u8]
         ensures table { result.now ≡ self.now.table }
         ensures map { IsWindowMap self.now }
@@ -80,11 +80,11 @@ impl InverseMap {
     }
 }
 
-/// The map as a rule of width n, which gives on a window the map's letter for it. A map with n = 1
-/// is written at width 2, and its second cell is ignored.
+/// Returns the map as a rule of width n, whose table is the map's. A map with n = 1 becomes a rule of width 2 that
+/// ignores its second cell.
 ///
-/// `Width`, `Nodes` and `Offset` come exactly where they are the first limit of a rule, in this order,
-/// that is broken. No other fault comes. It takes no memory.
+/// Returns `Width`, `Nodes` or `Offset` if the rule would break this limit, the first one in this order. Needs no
+/// memory.
 pub fn as_rule(map: &InverseMap) -> Result<Rule, RuleFault>
     ensures rule { IfOk result (λ r. r ≡ map_rule map.now) }
     ensures fault { result_err result ≡ rule_limit_fault (map_rule map.now) }
@@ -96,7 +96,7 @@ pub fn as_rule(map: &InverseMap) -> Result<Rule, RuleFault>
     Ok(Rule::by(map.k(), m, o, |window| letter_of(map, window)))
 }
 
-/// The map's letter for a window of the rule, whose second cell is ignored where one letter is read.
+/// Returns the map's letter for a window of the rule. If one letter is read, the second cell is ignored.
 fn letter_of(map: &InverseMap, window: u16) -> u8
     requires { window < map.now.states ^ (map_rule map.now).width }
     ensures { result ≡ slice_index (map_rule map.now).table window }

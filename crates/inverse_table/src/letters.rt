@@ -1,20 +1,20 @@
-//! The letters at one place of all words of one length, read back from the images of the words.
+//! The letters at one place of all words of one length, read from the images of the words.
 ghost use Rattle.std.specs.Prelude.{◌≡◌, ℕ, ◌+◌, ◌*◌, ◌%◌, ◌<◌, ◌≤◌, All, length, replicate, slice_index, MatchOption};
 ghost use Rattle.word_image.specs.LocalRules.{most_states};
 ghost use Rattle.inverse_table.specs.ImageValues.{AreUndetermined, AreReadBack, HasApart, IsRead, letter_by_unit};
 
 use crate::cycles::after;
 
-/// In place of a letter, where none is read yet.
+/// Stands for a letter that hasn't been read yet.
 pub(crate) const UNREAD: u8 = 16;
 
-/// A place in words of one length, which are known by their values.
+/// A place in words of one length, which are given by their values.
 #[derive(Clone, Copy)]
 pub(crate) struct Place {
-    /// How many letters there are.
+    /// The number of letters.
     pub k: usize,
-    /// What one more at this place adds to the value of a word: k to the power of how many letters
-    /// stand behind it.
+    /// How much one more at this place adds to the value of a word: k to the power of the number of letters after the
+    /// place.
     pub unit: usize,
     ghost some: { 0 < k },
     ghost most: { k ≤ most_states },
@@ -22,7 +22,7 @@ pub(crate) struct Place {
 }
 
 impl Place {
-    /// The letter there of the word with this value.
+    /// Returns the letter of the word with this value at this place.
     fn letter(self, word: usize) -> u8
         ensures { result ≡ letter_by_unit self.k self.unit word }
     {
@@ -30,9 +30,9 @@ impl Place {
     }
 }
 
-/// Writes for each image the letter at this place of the words that have it: one letter for runs of `unit`
-/// words, which comes round from run to run. If two words with one image have different letters there, it
-/// stops and answers with two such words.
+/// Writes for each image the letter at this place of the words that have it. The letter is the same for runs of
+/// `unit` words and then changes. If two words with the same image have different letters there, it stops and returns
+/// two such words.
 pub(crate) fn read_letters(
     letters: &mut [u8],
     images: &[u16],
@@ -56,7 +56,7 @@ pub(crate) fn read_letters(
     None
 }
 
-/// Goes on with the words of a run, which have this letter at the place.
+/// Continues with the words of a run, which have this letter at the place.
 fn read_run(
     letters: &mut [u8],
     images: &[u16],
@@ -85,7 +85,7 @@ fn read_run(
     None
 }
 
-/// A word that has the image of this one and another letter at this place, where there is one.
+/// Returns a word with the same image as this one and another letter at this place, if there is one.
 fn other_apart(images: &[u16], word: usize, place: Place) -> Option<usize>
     requires word { word < length images.now }
     ensures { MatchOption result

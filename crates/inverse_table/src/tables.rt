@@ -16,7 +16,7 @@ use inverse_window::WindowAt;
 use std::alloc::{AllocError, Global};
 use word_image::{Rule, Word};
 
-/// The most words of one length that have a map: it has a letter for each.
+/// The greatest number of words of n letters for which a map is computed. It has a letter for each.
 const MOST_WORDS: u64 = 65536;
 
 /// Why a window has no inverse map.
@@ -24,8 +24,7 @@ const MOST_WORDS: u64 = 65536;
 pub enum InvFault {
     /// There are more than 65,536 words of n letters.
     Wide,
-    /// These two words of n + m - 1 letters have one image and differ at c: the window is not
-    /// determined.
+    /// These two words of n + m - 1 letters have the same image and differ at c, so the window isn't determined.
     NotDetermined { x: Word, y: Word },
     /// There is not enough memory.
     Memory(AllocError),
@@ -39,11 +38,11 @@ impl From<AllocError> for InvFault {
     }
 }
 
-/// The inverse map of a rule over the window (n, c), for 1 ≤ n ≤ 480 and c ≤ n + m - 2. It has a
-/// letter for each word of n letters: letter c of every preimage of the word, and 0 where it has none.
+/// Returns the inverse map of a rule over the window (n, c), for 1 ≤ n ≤ 480 and c ≤ n + m - 2. It has a letter for
+/// each word of n letters: the letter at place c of every preimage of the word, or 0 if the word has no preimage.
 ///
-/// `Wide` comes exactly where there are more than 65,536 such words. Else the window is determined
-/// where there is a map, it is not where `NotDetermined` comes, and `Memory` says nothing of it.
+/// Returns `Wide` if there are more than 65,536 such words, and otherwise `NotDetermined` if the window isn't
+/// determined. `Memory` says nothing about the window.
 pub fn table(alloc: Global, rule: &Rule, at: WindowAt) -> Result<InverseMap, InvFault>
     requires some { 1 ≤ at.n }
     requires most { at.n ≤ longest_window }
@@ -60,7 +59,7 @@ pub fn table(alloc: Global, rule: &Rule, at: WindowAt) -> Result<InverseMap, Inv
     read_back(alloc, rule, at, count, &images)
 }
 
-/// The inverse map over a window, from the images of all words of n + m - 1 letters.
+/// Computes the inverse map over a window from the images of all words of n + m - 1 letters.
 fn read_back(
     alloc: Global,
     rule: &Rule,
@@ -89,15 +88,15 @@ fn read_back(
     Ok(InverseMap::of(rule.k(), at.n, map_offset(rule, at.c), letters))
 }
 
-/// Where the letters of the image begin from which letter c of a word is read: the image of a word
-/// begins o cells before the word, and letter c stands c cells behind the word's first letter.
+/// Returns the offset of the map for letter c: the image of a word begins o cells before the word, and letter c is c
+/// cells after the word's first letter.
 fn map_offset(rule: &Rule, c: u16) -> i32
     ensures { result ≡ neg_ℤ rule.now.offset -ℤ pos c }
 {
     -i32::from(rule.o()) - i32::from(c)
 }
 
-/// How many words of n letters there are, where there are at most 65,536.
+/// Returns the number of words of n letters if there are at most 65,536.
 fn word_count(rule: &Rule, n: u16) -> Option<usize>
     ensures { SomeIff result (rule.now.states ^ n ≤ most_map_entries) (rule.now.states ^ n) }
 {
@@ -107,7 +106,7 @@ fn word_count(rule: &Rule, n: u16) -> Option<usize>
     }
 }
 
-/// The place of letter c in words of n + m - 1 letters.
+/// Returns the place of letter c in words of n + m - 1 letters.
 fn place_of(rule: &Rule, at: WindowAt) -> Place
     requires inside { at.c ≤ at.n + rule.now.width - 2 }
     requires fits { rule.now.states ^ at.n ≤ most_map_entries }
@@ -123,7 +122,7 @@ fn place_of(rule: &Rule, at: WindowAt) -> Place
     }
 }
 
-/// The word of n + m - 1 letters that has this value.
+/// Returns the word of n + m - 1 letters with this value.
 fn word_at(alloc: Global, rule: &Rule, n: u16, value: usize) -> Result<Word, AllocError>
     requires some { 1 ≤ n }
     requires fits { rule.now.states ^ n ≤ most_map_entries }

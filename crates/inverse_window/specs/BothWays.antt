@@ -1,4 +1,4 @@
--- Two nodes that go on together for ever both ways.
+-- Two nodes that are endless in both directions.
 use Rattle.std.specs.Prelude.{ℕ}
 use Rattle.word_image.specs.LocalRules.{LocalRule}
 use Rattle.word_image.specs.Ranks.{BeginTogether, EndTogether, IsEndless}

@@ -1,4 +1,4 @@
-//! From how many letters of the image on pairs of nodes are told apart, by their ranks.
+//! The lengths of the image from which on pairs of nodes can be distinguished, computed from their ranks.
 ghost use Rattle.std.specs.Prelude.{◌≡◌, ℕ, ◌+◌, ◌-◌, ◌<◌, ◌≤◌, ◌↔◌, Option, IfSome};
 ghost use Rattle.word_image.specs.LocalRules.{IsRule, node_count};
 ghost use Rattle.word_image.specs.Graphs.{pair_of, pair_count};
@@ -11,11 +11,11 @@ ghost use Rattle.inverse_window.specs.FirstWindows.{PairDiffersAt, PairEnds, IsP
 use pair_rank::Ranks;
 use word_image::{Rule, Side};
 
-/// How many numbers there are from 0 to one more than the greatest rank that is possible.
+/// The number of numbers from 0 to one more than the greatest possible rank.
 const ROWS: usize = 121;
 
-/// From which n on the window (n, n + place) is determined: n letters of the image, all before the
-/// letter at this place of the last node.
+/// Returns the least n for which the window (n, n + place) is determined: n letters of the image, all before the
+/// letter at this place of the last node. Greater n are determined too.
 pub(crate) fn start_past(rule: &Rule, ranks: &Ranks, place: u8) -> Option<u16>
     requires of_rule { ranks.now ≡ rule.now }
     requires place { place < rule.now.width - 1 }
@@ -29,8 +29,7 @@ pub(crate) fn start_past(rule: &Rule, ranks: &Ranks, place: u8) -> Option<u16>
     start
 }
 
-/// The same for the pairs of u with each node too, where `start` is that of the pairs of the nodes
-/// before it.
+/// Does the same for the pairs of u and each other node, too. `start` is the result for the nodes before u.
 fn start_of(rule: &Rule, ranks: &Ranks, u: u8, place: u8, start: Option<u16>) -> Option<u16>
     requires of_rule { ranks.now ≡ rule.now }
     requires place { place < rule.now.width - 1 }
@@ -50,8 +49,8 @@ fn start_of(rule: &Rule, ranks: &Ranks, u: u8, place: u8, start: Option<u16>) ->
     start
 }
 
-/// One more than the greatest backward rank: two nodes that end together for so many letters do for
-/// all.
+/// Returns one more than the greatest backward rank. Two nodes that end words with equal images of this length do so
+/// for every length.
 pub(crate) fn past_ranks(ranks: &Ranks) -> u16
     ensures past { IsPast ranks.now (node_count ranks.now) result }
     ensures most { result ≤ most_start }
@@ -63,7 +62,7 @@ pub(crate) fn past_ranks(ranks: &Ranks) -> u16
     past
 }
 
-/// The least number from `least` on that is above the backward ranks of u with any node.
+/// Returns the least number, at least `least`, that is above the backward ranks of u with every node.
 fn past_ranks_of(ranks: &Ranks, u: u8, least: u16) -> u16
     requires node { u < node_count ranks.now }
     requires least { least ≤ most_start }
@@ -82,9 +81,9 @@ fn past_ranks_of(ranks: &Ranks, u: u8, least: u16) -> u16
     past
 }
 
-/// For each number b up to `past`, which is above the finite ranks: from how many letters on the pairs
-/// of nodes that differ at their first letter, and end together for b letters and no more, do not begin
-/// together. At `past` stand those that end together for all numbers.
+/// Returns for each number b up to `past`, which is above the finite ranks: the least length for which no pair of
+/// nodes that differ in their first letter and have the backward rank b begins words with equal images. The entry at
+/// `past` is for endless pairs.
 pub(crate) fn starts_by_rank(rule: &Rule, ranks: &Ranks, past: u16) -> [Option<u16>; ROWS]
     requires of_rule { ranks.now ≡ rule.now }
     requires past { IsPast rule.now (node_count rule.now) past }
@@ -99,7 +98,7 @@ pub(crate) fn starts_by_rank(rule: &Rule, ranks: &Ranks, past: u16) -> [Option<u
     starts
 }
 
-/// Takes in the pairs of u with each node, behind those of the nodes before it.
+/// Adds the pairs of u with each node to the result for the nodes before it.
 fn add_starts(rule: &Rule, ranks: &Ranks, u: u8, past: u16, starts: &mut [Option<u16>; ROWS])
     requires rule { IsRule rule.now }
     requires of_rule { ranks.now ≡ rule.now }
@@ -117,8 +116,8 @@ fn add_starts(rule: &Rule, ranks: &Ranks, u: u8, past: u16, starts: &mut [Option
     }
 }
 
-/// From which number on two facts hold, the one from a on and the other from b on. `None` says that
-/// a fact holds of no number.
+/// Returns the number from which on two facts hold, if one holds from `a` on and the other from `b` on. None stands
+/// for a fact that never holds.
 pub(crate) fn later(a: Option<u16>, b: Option<u16>) -> Option<u16>
     ensures both { (n : ℕ) → HasBegun result n ↔ (HasBegun a n × HasBegun b n) }
     ensures later { result ≡ later a b }
@@ -126,7 +125,7 @@ pub(crate) fn later(a: Option<u16>, b: Option<u16>) -> Option<u16>
     Some(a?.max(b?))
 }
 
-/// From how many letters on two nodes do not go on together to this side.
+/// Returns the least length for which no walks of two nodes on this side have equal labels.
 fn apart(ranks: &Ranks, side: Side, u: u8, v: u8) -> Option<u16>
     requires rule { IsRule ranks.now }
     requires first { u < node_count ranks.now }
@@ -137,7 +136,7 @@ fn apart(ranks: &Ranks, side: Side, u: u8, v: u8) -> Option<u16>
     Some(ranks.rank(side, u, v)? + 1)
 }
 
-/// For how many letters two nodes end together, and `past` where they do for all.
+/// Returns the backward rank of two nodes, or `past` if they are endless.
 fn ends_for(ranks: &Ranks, u: u8, v: u8, past: u16) -> u16
     requires rule { IsRule ranks.now }
     requires first { u < node_count ranks.now }

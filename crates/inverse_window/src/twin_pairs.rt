@@ -13,7 +13,7 @@ use pair_graph::Pairs;
 use std::alloc::{AllocError, Global};
 use word_image::{Rule, Word};
 
-/// Two different words of one length whose rings have one image.
+/// Two different words of the same length whose rings have the same image.
 #[derive(Debug, Drop)]
 pub struct TwinPair {
     /// The first of the two words.
@@ -22,8 +22,8 @@ pub struct TwinPair {
     pub y: Word,
 }
 
-/// The least twins of a rule; `None` exactly where there are none, which is exactly where the rule is
-/// injective. Each has at most 512 letters.
+/// Returns the least twins of a rule, or None if there are none, which means that the rule is injective. Each word
+/// has at most 512 letters.
 pub fn twins(
     alloc: Global,
     rule: &Rule,
@@ -36,7 +36,7 @@ pub fn twins(
     twins_over(alloc, &Pairs::of(rule), walker)
 }
 
-/// What `twins` gives of the rule of these pairs, which aren't made again.
+/// Does the same as `twins` for the rule of these pairs.
 pub fn twins_over(
     alloc: Global,
     pairs: &Pairs,
@@ -55,7 +55,7 @@ pub fn twins_over(
     }
 }
 
-/// The first of the walks in the marked graph from a pair without the mark to the same pair with it.
+/// Returns the least of the walks in the marked graph from a pair without the mark to the same pair with the mark.
 fn first_turn(
     alloc: Global,
     pairs: &Pairs,
@@ -76,7 +76,7 @@ fn first_turn(
     Ok(first)
 }
 
-/// How many steps a walk that comes before the first one so far may have.
+/// Returns the greatest number of steps of a walk that is less than the first one so far.
 fn most_steps(first: &Option<Vec<u8>>) -> usize
     ensures { MatchOption first.now (result ≡ most_steps) (λ steps. result ≡ length steps.items) }
 {

@@ -6,8 +6,8 @@ ghost use Rattle.inverse_window.specs.BothWays.{GoOnBothWays};
 
 use pair_rank::Endless;
 
-/// Whether a rule is injective, by its endless pairs: no two different nodes are endless both ways. It
-/// takes time **O(N)** in operations on rows, and no memory.
+/// Returns whether a rule is injective: whether no two different nodes are endless in both directions. Takes time
+/// **O(N)** in operations on rows, and no memory.
 pub fn is_injective(endless: &Endless) -> bool
     ensures injective { IsTrue result ↔ IsInjective endless.now }
     ensures rule { IsRule endless.now }
@@ -20,7 +20,7 @@ pub fn is_injective(endless: &Endless) -> bool
     true
 }
 
-/// Whether another node is endless with u both ways.
+/// Returns whether another node is endless with u in both directions.
 fn has_other(endless: &Endless, u: u8) -> bool
     requires rule { IsRule endless.now }
     requires node { u < node_count endless.now }

@@ -11,19 +11,18 @@ use crate::verdicts::is_injective;
 use pair_rank::Ranks;
 use word_image::Rule;
 
-/// A window of an inverse rule: n letters of the image, and the letter of the word that they
-/// determine. Windows are ordered by n, then by c.
+/// A window of an inverse map: n letters of the image, and the letter of the word that they determine. Windows are
+/// ordered by n, then by c.
 #[derive(Clone, Copy, Debug, PartialEq, Eq, PartialOrd, Ord)]
 pub struct WindowAt {
-    /// How many letters of the image are read.
+    /// The number of letters of the image that are read.
     pub n: u16,
     /// The place of the letter among the n + m - 1 letters of the word.
     pub c: u16,
 }
 
-/// The least determined window of a rule; `None` exactly where no window is determined, which is
-/// exactly where the rule is not injective. A rule that has one is surjective. Its n is at most 240.
-/// It takes no memory.
+/// Returns the least determined window of a rule, or None if there is none, which means that the rule isn't
+/// injective. A rule that has one is surjective. Its n is at most 240. Needs no memory.
 pub fn window(rule: &Rule, ranks: &Ranks) -> Option<WindowAt>
     requires of_rule { ranks.now ≡ rule.now }
     ensures injective { IsSome result ↔ IsInjective rule.now }
@@ -42,7 +41,7 @@ pub fn window(rule: &Rule, ranks: &Ranks) -> Option<WindowAt>
     first
 }
 
-/// The first determined window of those with c ≤ n.
+/// Returns the least determined window with c ≤ n.
 fn first_within(rule: &Rule, ranks: &Ranks) -> Option<WindowAt>
     requires of_rule { ranks.now ≡ rule.now }
     ensures first { IsFirstWindowOf rule.now (λ n c. c < n + 1) result }
@@ -59,8 +58,7 @@ fn first_within(rule: &Rule, ranks: &Ranks) -> Option<WindowAt>
     first
 }
 
-/// The window with c letters of the image before the letter of the word, and `start` of them from it
-/// on.
+/// Returns the window with c letters of the image before the letter of the word, and `start` letters from it on.
 fn window_within(c: u16, start: Option<u16>) -> Option<WindowAt>
     requires place { c ≤ most_start }
     requires most { IfSome start (λ n. n ≤ most_start) }
@@ -70,7 +68,7 @@ fn window_within(c: u16, start: Option<u16>) -> Option<WindowAt>
     Some(WindowAt { n: c + start?, c })
 }
 
-/// The window with `start` letters of the image, all before the letter at this place of the last node.
+/// Returns the window with `start` letters of the image, all before the letter at this place of the last node.
 fn window_past(place: u8, start: Option<u16>) -> Option<WindowAt>
     requires most { IfSome start (λ n. n ≤ most_start) }
     ensures window { result ≡ option_map (λ n. record { n = n; c = n + place }) start }
@@ -83,7 +81,7 @@ fn window_past(place: u8, start: Option<u16>) -> Option<WindowAt>
     })
 }
 
-/// The earlier of two windows, where there are any.
+/// Returns the lesser of two windows, if there are any.
 fn earlier(a: Option<WindowAt>, b: Option<WindowAt>) -> Option<WindowAt>
     ensures { IsEarlier a b result }
 {

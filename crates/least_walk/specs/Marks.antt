@@ -8,7 +8,7 @@ use Rattle.word_image.specs.Graphs.{first_of, second_of, pair_count}
 abbrev pub pair_part : LocalRule → ℕ → ℕ
 pair_part r t = t % pair_count r
 
--- the row of a marked pair: that of its first node, in the second half if it has the mark
+-- the row of a marked pair: the row of its first node, in the second half if it has the mark
 abbrev pub row_of : LocalRule → ℕ → ℕ
 row_of r t = most_nodes * (t / pair_count r) + first_of r (pair_part r t)
 
@@ -16,7 +16,7 @@ row_of r t = most_nodes * (t / pair_count r) + first_of r (pair_part r t)
 abbrev pub HasPair : LocalRule → List ℕ → ℕ → Type 0
 HasPair r rows t = IsBitSet (slice_index rows (row_of r t)) (second_of r (pair_part r t))
 
--- the rows after have one marked pair more
+-- the new rows have one marked pair more
 abbrev pub IsAdded : LocalRule → List ℕ → ℕ → List ℕ → Type 0
 IsAdded r rows t after = (s : ℕ) → s < 2 * pair_count r → (HasPair r after s ↔ ((s ≡ t) ⊎ HasPair r rows s))
 
@@ -26,7 +26,7 @@ pub record ArePartsOf (r : LocalRule) (parts : Parts) (t : ℕ) : Type 0 where
   pub first : parts.first ≡ first_of r (pair_part r t)
   pub second : parts.second ≡ second_of r (pair_part r t)
 
--- the number of a marked pair with its parts, and where its bit stands in rows
+-- a marked pair with its parts, which say where its bit is in the rows
 pub record IsMarkedPair (r : LocalRule) (at : Parts) : Type 0 where
   pub parts : ArePartsOf r at at.pair
   pub below : at.pair < 2 * pair_count r

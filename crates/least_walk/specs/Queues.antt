@@ -9,26 +9,26 @@ use Rattle.least_walk.specs.declared.queue.Reached.{Reached}
 use Rattle.least_walk.specs.declared.queue.Ends.{Ends}
 use Rattle.least_walk.specs.Marks.{HasPair}
 
--- a step on the number a * 16 + b of a letter pair
+-- a step on the pair of letters with the number a * 16 + b
 abbrev pub MarkedStep : LocalRule → ℕ → ℕ → ℕ → Type 0
 MarkedStep r = CodeStep (marked r) r.states most_states
 
--- how many numbers of letter pairs there are
+-- the number of numbers for pairs of letters
 abbrev pub step_count : LocalRule → ℕ
 step_count r = r.states * most_states
 
--- the most steps of a least walk, which visits no marked pair twice
+-- the greatest number of steps of a least walk, which visits no marked pair twice
 abbrev pub most_steps : ℕ
 most_steps = most_marked_pairs
 
--- what has been reached, as a place of a queue
+-- a marked pair that has been reached, as a place of a queue
 abbrev pub place_of : Reached → Place ℕ
 place_of x = record { state = x.pair; parent = x.parent; letter = x.step }
 
 abbrev pub places_of : List Reached → List (Place ℕ)
 places_of = map place_of
 
--- each place knows how many steps lead to it: none to the first one, and one more than to its parent to each other
+-- each place knows the number of steps that lead to it: none for the first place, one more than its parent has for each other
 pub record HasDepths (queue : List Reached) : Type 0 where
   pub root : (x : Reached) → slice_get queue 0 ≡ Some x → x.depth ≡ 0
   pub more : (i : ℕ) (x : Reached) → 0 < i → slice_get queue i ≡ Some x → (p : Reached) × (slice_get queue x.parent ≡ Some p) × (x.depth ≡ p.depth + 1)
@@ -41,13 +41,13 @@ pub record IsWalking (r : LocalRule) (ends : Ends) (queue : List Reached) (e : �
   pub depths : HasDepths queue
   pub none : (t : ℕ) → ends.goal ≡ Some t → NoEdgeBefore (MarkedStep r) (step_count r) (places_of queue) e t
 
--- the first e edges from the start have been followed, and the rows have what has been reached, but for the goal
+-- the first e edges from the start have been followed, and the rows have all that has been reached except the goal
 pub record IsWalkSearch (r : LocalRule) (ends : Ends) (queue : List Reached) (rows : List ℕ) (e : ℕ) : Type 0 where
   pub walking : IsWalking r ends queue e
   pub listed : (t : ℕ) → t < 2 * pair_count r → HasPair r rows t → (ends.goal ≢ Some t) × ((i : ℕ) × (x : Reached) × (slice_get queue i ≡ Some x) × (x.pair ≡ t))
   pub all : (i : ℕ) (x : Reached) → slice_get queue i ≡ Some x → ends.goal ≢ Some x.pair → HasPair r rows x.pair
 
--- the edges from the places before the head have been followed, `most` steps or more lead to the others, and no more than that to any
+-- the edges from the places before the head have been followed; the others are `most` steps away or more, and none is further than that
 pub record IsEnded (r : LocalRule) (ends : Ends) (queue : List Reached) (most : ℕ) : Type 0 where
   pub edges : ℕ
   pub head : ℕ
@@ -70,15 +70,15 @@ pub record IsArrival (r : LocalRule) (ends : Ends) (queue : List Reached) (place
 abbrev pub IsNearStart : List Reached → ℕ → ℕ → Type 0
 IsNearStart queue place most = (x : Reached) → slice_get queue place ≡ Some x → x.depth < most
 
--- by the first letter a, and second letters outside this set, the marked pair at this place leads to nothing that the rows don't have
+-- with first letter a and a second letter outside this set, the marked pair at this place leads only to marked pairs that the rows have
 abbrev pub IsOldBut : LocalRule → List Reached → List ℕ → ℕ → ℕ → ℕ → Type 0
 IsOldBut r queue rows place a letters =
     (x : Reached) (b q : ℕ) → slice_get queue place ≡ Some x → b < r.states → ¬ IsBitSet letters b → marked r x.pair a b ≡ Some q → HasPair r rows q
 
--- each marked pair but the first was reached from an earlier place
+-- each marked pair except the first was reached from an earlier place
 abbrev pub IsBackward : List Reached → Type 0
 IsBackward queue = (i : ℕ) (x : Reached) → 0 < i → slice_get queue i ≡ Some x → x.parent < i
 
--- the steps to a place stand before the old ones, which are turned round
+-- the steps to a place come before the old steps, which are in reverse order
 abbrev pub SpellsBefore : List Reached → ℕ → List ℕ → List ℕ → Type 0
 SpellsBefore queue place old steps = (w : List ℕ) × TreeSpells (places_of queue) place w × (steps ≡ w ++ reverse old)

@@ -5,23 +5,23 @@ use Rattle.word_image.specs.LocalRules.{LocalRule}
 use Rattle.least_walk.specs.declared.queue.Reached.{Reached}
 use Rattle.least_walk.specs.Queues.{IsEnded}
 
--- a rule, the marked pair where walks start, and how many steps they may have
+-- a rule, the marked pair at which walks start, and the greatest number of their steps
 pub record WalkSource : Type 0 where
   pub rule : LocalRule
   pub start : ℕ
   pub most : ℕ
 
--- the queue has at most all marked pairs, each once
+-- the queue has each marked pair at most once
 pub record AreApart (queue : List Reached) : Type 0 where
   pub few : length queue ≤ most_marked_pairs
   pub below : (i : ℕ) (x : Reached) → slice_get queue i ≡ Some x → x.pair < most_marked_pairs
   pub apart : (i j : ℕ) (x y : Reached) → slice_get queue i ≡ Some x → slice_get queue j ≡ Some y → x.pair ≡ y.pair → i ≡ j
 
--- each marked pair of the queue has its place
+-- the place of each marked pair of the queue is stored
 abbrev pub IsPairIndex : List Reached → List ℕ → Type 0
 IsPairIndex queue places = (i : ℕ) (x : Reached) → slice_get queue i ≡ Some x → slice_index places x.pair ≡ i
 
--- a search from the start has ended with all that is reached by at most `most` steps, and these are the places
+-- a search from the start has ended with all marked pairs that at most `most` steps reach, and these are their places
 pub record IsWalkTree (r : LocalRule) (start most : ℕ) (queue : List Reached) (places : List ℕ) : Type 0 where
   pub ended : IsEnded r (record { start = start; goal = None }) queue most
   pub index : IsPairIndex queue places

@@ -1,4 +1,4 @@
-//! Letter pairs in bytes, as walks have them: the pair (a, b) is 16 a + b.
+//! Pairs of letters in bytes: the pair (a, b) is 16 a + b.
 
 ghost use Rattle.std.specs.Prelude.{◌≡◌, ◌/◌, ◌%◌, map, IfOk, MatchOption, if◌then◌else◌};
 ghost use Rattle.std.specs.Ordering.{is_lt};
@@ -8,7 +8,8 @@ ghost use Rattle.word_image.specs.Words.{word_cmp};
 use std::alloc::{AllocError, Global};
 use word_image::Word;
 
-/// The two words that letter pairs spell: the first letters, and the second ones.
+/// Returns the two words that pairs of letters spell: the word of the first letters and the word of the second
+/// letters.
 pub fn spelled(alloc: Global, steps: &[u8]) -> Result<(Word, Word), AllocError>
     ensures first { IfOk result (λ words. words.0 ≡ map (λ step. step / most_states) steps.now) }
     ensures second { IfOk result (λ words. words.1 ≡ map (λ step. step % most_states) steps.now) }
@@ -19,7 +20,7 @@ pub fn spelled(alloc: Global, steps: &[u8]) -> Result<(Word, Word), AllocError>
     ))
 }
 
-/// The earlier of the first letter pairs so far, if there are any, and others.
+/// Returns the lesser of two walks, or `other` if there is no first one.
 pub fn earlier(first: Option<Vec<u8>>, other: Vec<u8>) -> Vec<u8>
     ensures { MatchOption first (result.items ≡ other.items) (λ old. result.items ≡ (if is_lt (word_cmp other.items old.items) then other.items else old.items)) }
 {
@@ -29,8 +30,7 @@ pub fn earlier(first: Option<Vec<u8>>, other: Vec<u8>) -> Vec<u8>
     }
 }
 
-/// Whether letter pairs come before others: the shorter list, and of two of one length the first in
-/// dictionary order.
+/// Returns whether a walk is less than another one: shorter, or of equal length and before it in dictionary order.
 fn is_before(steps: &[u8], other: &[u8]) -> bool
     ensures { result ≡ is_lt (word_cmp steps.now other.now) }
 {

@@ -11,8 +11,8 @@ use pair_graph::Pairs;
 use std::marker::Model;
 use word_image::MOST_NODES;
 
-/// A set of marked pairs. It is seen as its rows: for each first node, without the mark and then with it, the
-/// set of the second nodes.
+/// A set of marked pairs. In contracts it is its rows: for each first node, first without the mark and then with it,
+/// the set of the second nodes.
 #[derive(Drop)]
 pub struct Rows {
     rows: [u16; 2 * MOST_NODES],
@@ -27,7 +27,7 @@ impl Model for Rows {
 }
 
 impl Rows {
-    /// No marked pairs.
+    /// Returns the empty set.
     pub fn new() -> Rows
         ensures { (r : LocalRule) (t : ℕ) → ¬ HasPair r result t }
     {
@@ -36,7 +36,7 @@ impl Rows {
         }
     }
 
-    /// Whether this marked pair is one of them.
+    /// Returns whether the marked pair is in the set.
     pub fn has(&self, at: Parts) -> bool
         requires row { most_nodes * at.mark + at.first < 2 * most_nodes }
         requires place { at.second < most_nodes }
@@ -45,7 +45,7 @@ impl Rows {
         self.rows[MOST_NODES * usize::from(at.mark) + usize::from(at.first)] >> at.second & 1 == 1
     }
 
-    /// Adds this marked pair.
+    /// Adds a marked pair to the set.
     pub fn add(&mut self, at: Parts)
         requires row { most_nodes * at.mark + at.first < 2 * most_nodes }
         requires place { at.second < most_nodes }
@@ -54,8 +54,8 @@ impl Rows {
         self.rows[MOST_NODES * usize::from(at.mark) + usize::from(at.first)] |= 1u16 << at.second;
     }
 
-    /// The second letters by which, with first letter a, a step may lead to a marked pair that isn't one
-    /// of them: letter b is bit b.
+    /// Returns the second letters with which, after the first letter `a`, a step may lead to a marked pair outside
+    /// the set. Bit b stands for letter b.
     pub fn fresh(&self, pairs: &Pairs, from: Parts, a: u8) -> u16
         requires mark { from.mark < 2 }
         requires first { from.first < node_count pairs.now }
@@ -79,10 +79,10 @@ impl Rows {
     }
 }
 
-/// A marked pair, with its parts.
+/// A marked pair with its parts.
 #[derive(Clone, Copy)]
 pub struct Parts {
-    /// Its number.
+    /// The number of the marked pair.
     pub pair: u16,
     /// 1 with the mark, and 0 without it.
     pub mark: u8,
@@ -92,7 +92,7 @@ pub struct Parts {
     pub second: u8,
 }
 
-/// The parts of a marked pair.
+/// Returns a marked pair with its parts.
 pub fn parts_of(pairs: &Pairs, t: u16) -> Parts
     requires { t < 2 * pair_count pairs.now }
     ensures pair { result.pair ≡ t }
@@ -111,7 +111,7 @@ pub fn parts_of(pairs: &Pairs, t: u16) -> Parts
     }
 }
 
-/// The marked pair with these parts.
+/// Returns the marked pair with these parts.
 fn with_parts(pairs: &Pairs, mark: u8, first: u8, second: u8) -> Parts
     requires mark { mark < 2 }
     requires first { first < node_count pairs.now }
@@ -127,7 +127,7 @@ fn with_parts(pairs: &Pairs, mark: u8, first: u8, second: u8) -> Parts
     }
 }
 
-/// Where the letters a and b lead from a marked pair, as [`Pairs::marked`] says it.
+/// Follows the letters a and b from a marked pair, like [`Pairs::marked`].
 pub fn step_from(pairs: &Pairs, from: Parts, a: u8, b: u8) -> Option<Parts>
     requires rule { IsRule pairs.now }
     requires from { IsMarkedPair pairs.now from }

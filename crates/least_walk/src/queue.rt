@@ -1,4 +1,4 @@
-//! A breadth first search through the marked pairs.
+//! A breadth-first search through the marked pairs.
 
 ghost use Rattle.std.specs.Prelude.{◌≡◌, ℕ, ◌+◌, ◌*◌, ◌<◌, ◌≤◌, [], ◌∷◌, ◌++◌, vec_len, vec_capacity, IfSome, IfNone, IsBitSet, Some, slice_get};
 ghost use Rattle.word_image.specs.LocalRules.{IsRule, most_states};
@@ -12,33 +12,33 @@ use crate::marks::{Parts, Rows, parts_of, step_from};
 use pair_graph::Pairs;
 use word_image::MOST_PAIRS;
 
-/// The most marked pairs.
+/// The greatest number of marked pairs.
 pub const MOST_MARKED_PAIRS: usize = 2 * MOST_PAIRS;
 
-/// A marked pair that was reached, and how first: from that at place `parent`, by `step`, a letter
-/// pair (a, b) as 16 a + b. For the start, which stands first, these two say nothing.
+/// A marked pair and how it was reached first: from the marked pair at place `parent`, by `step`, which is a pair of
+/// letters (a, b) as 16 a + b. For the start, which is first, these two have no meaning.
 #[derive(Clone, Copy, Debug)]
 pub struct Reached {
     /// The marked pair.
     pub pair: u16,
     /// The place from which it was reached.
     pub parent: u16,
-    /// The letter pair by which it was reached.
+    /// The pair of letters by which it was reached.
     pub step: u8,
-    /// How many steps lead to it from the start.
+    /// The number of steps from the start to it.
     pub depth: u16,
 }
 
-/// From which marked pair to which one a walk leads.
+/// The marked pairs at the ends of a walk.
 #[derive(Clone, Copy)]
 pub struct Ends {
-    /// Where it starts.
+    /// The marked pair at which it starts.
     pub start: u16,
-    /// Where it is to arrive, if anywhere.
+    /// The marked pair at which it should end, if any.
     pub goal: Option<u16>,
 }
 
-/// The marked pair whose steps are followed.
+/// The marked pair whose steps are being followed.
 #[derive(Clone, Copy)]
 struct Head {
     /// Its place in the queue.
@@ -47,18 +47,17 @@ struct Head {
     parts: Parts,
 }
 
-/// The step with which a walk arrives at its goal, and the place from which it is made.
+/// The step with which a walk reaches its goal, and the place from which the step is made.
 #[derive(Clone, Copy, Debug)]
 pub struct Arrival {
     /// The place in the queue.
     pub place: u16,
-    /// The letter pair.
+    /// The pair of letters.
     pub step: u8,
 }
 
-/// Lists the marked pairs that are reached from the start, breadth first with letter pairs ascending.
-/// Stops where a step leads to the goal, and answers with that step, or before the first place that is
-/// `most` steps away.
+/// Lists the marked pairs that are reached from the start, breadth first with pairs of letters ascending. Stops when
+/// a step leads to the goal, and returns that step. Stops too before the first marked pair that is `most` steps away.
 pub fn search(queue: &mut Vec<Reached>, pairs: &Pairs, ends: Ends, most: usize) -> Option<Arrival>
     requires room { most_marked_pairs ≤ vec_capacity queue.old }
     requires start { ends.start < 2 * pair_count pairs.now }
@@ -96,8 +95,7 @@ pub fn search(queue: &mut Vec<Reached>, pairs: &Pairs, ends: Ends, most: usize) 
     None
 }
 
-/// Follows the steps from the marked pair at `head`. Stops where one leads to the goal, and answers with
-/// it.
+/// Follows the steps from the marked pair at `head`. Stops when one leads to the goal, and returns it.
 fn follow_steps(
     queue: &mut Vec<Reached>,
     rows: &mut Rows,
@@ -130,8 +128,8 @@ fn follow_steps(
     None
 }
 
-/// Follows the steps from the marked pair at `head` with first letter a, of which those with a second
-/// letter outside `letters` lead to nothing new.
+/// Follows the steps from the marked pair at `head` with the first letter a. Steps with a second letter outside
+/// `letters` lead to nothing new.
 fn follow_letter(
     queue: &mut Vec<Reached>,
     rows: &mut Rows,
@@ -173,7 +171,7 @@ fn follow_letter(
     None
 }
 
-/// Where the letters lead, if that is not in the rows.
+/// Returns the marked pair to which the letters lead, if it isn't in the rows.
 fn new_step(pairs: &Pairs, rows: &Rows, from: Parts, a: u8, b: u8, letters: u16) -> Option<Parts>
     requires rule { IsRule pairs.now }
     requires from { IsMarkedPair pairs.now from }
@@ -192,7 +190,7 @@ fn new_step(pairs: &Pairs, rows: &Rows, from: Parts, a: u8, b: u8, letters: u16)
     if rows.has(q) { None } else { Some(q) }
 }
 
-/// Adds to a list with room for it.
+/// Appends to a list that has capacity for one more item.
 pub fn put<T: Drop>(list: &mut Vec<T>, item: T)
     requires { vec_len list.old < vec_capacity list.old }
     ensures items { list.new.items ≡ list.old.items ++ item ∷ [] }

@@ -16,19 +16,19 @@ use std::alloc::{AllocError, Global};
 use std::marker::Model;
 use word_image::Rule;
 
-/// The least walks from one marked pair to all to which walks of at most so many steps lead, as the tree
-/// that one search makes. It is seen as the rule, the marked pair where they start, and that bound.
+/// The least walks of at most `most` steps from one marked pair to all others, as the tree that one search makes. In
+/// contracts it is the rule, the marked pair at the start, and `most`.
 #[derive(Debug, Drop)]
 pub struct WalkTree {
     // The rule.
     rule: Rule,
-    // Where the walks start.
+    // The marked pair at which the walks start.
     start: u16,
-    // How many steps they may have.
+    // The greatest number of steps.
     most: usize,
-    // The marked pairs to which they lead, in the order of the walks.
+    // The marked pairs that the walks reach, in the order of the walks.
     queue: Vec<Reached>,
-    // The place of each of these; for the others any number.
+    // The place of each of these marked pairs. The entries of the others have no meaning.
     places: [u16; MOST_MARKED_PAIRS],
 }
 
@@ -43,7 +43,7 @@ impl Model for WalkTree {
 }
 
 impl WalkTree {
-    /// The least walks from this marked pair.
+    /// Finds the least walks from this marked pair.
     pub fn of(alloc: Global, pairs: &Pairs, start: u16) -> Result<WalkTree, AllocError>
         requires { start < 2 * pair_count pairs.now }
         ensures { IfOk result (λ tree. tree ≡ record { rule = pairs.now; start = start; most = most_steps }) }
@@ -51,7 +51,7 @@ impl WalkTree {
         WalkTree::within(alloc, pairs, start, MOST_STEPS)
     }
 
-    /// The least walks from this marked pair, of at most so many steps.
+    /// Finds the least walks of at most `most` steps from this marked pair.
     pub fn within(
         alloc: Global,
         pairs: &Pairs,
@@ -74,7 +74,7 @@ impl WalkTree {
         })
     }
 
-    /// The marked pairs to which these walks lead, those of shorter walks first.
+    /// Returns the marked pairs that the walks reach, those of shorter walks first.
     pub fn pairs(&self, alloc: Global) -> Result<Vec<u16>, AllocError>
         ensures below { IfOk result (λ pairs. All (λ t. t < 2 * pair_count self.now.rule) pairs.items) }
         ensures all { IfOk result (λ pairs. most_steps ≤ self.now.most → (w : List (ℕ × ℕ)) (t : ℕ) → PairWalk (marked self.now.rule) self.now.rule.states self.now.start w t → Contains pairs.items t) }
@@ -82,7 +82,7 @@ impl WalkTree {
         pairs_of(alloc, &self.queue)
     }
 
-    /// How many steps the walk to a marked pair has that `walk_to` gives; `None` exactly where that gives none.
+    /// Returns the number of steps of the walk that `walk_to` returns, or None if it returns None.
     pub fn steps_to(&self, to: u16) -> Option<usize>
         requires { to < 2 * pair_count self.now.rule }
         ensures steps { IfSome result (λ n. (w : List (ℕ × ℕ)) × IsLeastWalkTo (marked self.now.rule) self.now.rule.states self.now.start to w × (length w ≡ n)) }
@@ -96,9 +96,9 @@ impl WalkTree {
         }
     }
 
-    /// Among the walks to a marked pair the shortest, and among these the first in the dictionary order
-    /// of their letter pairs: to the start that of no step. `None` exactly where each walk has more steps
-    /// than these may have. A bound of [`MOST_STEPS`] or more excludes no walk.
+    /// Returns the least walk to a marked pair: the shortest, and among those the first in the dictionary order of
+    /// their pairs of letters. The least walk to the start has no steps. Returns None if every walk has more steps
+    /// than the limit allows. A limit of [`MOST_STEPS`] or more excludes no walk.
     pub fn walk_to(&self, alloc: Global, to: u16) -> Result<Option<Vec<u8>>, AllocError>
         requires { to < 2 * pair_count self.now.rule }
         ensures walk { IfOk result (λ found. MatchOption found ((w : List (ℕ × ℕ)) → length w ≤ self.now.most → ¬ PairWalk (marked self.now.rule) self.now.rule.states self.now.start w to) (λ steps. IsLeastWalkTo (marked self.now.rule) self.now.rule.states self.now.start to (map (uncode most_states) steps.items))) }
@@ -115,14 +115,14 @@ impl WalkTree {
     }
 }
 
-/// The marked pairs in the queue.
+/// Returns the marked pairs in the queue.
 fn pairs_of(alloc: Global, queue: &[Reached]) -> Result<Vec<u16>, AllocError>
     ensures { IfOk result (λ pairs. pairs.items ≡ map (λ reached. reached.pair) queue.now) }
 {
     queue.iter().map(|reached| reached.pair).collect(alloc)
 }
 
-/// For each marked pair in the queue its place.
+/// Returns the place of each marked pair in the queue.
 fn index(queue: &[Reached]) -> [u16; MOST_MARKED_PAIRS]
     requires { AreApart queue.now }
     ensures { IsPairIndex queue.now result }
@@ -134,7 +134,7 @@ fn index(queue: &[Reached]) -> [u16; MOST_MARKED_PAIRS]
     places
 }
 
-/// Where a marked pair stands in the queue, if it does.
+/// Returns the place of a marked pair in the queue, if it is there.
 fn place_of(queue: &[Reached], places: &[u16; MOST_MARKED_PAIRS], to: u16) -> Option<u16>
     requires pair { to < most_marked_pairs }
     requires index { IsPairIndex queue.now places.now }

@@ -1,4 +1,4 @@
-//! The searches for walks, and their room.
+//! Searches for walks, with memory that is allocated once.
 
 ghost use Rattle.std.specs.Prelude.{ℕ, ◌+◌, ◌*◌, ◌<◌, ◌≤◌, List, length, map, vec_capacity, IfSome, IfNone, Some};
 ghost use Rattle.word_image.specs.LocalRules.{most_states};
@@ -9,16 +9,16 @@ use pair_graph::Pairs;
 use std::alloc::{AllocError, Global};
 use std::marker::Model;
 
-/// The most steps of a least walk: it visits no marked pair twice.
+/// The greatest number of steps of a least walk, which visits no marked pair twice.
 pub const MOST_STEPS: usize = 512;
 
-/// Searches for least walks. It reuses its room, and is seen as nothing: no call tells what an earlier
-/// one left.
+/// Searches for least walks in memory that it allocates once. Contracts say nothing about its contents, because no
+/// result depends on an earlier search.
 #[derive(Debug, Drop)]
 pub struct Walker {
-    // The marked pairs that the last search reached, with room for all.
+    // The marked pairs that the last search reached, with capacity for all.
     queue: Vec<Reached>,
-    // The steps of the walk that it found, with room for the longest.
+    // The steps of the walk that it found, with capacity for the longest.
     steps: Vec<u8>,
 }
 
@@ -38,7 +38,7 @@ impl Walker {
     ghost use Rattle.word_image.specs.MarkedPairs.{marked};
     ghost use Rattle.search_laws.specs.PairWalks.{IsLeastWalk, PairWalk, uncode};
 
-    /// A walker, with all the memory that it needs.
+    /// Allocates all memory of the searches.
     pub fn new(alloc: Global) -> Result<Walker, AllocError> {
         Ok(Walker {
             queue: Vec::with_capacity(alloc, MOST_MARKED_PAIRS)?,
@@ -46,9 +46,9 @@ impl Walker {
         })
     }
 
-    /// Among the walks of at least one step from one marked pair to another the shortest, and among
-    /// these the first in the dictionary order of their letter pairs; `None` exactly where no walk
-    /// exists. A letter pair (a, b) is given as 16 a + b.
+    /// Returns the least walk of at least one step from one marked pair to another: the shortest, and among those the
+    /// first in the dictionary order of their pairs of letters. Returns None if there is no walk. The pair of letters
+    /// (a, b) is the byte 16 a + b.
     pub fn walk(&mut self, pairs: &Pairs, from: u16, to: u16) -> Option<&[u8]>
         requires from { from < 2 * pair_count pairs.now }
         requires to { to < 2 * pair_count pairs.now }
@@ -59,8 +59,8 @@ impl Walker {
         self.walk_within(pairs, from, to, MOST_STEPS)
     }
 
-    /// The walk that `walk` gives, if it has at most so many steps: `None` exactly where each walk has
-    /// more. A bound of [`MOST_STEPS`] or more excludes no walk.
+    /// Returns the walk that `walk` returns if it has at most `most` steps, and None otherwise. A limit of
+    /// [`MOST_STEPS`] or more excludes no walk.
     pub fn walk_within(&mut self, pairs: &Pairs, from: u16, to: u16, most: usize) -> Option<&[u8]>
         requires from { from < 2 * pair_count pairs.now }
         requires to { to < 2 * pair_count pairs.now }
@@ -86,8 +86,7 @@ impl Walker {
     }
 }
 
-/// Writes the steps by which a place and those on the way to it were reached before the steps that
-/// stand there in reverse.
+/// Puts the steps by which the marked pair at a place was reached before the given steps, which are in reverse order.
 pub fn spell(queue: &[Reached], place: u16, steps: &mut Vec<u8>)
     requires room { most_steps ≤ vec_capacity steps.old }
     requires place { place < length queue.now }

@@ -1,4 +1,4 @@
--- What a search says of a rule.
+-- The results of a search.
 use Rattle.std.specs.Prelude.{◌≡◌, ◌≤◌, ℕ, List, [], length}
 use Rattle.word_image.specs.LocalRules.{LocalRule}
 use Rattle.word_image.specs.Words.{IsSurjective, IsLeastOrphan}
@@ -7,17 +7,17 @@ use Rattle.word_image.specs.Graphs.{full_set}
 use Rattle.orphan_search.specs.declared.search.Outcome.{Outcome}
 use Rattle.orphan_search.specs.declared.search.Outcome.TheVariants.{Closed, Orphan}
 
--- what a run leaves
+-- the results of a run
 pub record Found : Type 0 where
   pub word : List ℕ
   pub sets : List ℕ
   pub cover : List ℕ
 
--- nothing
+-- no results
 abbrev pub IsNothing : Found → Type 0
 IsNothing found = (found.word ≡ []) × (found.sets ≡ []) × (found.cover ≡ [])
 
--- either every word has a preimage and the family of the rule is found with its covers, or its least orphan
+-- either every word has a preimage, and the results are the family of the rule and its covers, or the result is the least orphan
 abbrev pub IsVerdict : LocalRule → Outcome → Found → Type 0
 IsVerdict r Closed found = IsSurjective r × IsFamily r found.sets × (found.word ≡ []) × (found.cover ≡ covers_of (full_set r) found.sets)
 IsVerdict r Orphan found = IsLeastOrphan r found.word × (length found.word ≤ 65535) × (found.sets ≡ []) × (found.cover ≡ [])

@@ -1,4 +1,4 @@
-//! The verdict, and what proves it.
+//! The verdict and its evidence.
 
 ghost use Rattle.std.specs.Prelude.{◌≡◌, ◌≤◌, ◌<◌, ◌↔◌, [], length, Contains, slice_index, vec_capacity, IfOk};
 
@@ -8,31 +8,29 @@ use std::alloc::{AllocError, Global};
 use std::marker::Model;
 use word_image::Rule;
 
-/// What a search came to.
+/// The result of a run.
 #[derive(Clone, Copy, Debug, PartialEq, Eq)]
 pub enum Outcome {
     /// Every word has a preimage.
     Closed,
-    /// Some word has none.
+    /// Some word has no preimage.
     Orphan,
 }
 
-/// A search for the least orphan, by the subset construction: breadth first through the sets of last
-/// nodes, with letters ascending. It is seen as what its last run left. All its room is taken when it is
-/// made.
+/// A search for the least orphan by the subset construction: breadth first through the sets of last nodes, with
+/// letters ascending. In contracts it is the results of its last run. `new` allocates all memory.
 ///
-/// A run whose family has s sets takes **O(s k)** time, and **O(N 2^N)** more for a cover list; s is at
-/// most 2^N for the N nodes, so 65,536.
+/// A run takes time **O(s k)** for s sets, and **O(N 2^N)** more for a cover list. If there are N nodes, s is at most
+/// 2^N, so at most 65,536.
 #[derive(Debug, Drop)]
 pub struct Search {
     // The family of the last run.
     family: Family,
-    // The least orphan of the last run, which has fewer letters than there are sets; empty where it found
-    // none.
+    // The least orphan of the last run, which has fewer letters than there are sets, or nothing if there was none.
     word: Vec<u8>,
-    // The cover list of the last run; empty where it found an orphan.
+    // The cover list of the last run, or nothing if there was an orphan.
     cover: Vec<u16>,
-    // Whether the last run found every set of the family nonempty.
+    // Whether the last run found no empty set.
     closed: bool,
 }
 
@@ -52,7 +50,7 @@ impl Search {
     ghost use Rattle.word_image.specs.Words.{IsSurjective};
     ghost use Rattle.orphan_search.specs.Verdicts.{IsNothing, IsVerdict};
 
-    /// A search that has not run: its word, its sets and its cover list are empty.
+    /// Allocates the memory of a search. Until it runs, its word, its sets and its cover list are empty.
     pub fn new(alloc: Global) -> Result<Search, AllocError>
         ensures { IfOk result IsNothing }
     {
@@ -64,8 +62,7 @@ impl Search {
         })
     }
 
-    /// Decides whether every word has a preimage under this rule. Each run starts anew, whatever an earlier
-    /// one left.
+    /// Decides whether every word has a preimage under this rule. The result doesn't depend on earlier runs.
     pub fn run(&mut self, rule: &Rule) -> Outcome
         ensures verdict { IsVerdict rule.now result self.new }
         ensures exactly { (result ≡ Outcome.Closed) ↔ IsSurjective rule.now }
@@ -73,7 +70,7 @@ impl Search {
         self.run_over(&Graph::of(rule))
     }
 
-    /// What `run` does of the rule of this graph, which isn't made again.
+    /// Does the same as `run` for the rule of this graph.
     pub fn run_over(&mut self, graph: &Graph) -> Outcome
         ensures verdict { IsVerdict graph.now result self.new }
         ensures exactly { (result ≡ Outcome.Closed) ↔ IsSurjective graph.now }
@@ -91,23 +88,23 @@ impl Search {
         Outcome::Orphan
     }
 
-    /// After a run that answered `Orphan` the least orphan in the order of words, of at most 65,535
-    /// letters; else empty.
+    /// Returns the least orphan, in the order of words, if the last run returned `Orphan`. It has at most 65,535
+    /// letters. Otherwise returns nothing.
     pub fn word(&self) -> &[u8]
         ensures { result.now ≡ self.now.word }
     {
         &self.word
     }
 
-    /// After a run that answered `Closed` the family of the rule in its order; else empty.
+    /// Returns the family of the rule in its order if the last run returned `Closed`. Otherwise returns nothing.
     pub fn sets(&self) -> &[u16]
         ensures { result.now ≡ self.now.sets }
     {
         if self.closed { self.family.sets() } else { &[] }
     }
 
-    /// After a run that answered `Closed` the cover list of the rule: the full set, and then each set of
-    /// the family but it that contains no other, in the order of the family; else empty.
+    /// Returns the cover list of the rule if the last run returned `Closed`: the set of all nodes, and then each
+    /// other set of the family that contains no other one, in the order of the family. Otherwise returns nothing.
     pub fn cover(&self) -> &[u16]
         ensures { result.now ≡ self.now.cover }
     {
@@ -119,7 +116,7 @@ ghost use Rattle.word_image.specs.LocalRules.{LocalRule};
 ghost use Rattle.word_image.specs.Families.{IsLeastWordOf, covers_of};
 ghost use Rattle.image_subsets.specs.FamilyTrees.{IsFamilyTree};
 
-/// Writes the first set, and behind it each other one that contains no other set of the family.
+/// Writes the first set, and after it each other set that contains no other set of the family.
 fn write_cover(family: &Family, cover: &mut Vec<u16>)
     requires some { 0 < length family.now.sets }
     requires nonempty { ¬ Contains family.now.sets 0 }
@@ -137,7 +134,7 @@ fn write_cover(family: &Family, cover: &mut Vec<u16>)
     }
 }
 
-/// Writes the least word of the set at this place: the letters on the way to it from parent to child.
+/// Writes the least word of the set at this place: the letters on the way from the first set to it.
 fn write_word(family: &Family, at: u32, word: &mut Vec<u8>)
     requires set { at < length family.now.sets }
     requires empty { word.old.items ≡ [] }

@@ -1,4 +1,4 @@
--- Sets of pairs as rows and as truth values: each is made from the other.
+-- Sets of pairs as rows and as truth values, and how to get one form from the other.
 use Rattle.std.proofs.Common.{◌≡◌, ◌==◌, ℕ, suc, ◌+◌, ◌-◌, ◌*◌, ◌/◌, ◌%◌, ◌^◌, ◌<◌, ◌≤◌, List, [], length, map, replicate, take, drop, Bool, true, false, get_or, slice_index, cond, refl, sym, ap, ap₂, ◌∙◌, subst, arith, ⊎_elim, eq-eqb, mod-lt, take_all}
 use Rattle.std.specs.Int.{bit_at}
 use Rattle.std.specs.List.{range_with_len}
@@ -13,7 +13,7 @@ use Rattle.std.proofs.Math.Nat.{mul-le-mul_right, suc-mul}
 use Rattle.word_image.specs.LocalRules.{most_nodes}
 use Rattle.pair_graph.specs.PairSets.{holds, truths, nodes_of, rows_of, AreRows}
 
--- whether a pair is in the list is a test of its bit
+-- a pair is in the list if and only if its bit is set
 pub holds_bit : (n : ℕ) (rows : List ℕ) (p : ℕ) → p < n * n → holds (truths n rows) p ≡ (bit_at (slice_index rows (p / n)) (p % n) == 1)
 holds_bit n rows p inside = get_or-map-range_with_len (λ q. bit_at (slice_index rows (q / n)) (q % n) == 1) 0 (n * n) p p false inside (omega arith)
 
@@ -21,14 +21,14 @@ holds_bit n rows p inside = get_or-map-range_with_len (λ q. bit_at (slice_index
 pub length-truths : (n : ℕ) (rows : List ℕ) → length (truths n rows) ≡ n * n
 length-truths n rows = length-map-range_with_len (λ p. bit_at (slice_index rows (p / n)) (p % n) == 1) 0 (n * n)
 
--- two numbers with one square are one
+-- numbers with equal squares are equal
 pub same_roots : (n m : ℕ) → n * n ≡ m * m → n ≡ m
 same_roots n m same = ⊎_elim
     (λ less. absurd (omega (arith, same, mul-lt n n m m less less)))
     (λ most. ⊎_elim (λ more. absurd (omega (arith, same, mul-lt m m n n more more))) (λ least. omega (arith, most, least)) (cases_lt m n))
     (cases_lt n m)
 
--- a set of all nodes has all pairs
+-- rows of all nodes have all pairs
 pub truths-all : (n : ℕ) (rows : List ℕ) → ((u : ℕ) → u < n → slice_index rows u ≡ 2 ^ n - 1) → truths n rows ≡ replicate (n * n) true
 truths-all n rows full = sym (fill_by_all (λ p. bit_at (slice_index rows (p / n)) (p % n) == 1) (replicate (n * n) true) (n * n) false (length-replicate (n * n) true)
     (λ p inside.
@@ -68,12 +68,12 @@ no_row n rows h u more =
     let none : drop (u * n) (truths n rows) ≡ [] = drop_all (u * n) (truths n rows) (omega (arith, length-truths n rows, past)) in
     ap (λ l. mask_l (take n l)) none ∙ ap mask_l (take_all n [] (omega arith)) ∙ sym (h.past u more)
 
--- the rows come back from the truth values of the pairs
+-- the truth values of the pairs determine the rows
 pub rows_of-truths : (n : ℕ) (rows : List ℕ) → AreRows n rows → rows_of n (truths n rows) ≡ rows
 rows_of-truths n rows h = sym (fill_by_all (λ u. mask_l (chunk (u * n) n (truths n rows))) rows 16 0 h.long
     (λ u inside. ⊎_elim (λ less. sym (row_of_truths n rows h u less)) (λ more. sym (no_row n rows h u more)) (cases_lt u n)))
 
--- how many nodes there are comes back from the number of pairs
+-- the number of pairs determines the number of nodes
 pub nodes_of-square : (n : ℕ) → n ≤ most_nodes → nodes_of (n * n) ≡ n
 nodes_of-square n few =
     let all : map (λ m. nodes_of (m * m)) (range_with_len 0 17) ≡ range_with_len 0 17 = refl in
@@ -82,7 +82,7 @@ nodes_of-square n few =
 pub nodes_of-truths : (n : ℕ) (rows : List ℕ) → AreRows n rows → nodes_of (length (truths n rows)) ≡ n
 nodes_of-truths n rows h = ap nodes_of (length-truths n rows) ∙ nodes_of-square n h.most
 
--- two sets of as many pairs with one list of truth values have one list of rows
+-- sets with the same number of pairs and equal truth values have equal rows
 pub same_rows : (n m : ℕ) (rows others : List ℕ) → AreRows n rows → AreRows m others → truths n rows ≡ truths m others → rows ≡ others
 same_rows n m rows others first second same =
     let nodes : n ≡ m = same_roots n m (sym (length-truths n rows) ∙ ap length same ∙ length-truths m others) in

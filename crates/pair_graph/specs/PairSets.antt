@@ -9,7 +9,7 @@ use Rattle.word_image.specs.declared.side.Side.{Side}
 use Rattle.word_image.specs.Edges.{ends_at}
 use Rattle.word_image.specs.Ends.{label_at, end_at}
 
--- whether a set has a pair
+-- whether a pair is in a set
 abbrev pub holds : List Bool → ℕ → Bool
 holds set p = slice_index_or set p false
 
@@ -17,7 +17,7 @@ holds set p = slice_index_or set p false
 abbrev pub truths : ℕ → List ℕ → List Bool
 truths n rows = map (λ p. bit_at (slice_index rows (p / n)) (p % n) == 1) (range_with_len 0 (n * n))
 
--- how many nodes have so many pairs
+-- the number of nodes that have this many pairs
 abbrev pub nodes_of : ℕ → ℕ
 nodes_of count = count_by (λ i. nat_lt (i * i) count) (range_with_len 0 most_nodes)
 
@@ -25,7 +25,7 @@ nodes_of count = count_by (λ i. nat_lt (i * i) count) (range_with_len 0 most_no
 abbrev pub rows_of : ℕ → List Bool → List ℕ
 rows_of n set = map (λ u. mask_l (chunk (u * n) n set)) (range_with_len 0 most_nodes)
 
--- 16 rows: those of n nodes, and zeros
+-- 16 rows: the rows of n nodes, followed by zeros
 pub record AreRows (n : ℕ) (rows : List ℕ) : Type 0 where
   pub least : 1 ≤ n
   pub most : n ≤ most_nodes
@@ -33,7 +33,7 @@ pub record AreRows (n : ℕ) (rows : List ℕ) : Type 0 where
   pub within : (u : ℕ) → u < n → slice_index rows u < 2 ^ n
   pub past : (u : ℕ) → n ≤ u → slice_index rows u ≡ 0
 
--- the letter a and another one lead from the pair into the set
+-- a step with first letter a leads from the pair into the set
 pub record LeadsIntoBy (side : Side) (r : LocalRule) (set : List Bool) (p a : ℕ) : Type 0 where
   pub second : ℕ
   pub letter : second < r.states
@@ -41,26 +41,26 @@ pub record LeadsIntoBy (side : Side) (r : LocalRule) (set : List Bool) (p a : �
   pub leads : follow_on side r p a second ≡ Some pair
   pub there : IsTrue (holds set pair)
 
--- some letters lead from the pair into the set
+-- some step leads from the pair into the set
 abbrev pub LeadsInto : Side → LocalRule → List Bool → ℕ → Type 0
 LeadsInto side r set p = (a : ℕ) × (a < r.states) × LeadsIntoBy side r set p a
 
--- what is kept are exactly the pairs of the set from which some letters lead into it
+-- exactly the pairs of the set from which some step leads into it are kept
 pub record IsTrimmedSet (side : Side) (r : LocalRule) (set kept : List Bool) : Type 0 where
   pub count : length kept ≡ pair_count r
   pub pairs : (p : ℕ) → p < pair_count r → (IsTrue (holds kept p) ↔ (IsTrue (holds set p) × LeadsInto side r set p))
 
--- the edge of letter a at node u, and one with its label at node v, lead to two nodes whose pair is in the rows
+-- the edge of letter a at node u and an edge with the same label at node v lead to nodes whose pair is in the rows
 pub record GoesOnBy (side : Side) (r : LocalRule) (ends : List (List ℕ)) (rows : List ℕ) (u v a t : ℕ) : Type 0 where
   pub node : t < most_nodes
   pub second : IsBitSet (ends_at ends (label_at side r u a) v) t
   pub pair : IsBitSet (slice_index rows (end_at side r u a)) t
 
--- some edges of the nodes u and v with one label lead to two nodes whose pair is in the rows
+-- edges with equal labels lead from the nodes u and v to nodes whose pair is in the rows
 abbrev pub GoesOn : Side → LocalRule → List (List ℕ) → List ℕ → ℕ → ℕ → Type 0
 GoesOn side r ends rows u v = (a : ℕ) × (t : ℕ) × (a < r.states) × GoesOnBy side r ends rows u v a t
 
--- of the first n rows the nodes that go on are kept
+-- the first n rows keep exactly the nodes from which something goes on
 pub record AreNodesKept (Goes : ℕ → ℕ → Type 0) (rows : List ℕ) (n : ℕ) (kept : List ℕ) : Type 0 where
   pub long : length kept ≡ most_nodes
   pub done : (u v : ℕ) → u < n → v < most_nodes → (IsBitSet (slice_index kept u) v ↔ (IsBitSet (slice_index rows u) v × Goes u v))

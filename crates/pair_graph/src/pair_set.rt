@@ -1,4 +1,4 @@
-//! Sets of pairs of nodes, as rows of bits, and what is left of them a step on.
+//! Sets of pairs, stored as rows of bits, and the trims of such sets.
 
 ghost use Rattle.std.specs.Prelude.{◌≡◌, ◌≢◌, ℕ, ◌+◌, ◌*◌, ◌<◌, ◌↔◌, true, length, replicate, IsBitSet, IsTrue};
 ghost use Rattle.std.specs.Int.Bits.{bit_and};
@@ -12,15 +12,15 @@ use std::marker::Model;
 use std::simd::prelude::*;
 use word_image::{EdgeRows, MOST_NODES, Rule, Side};
 
-/// For each node u the set of the nodes v whose pair with u is in a set of pairs; node v is bit v.
+/// For each node u, the set of nodes v for which the pair (u, v) is in a set of pairs. Bit v stands for node v.
 pub(crate) type Rows = [u16; MOST_NODES];
 
-/// A set of pairs of the nodes of a rule, seen as one truth value for each pair.
+/// A set of pairs of nodes. In contracts it is a list with one truth value for each pair.
 #[derive(Clone, Copy, Debug)]
 pub struct PairSet {
-    // How many nodes there are.
+    // The number of nodes.
     nodes: u8,
-    // Their rows, and zeros after them.
+    // A row for each node, followed by zeros.
     rows: Rows,
 }
 
@@ -46,7 +46,7 @@ impl Model for PairSet {
 }
 
 impl PairSet {
-    /// All pairs.
+    /// Returns the set of all pairs.
     pub fn all(pairs: &Pairs) -> PairSet
         ensures set { result ≡ replicate (pair_count pairs.now) true }
         ensures rule { IsRule pairs.now }
@@ -61,7 +61,7 @@ impl PairSet {
         PairSet { nodes, rows }
     }
 
-    /// Whether the pair is in the set.
+    /// Returns whether the pair is in the set.
     pub fn holds(&self, p: u16) -> bool
         requires { p < length self.now }
         ensures { result ≡ holds self.now p }
@@ -70,7 +70,7 @@ impl PairSet {
         self.rows[usize::from(p / nodes)] >> (p % nodes) & 1 == 1
     }
 
-    /// Of n nodes those whose pair with the node u is in the set; node v is bit v.
+    /// Returns the nodes v for which the pair (u, v) is in the set. Bit v stands for node v.
     pub fn row(&self, u: u8) -> u16
         requires { u < most_nodes }
         ensures { (n v : ℕ) → length self.now ≡ n * n → u < n → v < most_nodes → (IsBitSet result v ↔ ((v < n) × IsTrue (holds self.now (u * n + v)))) }
@@ -78,7 +78,7 @@ impl PairSet {
         self.rows[usize::from(u)]
     }
 
-    /// Whether both sets have the same pairs.
+    /// Returns whether both sets have the same pairs.
     pub fn same(&self, other: &PairSet) -> bool
         requires { length self.now ≡ length other.now }
         ensures { IsTrue result ↔ (self.now ≡ other.now) }
@@ -86,7 +86,7 @@ impl PairSet {
         self.rows == other.rows
     }
 
-    /// The pairs of the set from which some letters lead into it.
+    /// Returns the pairs of the set from which some step forward leads into the set.
     pub fn trim_forward(&self, pairs: &Pairs) -> PairSet
         requires { length self.now ≡ pair_count pairs.now }
         ensures { IsTrimmedSet Side.Right pairs.now self.now result }
@@ -94,7 +94,7 @@ impl PairSet {
         self.trim(pairs, Side::Right)
     }
 
-    /// The pairs of the set from which some letters lead back into it.
+    /// Returns the pairs of the set from which some step backward leads into the set.
     pub fn trim_backward(&self, pairs: &Pairs) -> PairSet
         requires { length self.now ≡ pair_count pairs.now }
         ensures { IsTrimmedSet Side.Left pairs.now self.now result }
@@ -102,7 +102,8 @@ impl PairSet {
         self.trim(pairs, Side::Left)
     }
 
-    /// The pairs of the set from which some letters lead into it, forward or backward.
+    /// Returns the pairs of the set from which some step leads into the set: forward on the right side, backward on
+    /// the left.
     pub fn trim(&self, pairs: &Pairs, side: Side) -> PairSet
         requires { length self.now ≡ pair_count pairs.now }
         ensures { IsTrimmedSet side pairs.now self.now result }
@@ -113,7 +114,7 @@ impl PairSet {
         }
     }
 
-    /// Takes the pair out of the set.
+    /// Removes the pair from the set.
     pub(crate) fn remove(&mut self, p: u16)
         requires { p < length self.old }
         ensures count { length self.new ≡ length self.old }
@@ -124,7 +125,7 @@ impl PairSet {
     }
 }
 
-/// The pairs of the rows from which edges with one label lead to a pair of the rows.
+/// Returns the pairs of the rows from which edges with equal labels lead to a pair of the rows.
 fn trimmed(rule: &Rule, side: Side, ends: &EdgeRows, rows: &Rows) -> Rows
     ensures kept { AreNodesKept (GoesOn side rule.now ends.now rows.now) rows.now (node_count rule.now) result }
     ensures rule { IsRule rule.now }
@@ -136,8 +137,8 @@ fn trimmed(rule: &Rule, side: Side, ends: &EdgeRows, rows: &Rows) -> Rows
     kept
 }
 
-/// The nodes v such that edges with one label lead from u and v to a pair of the rows: the sixteen are
-/// tried at once, one lane each.
+/// Returns the nodes v for which edges with equal labels lead from u and v to a pair of the rows. All sixteen nodes v
+/// are tested at once, one in each lane.
 fn going_on(rule: &Rule, side: Side, ends: &EdgeRows, rows: &Rows, u: u8) -> u16
     requires { u < node_count rule.now }
     ensures { (v : ℕ) → v < most_nodes → (IsBitSet result v ↔ GoesOn side rule.now ends.now rows.now u v) }
@@ -151,7 +152,7 @@ fn going_on(rule: &Rule, side: Side, ends: &EdgeRows, rows: &Rows, u: u8) -> u16
     hits.simd_ne(u16x16::splat(0)).to_bitmask() as u16
 }
 
-/// For each node the nodes of its ends that are in the set, one lane a node.
+/// Returns for each node which of its ends are in the set, one node in each lane.
 fn among(ends: &[u16; MOST_NODES], set: u16) -> u16x16
     ensures lanes { result ≡ zip2 bit_and ends.now (replicate most_states set) }
     ensures wide { length ends.now ≡ most_states }

@@ -1,4 +1,4 @@
-//! The pairs of a rule.
+//! The pairs of nodes of a rule.
 
 ghost use Rattle.std.specs.Prelude.{◌≡◌, ◌+◌, ◌*◌, ◌<◌, ◌↔◌, ℕ, Some, IfSome};
 ghost use Rattle.word_image.specs.LocalRules.{IsRule};
@@ -8,13 +8,13 @@ use debruijn::Graph;
 use std::marker::Model;
 use word_image::{EdgeRows, Rule, Side, edge_rows};
 
-/// The pairs of nodes of a rule's de Bruijn graph, seen as that rule. The pair of u and v has the
-/// number u * N + v, for the N nodes.
+/// The pairs of nodes of a rule's de Bruijn graph. In contracts it is the rule. If there are N nodes, the pair of u
+/// and v has the number u * N + v.
 #[derive(Debug, Drop)]
 pub struct Pairs {
     // The de Bruijn graph of the rule.
     graph: Graph,
-    // For each label and node the nodes from which the edges with that label lead to it.
+    // For each label and node, the set of nodes from which the edges with that label lead to the node.
     starts: EdgeRows,
 }
 
@@ -37,14 +37,14 @@ impl Pairs {
     ghost use Rattle.word_image.specs.BackSteps.{LeadsBack};
     ghost use Rattle.word_image.specs.Edges.{AreEdgeRows};
 
-    /// The pairs of this rule.
+    /// Makes the pairs of this rule.
     pub fn of(rule: &Rule) -> Pairs
         ensures { result ≡ rule.now }
     {
         Pairs::over(Graph::of(rule))
     }
 
-    /// The pairs of nodes of this graph.
+    /// Makes the pairs of nodes of this graph.
     pub fn over(graph: Graph) -> Pairs
         ensures { result ≡ graph }
     {
@@ -52,22 +52,22 @@ impl Pairs {
         Pairs { graph, starts }
     }
 
-    /// The rule that they are of.
+    /// Returns the rule of the pairs.
     pub fn rule(&self) -> &Rule
         ensures { result.now ≡ self.now }
     {
         self.graph.rule()
     }
 
-    /// The de Bruijn graph of that rule.
+    /// Returns the de Bruijn graph of the rule.
     pub fn graph(&self) -> &Graph
         ensures { result.now ≡ self.now }
     {
         &self.graph
     }
 
-    /// For each label and node the nodes to which the edges with that label lead from it, read to this
-    /// side.
+    /// Returns, for each label and node, the nodes to which the edges with that label lead from the node: forward on
+    /// the right side, backward on the left.
     pub(crate) fn edges(&self, side: Side) -> &EdgeRows
         ensures { AreEdgeRows side self.now result.now }
     {
@@ -77,7 +77,7 @@ impl Pairs {
         }
     }
 
-    /// How many pairs there are: N * N, from 4 to 256.
+    /// Returns the number of pairs: N * N, from 4 to 256.
     pub fn count(&self) -> u16
         ensures count { result ≡ pair_count self.now }
         ensures rule { IsRule self.now }
@@ -85,8 +85,8 @@ impl Pairs {
         self.rule().pairs()
     }
 
-    /// The pair to which the letters a and b lead from the nodes of p; `None` exactly where the labels
-    /// of the two edges differ.
+    /// Returns the pair to which the letters `a` and `b` lead from the nodes of pair `p`, or None if the labels of
+    /// the two edges differ.
     pub fn follow(&self, p: u16, a: u8, b: u8) -> Option<u16>
         requires pair { p < pair_count self.now }
         requires first { a < self.now.states }
@@ -97,8 +97,8 @@ impl Pairs {
         self.rule().follow(Side::Right, p, a, b)
     }
 
-    /// The pair whose nodes begin with the letters a and b, and from which an edge each leads to the
-    /// nodes of q, with equal labels; `None` exactly where the labels of these edges differ.
+    /// Returns the pair whose nodes begin with the letters `a` and `b` and from which edges with equal labels lead to
+    /// the nodes of pair `q`, or None if the labels of these edges differ.
     pub fn back(&self, q: u16, a: u8, b: u8) -> Option<u16>
         requires pair { q < pair_count self.now }
         requires first { a < self.now.states }
@@ -109,7 +109,7 @@ impl Pairs {
         self.rule().follow(Side::Left, q, a, b)
     }
 
-    /// The pair to which the letters a and b lead from p on this side: forward by `follow`, and backward by `back`.
+    /// Follows the letters `a` and `b` from pair `p`: by `follow` on the right side, and by `back` on the left.
     pub(crate) fn step(&self, side: Side, p: u16, a: u8, b: u8) -> Option<u16>
         requires pair { p < pair_count self.now }
         requires first { a < self.now.states }
@@ -120,8 +120,8 @@ impl Pairs {
         self.rule().follow(side, p, a, b)
     }
 
-    /// The step of `follow` in the marked graph, where t is p or, with the mark, p + N * N. The mark
-    /// stays, and comes where a and b differ.
+    /// Follows the letters `a` and `b` in the marked graph, where t is p without the mark and p + N * N with it. The
+    /// step sets the mark if the letters differ. Returns None if the labels of the two edges differ.
     pub fn marked(&self, t: u16, a: u8, b: u8) -> Option<u16>
         requires pair { t < 2 * pair_count self.now }
         requires first { a < self.now.states }

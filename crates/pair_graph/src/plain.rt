@@ -1,4 +1,4 @@
-//! The trims by plain loops over the steps of pairs.
+//! Trims by plain loops over the steps of pairs, to compare with the fast ones.
 
 ghost use Rattle.std.specs.Prelude.{◌≡◌, ◌<◌, ◌↔◌, length, IsTrue};
 ghost use Rattle.word_image.specs.Graphs.{pair_count};
@@ -8,7 +8,7 @@ use crate::pair_set::PairSet;
 use crate::pairs::Pairs;
 use word_image::Side;
 
-/// What `trim_forward` gives.
+/// Returns the same set as `trim_forward`.
 pub fn plain_forward(set: &PairSet, pairs: &Pairs) -> PairSet
     requires { length set.now ≡ pair_count pairs.now }
     ensures { IsTrimmedSet Side.Right pairs.now set.now result }
@@ -16,7 +16,7 @@ pub fn plain_forward(set: &PairSet, pairs: &Pairs) -> PairSet
     plain(set, pairs, Side::Right)
 }
 
-/// What `trim_backward` gives.
+/// Returns the same set as `trim_backward`.
 pub fn plain_backward(set: &PairSet, pairs: &Pairs) -> PairSet
     requires { length set.now ≡ pair_count pairs.now }
     ensures { IsTrimmedSet Side.Left pairs.now set.now result }
@@ -37,7 +37,7 @@ fn plain(set: &PairSet, pairs: &Pairs, side: Side) -> PairSet
     kept
 }
 
-/// Whether some letters lead from the pair into the set.
+/// Returns whether some step leads from the pair into the set.
 fn leads_into(set: &PairSet, pairs: &Pairs, side: Side, p: u16) -> bool
     requires count { length set.now ≡ pair_count pairs.now }
     requires pair { p < pair_count pairs.now }
@@ -51,7 +51,7 @@ fn leads_into(set: &PairSet, pairs: &Pairs, side: Side, p: u16) -> bool
     false
 }
 
-/// Whether the letter a and another one do.
+/// Returns whether a step with the first letter `a` leads from the pair into the set.
 fn leads_into_by(set: &PairSet, pairs: &Pairs, side: Side, p: u16, a: u8) -> bool
     requires count { length set.now ≡ pair_count pairs.now }
     requires pair { p < pair_count pairs.now }

@@ -1,4 +1,4 @@
--- Windows that differ in the letter at their end on a side, and first pairs that go on together for ever.
+-- Windows that differ only in the letter at their end on a side, and first pairs from which walks go on for ever.
 use Rattle.std.specs.Prelude.{◌≡◌, ◌≢◌, ℕ, ◌^◌, ◌<◌, slice_index}
 use Rattle.word_image.specs.LocalRules.{LocalRule}
 use Rattle.word_image.specs.Graphs.{pair_of}
@@ -8,11 +8,11 @@ use Rattle.word_image.specs.Sides.{other, PairGoes}
 use Rattle.word_image.specs.FirstPairs.{IsFirstOf}
 use Rattle.word_image.specs.Ends.{window_with, end_node}
 
--- the window with this letter at its end
+-- the window with letter a in place of the letter at its end
 abbrev pub with_end : Side → LocalRule → ℕ → ℕ → ℕ
 with_end side r w a = window_with side r (end_node (other side) r w) a
 
--- two windows with one label that differ in their last letter on this side alone
+-- two windows with equal labels that differ only in their last letter on this side
 pub record AreFirst (side : Side) (r : LocalRule) (w a : ℕ) : Type 0 where
   pub window : w < r.states ^ r.width
   pub letter : a < r.states
@@ -23,6 +23,6 @@ pub record AreFirst (side : Side) (r : LocalRule) (w a : ℕ) : Type 0 where
 abbrev pub end_pair : Side → LocalRule → ℕ → ℕ → ℕ
 end_pair side r w a = pair_of r (end_node side r w) (end_node side r (with_end side r w a))
 
--- a first pair goes on together for ever
+-- walks of any length go on from some first pair
 abbrev pub HasEndlessFirst : Side → LocalRule → Type 0
 HasEndlessFirst side r = (p : ℕ) × IsFirstOf side r p × IsEndless (PairGoes side r p)

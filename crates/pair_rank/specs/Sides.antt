@@ -1,4 +1,4 @@
--- What ranks and endless pairs are, forward and backward.
+-- Ranks and endless pairs, forward and backward.
 use Rattle.std.specs.Prelude.{◌≡◌, ℕ, ◌+◌, ◌-◌, ◌*◌, ◌/◌, ◌<◌, ◌↔◌, List, Bool, Option, None, IsTrue, MatchOption, length, slice_index_or}
 use Rattle.word_image.specs.LocalRules.{LocalRule, node_count, most_nodes}
 use Rattle.word_image.specs.Graphs.{pair_count, most_pairs}
@@ -7,7 +7,7 @@ use Rattle.word_image.specs.declared.side.Side.{Side}
 use Rattle.word_image.specs.Sides.{Together, PairGoes}
 use Rattle.pair_graph.specs.PairSets.{holds}
 
--- the rank of the pair, and nothing where the pair is endless
+-- the rank of the pair, or None if the pair is endless
 abbrev pub IsRankOf : Side → LocalRule → ℕ → Option ℕ → Type 0
 IsRankOf side r p rank = MatchOption rank (IsEndless (PairGoes side r p)) (IsRank (PairGoes side r p))
 
@@ -16,20 +16,20 @@ pub record AreEndless (side : Side) (r : LocalRule) (set : List Bool) : Type 0 w
   pub count : length set ≡ pair_count r
   pub pairs : (p : ℕ) → p < pair_count r → (IsTrue (holds set p) ↔ IsEndless (PairGoes side r p))
 
--- the greatest rank that two nodes may have: below N * (N - 1) / 2 for N nodes
+-- the greatest rank that two nodes can have, which is less than N * (N - 1) / 2 for N nodes
 abbrev pub most_rank : ℕ
 most_rank = (most_pairs - most_nodes) / 2 - 1
 
--- the rank of u and v in a table that has it at 16 * u + v
+-- the rank of u and v in a table in which it is at 16 * u + v
 abbrev pub rank_at : List (Option ℕ) → ℕ → ℕ → Option ℕ
 rank_at ranks u v = slice_index_or ranks (most_nodes * u + v) None
 
--- each rank is exact, and none stands where the two nodes are endless
+-- each rank is exact, and None stands for two endless nodes
 abbrev pub AreRanks : Side → LocalRule → List (Option ℕ) → Type 0
 AreRanks side r ranks =
     (u v : ℕ) → u < node_count r → v < node_count r → MatchOption (rank_at ranks u v) (IsEndless (Together side r u v)) (IsRank (Together side r u v))
 
--- of n nodes v is one whose pair with u is in the set, and no longer in that after it
+-- the pair (u, v) is in the set and not in the set after it
 pub record HasFallen (n : ℕ) (set after : List Bool) (u v : ℕ) : Type 0 where
   pub node : v < n
   pub before : IsTrue (holds set (u * n + v))

@@ -1,4 +1,4 @@
-//! The endless pairs of a rule.
+//! The pairs of a rule that have no finite rank.
 
 ghost use Rattle.std.specs.Prelude.{◌≡◌, ◌<◌, ◌↔◌, ℕ, IsBitSet};
 ghost use Rattle.word_image.specs.LocalRules.{IsRule, node_count, most_nodes};
@@ -9,14 +9,15 @@ use pair_graph::{PairSet, Pairs};
 use std::marker::Model;
 use word_image::{Rule, Side};
 
-/// The pairs of nodes of a rule that are endless, forward and backward, seen as that rule.
+/// The pairs of nodes of a rule that are endless, forward and backward. In contracts it is the rule. Two nodes are
+/// endless if walks of any length begin at them, or end at them, with equal labels.
 #[derive(Debug, Drop)]
 pub struct Endless {
     // The rule.
     pub(crate) rule: Rule,
-    // The pairs that begin together for every n.
+    // The pairs from which walks of any length with equal labels begin.
     pub(crate) forward: PairSet,
-    // The pairs that end together for every n.
+    // The pairs at which walks of any length with equal labels end.
     pub(crate) backward: PairSet,
 }
 
@@ -33,7 +34,7 @@ impl Model for Endless {
 }
 
 impl Endless {
-    /// The endless pairs of the rule of these pairs.
+    /// Finds the endless pairs of a rule.
     pub fn over(pairs: &Pairs) -> Endless
         ensures { result ≡ pairs.now }
     {
@@ -44,7 +45,7 @@ impl Endless {
         }
     }
 
-    /// The rule that they are of.
+    /// Returns the rule of the pairs.
     pub fn rule(&self) -> &Rule
         ensures value { result.now ≡ self.now }
         ensures rule { IsRule self.now }
@@ -52,7 +53,8 @@ impl Endless {
         &self.rule
     }
 
-    /// The nodes with which u begins together for every n; node v is bit v.
+    /// Returns the nodes v for which, for every n, two words of n + m - 1 letters with the same image begin with u
+    /// and v. Bit v stands for node v.
     pub fn forward(&self, u: u8) -> u16
         requires { u < node_count self.now }
         ensures { (v : ℕ) → v < most_nodes → (IsBitSet result v ↔ IsEndless (BeginTogether self.now u v)) }
@@ -60,7 +62,8 @@ impl Endless {
         self.forward.row(u)
     }
 
-    /// The nodes with which u ends together for every n; node v is bit v.
+    /// Returns the nodes v for which, for every n, two words of n + m - 1 letters with the same image end with u and
+    /// v. Bit v stands for node v.
     pub fn backward(&self, u: u8) -> u16
         requires { u < node_count self.now }
         ensures { (v : ℕ) → v < most_nodes → (IsBitSet result v ↔ IsEndless (EndTogether self.now u v)) }

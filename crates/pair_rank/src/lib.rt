@@ -1,25 +1,23 @@
-//! The ranks of pairs of nodes: for how long two nodes lead on, or have been led, with equal labels
-//! (Sutner 1991).
+//! The ranks of pairs of nodes: how long walks from two nodes, or to two nodes, can have equal labels (Sutner 1991).
 //!
-//! Two nodes begin together for n where two words of n + m - 1 letters that begin with them have one
-//! image. Their forward rank is the greatest such n, and they are endless where every n is one. The
-//! backward rank is the same for words that end with them.
+//! The forward rank of two nodes is the greatest n for which two words of n + m - 1 letters with the same image begin
+//! with these nodes. The nodes are endless if there are such words for every n. The backward rank is the same for
+//! words that end with these nodes.
 //!
-//! Rule 204 gives the middle letter of its window. Its nodes 00 and 01 begin with different middle
-//! letters: the windows that begin with 00 all give 0, and those that begin with 01 give 1. So they
-//! begin together for 0 alone, and their forward rank is 0. Words that end with them may be equal but
-//! for the last letter, which no window has in its middle: they end together for every n.
+//! Rule 204 gives the middle letter of its window. The windows that begin with the node 00 all give 0, and the
+//! windows that begin with 01 all give 1. So the nodes 00 and 01 have the forward rank 0. Two words that end with
+//! these nodes can differ only in their last letter, which is the middle of no window: the nodes are endless
+//! backward.
 //!
-//! The pairs that begin together for n + 1 are those from which two edges with one label lead to a
-//! pair that does for n. So rounds trim the set of all pairs, in round n by the pairs of rank n, and
-//! stop where a round leaves all: what is left is endless. Backward the same rounds read the edges
-//! backwards. A pair of rank n leads to pairs of each rank below n, two nodes have one rank in either
-//! order, and a pair of a node with itself is endless: so a finite rank is below N * (N - 1) / 2, at most
-//! 119.
+//! Two nodes have a rank of at least n + 1 if two edges with equal labels lead from them to nodes with a rank of at
+//! least n. So the ranks are found in rounds. Each round trims the set of the remaining pairs, and round n removes
+//! the pairs of rank n. The rounds end when nothing is removed, and the remaining pairs are endless. For backward
+//! ranks the rounds follow edges backward. A pair of rank n leads to pairs of each smaller rank, the pairs (u, v) and
+//! (v, u) have equal ranks, and (u, u) is endless. So a finite rank is less than N * (N - 1) / 2, at most 119.
 //!
-//! For k states and N = k^(m - 1) nodes a set of pairs is N rows of bits, and a round takes time
-//! **O(k·N)** in operations on rows, each `of` at most **O(k·N·N²)**, and each look-up **O(1)**. No call
-//! takes memory but [`Ranks::row`], which copies all ranks of a side in time and memory **O(N²)**.
+//! If there are k states and N = k^(m - 1) nodes, a set of pairs is N rows of bits. A round takes time **O(k·N)** in
+//! operations on rows, `of` at most **O(k·N·N²)**, and each look-up **O(1)**. Only [`Ranks::row`] needs memory: it
+//! copies all ranks of a side in time and memory **O(N²)**.
 #![tactic(auto)]
 
 mod endless;

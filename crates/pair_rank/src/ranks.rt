@@ -13,14 +13,14 @@ use pair_graph::Pairs;
 use std::marker::Model;
 use word_image::{MOST_NODES, Rule, Side};
 
-/// The forward and backward ranks of all pairs of nodes of a rule, seen as that rule.
+/// The forward and backward ranks of all pairs of nodes of a rule. In contracts it is the rule.
 #[derive(Drop)]
 pub struct Ranks {
     // The pairs that have no finite rank.
     endless: Endless,
-    // The forward rank of each two nodes.
+    // The forward rank of each pair of nodes.
     forward: RankTable,
-    // The backward rank of each two nodes.
+    // The backward rank of each pair of nodes.
     backward: RankTable,
 }
 
@@ -37,14 +37,14 @@ impl Model for Ranks {
 }
 
 impl Ranks {
-    /// The ranks of this rule.
+    /// Finds the ranks of this rule.
     pub fn of(rule: &Rule) -> Ranks
         ensures { result ≡ rule.now }
     {
         Ranks::over(&Pairs::of(rule))
     }
 
-    /// The ranks of the rule of these pairs, which aren't made again.
+    /// Finds the ranks of the rule of these pairs.
     pub fn over(pairs: &Pairs) -> Ranks
         ensures { result ≡ pairs.now }
     {
@@ -61,7 +61,7 @@ impl Ranks {
         }
     }
 
-    /// The rule that they are of.
+    /// Returns the rule of the ranks.
     pub fn rule(&self) -> &Rule
         ensures value { result.now ≡ self.now }
         ensures rule { IsRule self.now }
@@ -69,14 +69,15 @@ impl Ranks {
         self.endless.rule()
     }
 
-    /// The endless pairs of that rule.
+    /// Returns the endless pairs of the rule.
     pub fn endless(&self) -> &Endless
         ensures { result.now ≡ self.now }
     {
         &self.endless
     }
 
-    /// For how long two nodes go on together to this side: forward to the right, and backward to the left.
+    /// Returns the forward rank of two nodes on the right side, and the backward rank on the left. None means that
+    /// the nodes are endless.
     pub fn rank(&self, side: Side, u: u8, v: u8) -> Option<u16>
         requires first { u < node_count self.now }
         requires second { v < node_count self.now }
@@ -89,8 +90,8 @@ impl Ranks {
         }
     }
 
-    /// For how long two nodes begin together: the greatest n such that two words of n + m - 1 letters
-    /// with one image begin with u and v; `None` exactly where there are such words for every n.
+    /// Returns the forward rank of two nodes: the greatest n for which two words of n + m - 1 letters with the same
+    /// image begin with u and v. Returns None if there are such words for every n.
     pub fn forward(&self, u: u8, v: u8) -> Option<u16>
         requires first { u < node_count self.now }
         requires second { v < node_count self.now }
@@ -100,8 +101,8 @@ impl Ranks {
         self.forward[MOST_NODES * usize::from(u) + usize::from(v)]
     }
 
-    /// For how long two nodes end together: the greatest n such that two words of n + m - 1 letters
-    /// with one image end with u and v; `None` exactly where there are such words for every n.
+    /// Returns the backward rank of two nodes: the greatest n for which two words of n + m - 1 letters with the same
+    /// image end with u and v. Returns None if there are such words for every n.
     pub fn backward(&self, u: u8, v: u8) -> Option<u16>
         requires first { u < node_count self.now }
         requires second { v < node_count self.now }
@@ -112,8 +113,8 @@ impl Ranks {
     }
 }
 
-/// A rank of two nodes, to either side, is below N (N - 1) / 2 for N nodes, so it is at most 119. Each
-/// lesser number is a rank too, two nodes have one rank in either order, and a node has none with itself.
+/// Law: the ranks of two nodes are less than N (N - 1) / 2 if there are N nodes, so at most 119. Each number below a
+/// rank is a rank of other nodes. Two nodes have the same rank in either order, and a node has no rank with itself.
 pub fn ranks_are_few()
     ensures few { (side : Side) (r : LocalRule) (u v n : ℕ) → IsRule r → IsRank (Together side r u v) n → 2 * (n + 1) + node_count r ≤ pair_count r }
     ensures most { (side : Side) (r : LocalRule) (u v n : ℕ) → IsRule r → IsRank (Together side r u v) n → n ≤ most_rank }

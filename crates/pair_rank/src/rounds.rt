@@ -1,4 +1,4 @@
-//! Rounds that trim the set of all pairs, until one leaves all.
+//! Rounds that trim the set of all pairs until a round removes nothing.
 
 ghost use Rattle.std.specs.Prelude.{◌≡◌, ℕ, ◌*◌, ◌<◌, ◌≤◌, IsBitSet, Some, length};
 ghost use Rattle.word_image.specs.LocalRules.{IsRule, most_nodes};
@@ -7,13 +7,13 @@ ghost use Rattle.pair_rank.specs.Sides.{AreEndless, AreRanks, HasFallen, rank_at
 use pair_graph::{PairSet, Pairs};
 use word_image::{MOST_NODES, MOST_PAIRS, Side};
 
-/// The greatest finite rank that is possible.
+/// The greatest possible finite rank.
 const MOST_RANK: u16 = 119;
 
-/// The rank of each two nodes u and v, at 16 * u + v; `None` where they are endless.
+/// The rank of the nodes u and v at 16 * u + v, or None if they are endless.
 pub type RankTable = [Option<u16>; MOST_PAIRS];
 
-/// The pairs that are endless on this side.
+/// Returns the pairs that are endless on this side.
 pub fn endless_pairs(pairs: &Pairs, side: Side) -> PairSet
     ensures endless { AreEndless side pairs.now result }
     ensures rule { IsRule pairs.now }
@@ -29,7 +29,7 @@ pub fn endless_pairs(pairs: &Pairs, side: Side) -> PairSet
     set
 }
 
-/// The rank of each pair of nodes on this side, and the pairs that are endless.
+/// Returns the rank of each pair of nodes on this side, and the endless pairs.
 pub fn exact_ranks(pairs: &Pairs, side: Side) -> (RankTable, PairSet)
     ensures ranks { AreRanks side pairs.now result.0 }
     ensures endless { AreEndless side pairs.now result.1 }
@@ -49,7 +49,7 @@ pub fn exact_ranks(pairs: &Pairs, side: Side) -> (RankTable, PairSet)
     (ranks, set)
 }
 
-/// Gives the rank n to the pairs that have fallen.
+/// Stores the rank n for the pairs that this round removed.
 fn note_fallen(ranks: &mut RankTable, nodes: u8, set: &PairSet, after: &PairSet, n: u16)
     requires nodes { nodes ≤ most_nodes }
     requires before { length set.now ≡ nodes * nodes }
@@ -62,7 +62,7 @@ fn note_fallen(ranks: &mut RankTable, nodes: u8, set: &PairSet, after: &PairSet,
     }
 }
 
-/// Gives the rank n to the pairs of u with the nodes of the set.
+/// Stores the rank n for the pairs of u with the nodes of the set.
 fn give_rank(ranks: &mut RankTable, u: u8, set: u16, n: u16)
     requires { u < most_nodes }
     ensures given { (v : ℕ) → v < most_nodes → IsBitSet set v → rank_at ranks.new u v ≡ Some n }

@@ -1,10 +1,10 @@
--- How many preimages a configuration has, and that they are separated.
+-- The number of preimages of a configuration, and separated preimages.
 use Rattle.std.specs.Prelude.{◌≡◌, ℕ, ◌-◌, ◌<◌, ℤ}
 use Rattle.word_image.specs.LocalRules.{LocalRule}
 use Rattle.tail_config.specs.Configs.{Config, IsConfig, run, image_of}
 use Rattle.config_laws.specs.Maps.{Differ}
 
--- y has n preimages: they are numbered from 0 to n - 1, each once
+-- y has n preimages: the numbers from 0 to n - 1 name each of them once
 pub record ArePreimages (r : LocalRule) (y : Config) (n : ℕ) (xs : ℕ → Config) : Type 0 where
   pub configs : (i : ℕ) → i < n → IsConfig r.states (xs i)
   pub maps : (i : ℕ) → i < n → image_of r (xs i) ≡ y
@@ -19,6 +19,6 @@ IsToOne r n = (y : Config) → IsConfig r.states y → (xs : ℕ → Config) × 
 abbrev pub IsConstantToOne : LocalRule → Type 0
 IsConstantToOne r = (n : ℕ) × IsToOne r n
 
--- different preimages of one configuration are separated: they differ in each run of m - 1 letters
+-- different preimages of a configuration are separated: they differ within any m - 1 adjacent letters
 abbrev pub HasSeparatedPreimages : LocalRule → Type 0
 HasSeparatedPreimages r = (x y : Config) (i : ℤ) → IsConfig r.states x → IsConfig r.states y → image_of r x ≡ image_of r y → run x i (r.width - 1) ≡ run y i (r.width - 1) → x ≡ y

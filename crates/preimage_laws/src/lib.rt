@@ -1,27 +1,29 @@
-//! How many preimages configurations have: a rule is open exactly if all have the same number of them
-//! (Hedlund 1969).
+//! The number of preimages of a configuration: a rule is open if and only if all configurations have the same number
+//! of preimages (Hedlund 1969).
 //!
-//! Under rule 90, the sum of two neighbours, each configuration has four preimages: two letters side by side
-//! and the image tell all the others, and there are four pairs of letters. Under rule 30 zeros have two
-//! preimages, zeros and ones. It has a right split, so it isn't open, and another configuration has another
-//! number of preimages.
+//! Under rule 90, the sum of the two neighbours, each configuration has four preimages: two adjacent letters and the
+//! image determine all other letters, and there are four pairs of letters. Under rule 30 the configuration of zeros
+//! has two preimages, zeros and ones. Rule 30 has a right split, so it isn't open, and some other configuration has
+//! another number of preimages.
 //!
-//! Open gives one number. Let two preimages of a configuration have the same m - 1 letters at a place. The
-//! left part of one and the right part of the other, joined there, have the same image, so under a rule
-//! that is closing on both sides all three are equal. Hence the nodes at a place tell the preimages. What is
-//! read for long enough around the place tells which nodes are there, and so how many. The left part of one
-//! configuration and the right part of another make a third, which has as many preimages as either.
+//! If a rule is open, there is one number. Suppose that two preimages of a configuration have the same m - 1 letters
+//! at a place. The left part of one and the right part of the other, joined there, have the same image. The rule
+//! closes on both sides, so all three are equal. Hence different preimages have different nodes at each place. A long
+//! enough part of the image around the place determines which nodes these are, and so their number. The left part of
+//! one configuration and the right part of another form a third one, which has the same number of preimages as
+//! either.
 //!
-//! One number n gives open. Then the rule is surjective, so the preimages of a periodic configuration are
-//! periodic. Let two of them have the same m - 1 letters at a place. What they make when they are joined
-//! there is a preimage too, so it is periodic, and it agrees far out with either: all three are equal. A
-//! split is two preimages of a configuration that repeats far out, with the same m - 1 letters at a place.
-//! A long part of it around that place, again and again, has n preimages, which have n nodes there. Each
-//! of these is the node of a preimage of the whole. So its n preimages have n nodes, and no two have the same.
+//! If there is one number n, the rule is open. It is surjective, so the preimages of a periodic configuration are
+//! periodic. Suppose that two of them have the same m - 1 letters at a place. Joined there, they form another
+//! preimage, which is periodic too. It agrees far out with either one, so all three are equal. A split consists of
+//! two preimages of a configuration with periodic tails that have the same m - 1 letters at a place. Repeat a long
+//! part of this configuration around the place for ever: it has n preimages, with n different nodes at the place.
+//! Each of these nodes belongs to a preimage of the whole configuration, too. So its n preimages have n different
+//! nodes, and there is no split.
 //!
 //! No law uses the law of the excluded middle.
 //!
-//! The functions here do nothing, and take no time. Each carries a law by its contract.
+//! The functions of this crate do nothing. The contract of each states a law.
 #![tactic(auto)]
 
 ghost use Rattle.std.specs.Prelude.{ℕ, ◌≤◌, ◌↔◌};
@@ -29,9 +31,9 @@ ghost use Rattle.word_image.specs.LocalRules.{LocalRule, IsRule, node_count};
 ghost use Rattle.tail_config.specs.Tails.{IsInjective, IsOpen};
 ghost use Rattle.preimage_laws.specs.PreimageCounts.{IsToOne, IsConstantToOne, HasSeparatedPreimages};
 
-/// A rule is open exactly if all configurations have the same number of preimages (Hedlund 1969). This
-/// number is at least 1 and at most k^(m - 1), and it is 1 exactly if the rule is injective. A rule is
-/// open exactly if different preimages of one configuration differ in each run of m - 1 letters.
+/// Law: a rule is open if and only if all configurations have the same number of preimages (Hedlund 1969). This
+/// number is from 1 to k^(m - 1), and it is 1 if and only if the rule is injective. A rule is open if and only if
+/// different preimages of a configuration differ within any m - 1 adjacent letters.
 pub fn open_is_constant_to_one()
     ensures exactly { (r : LocalRule) → IsRule r → (IsOpen r ↔ IsConstantToOne r) }
     ensures number { (r : LocalRule) (n : ℕ) → IsRule r → IsToOne r n → (1 ≤ n) × (n ≤ node_count r) }

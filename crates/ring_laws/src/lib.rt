@@ -1,6 +1,6 @@
-//! Laws of rings and of their sums: what a rule gains along a word, and the flux that tells whether
-//! every ring keeps its sum (Hattori and Takesue 1991).
+//! Laws of rings and their sums: how a rule changes the sum along a word, and the flux, which shows whether every
+//! ring keeps its sum (Hattori and Takesue 1991).
 //!
-//! There is nothing to run here. The lemmas speak of word_image's definitions alone, and stand in a
-//! crate of their own since the decider and the checker of certificates both cite them.
+//! This crate has no functions. Its lemmas only use definitions of word_image. Both the decider and the checker of
+//! certificates use them.
 #![tactic(auto)]

@@ -1,28 +1,28 @@
--- Rules made of rules: shifted, recoloured, one after the other, widened and trimmed.
+-- Rules that are made of rules: shifted, permuted, composed, widened and trimmed.
 use Rattle.std.specs.Prelude.{◌≡◌, ℕ, ◌+◌, ◌-◌, ◌^◌, ◌<◌, ◌≤◌, List, length, map, take, drop, slice_index, ℤ, pos, ◌+ℤ◌}
 use Rattle.word_image.specs.LocalRules.{LocalRule, IsWord, local_map}
 use Rattle.word_image.specs.Words.{image}
 use Rattle.tail_config.specs.Tails.{TailConfig, IsTail, image_cell}
 
--- the image cells of every configuration are those that it has under the other rule, at every integer
+-- each configuration has the same image under both rules
 abbrev pub KeepsImages : LocalRule → LocalRule → Type 0
 KeepsImages r g = (t : TailConfig) (i : ℤ) → IsTail r.states t → image_cell g t i ≡ image_cell r t i
 
--- the rule with the same table, read further to the right
+-- the rule with the same table and its window moved to the right
 abbrev pub shifted : LocalRule → ℤ → LocalRule
 shifted r by = record { states = r.states; width = r.width; offset = r.offset +ℤ by; table = r.table }
 
--- a list of k different letters below k
+-- a permutation of the k letters
 pub record IsRecolouring (k : ℕ) (colours : List ℕ) : Type 0 where
   pub word : IsWord k colours
   pub long : length colours ≡ k
   pub different : (a b : ℕ) → a < k → b < k → slice_index colours a ≡ slice_index colours b → a ≡ b
 
--- the word with its letters in the new colours
+-- the word with its letters renamed
 abbrev pub recoloured : List ℕ → List ℕ → List ℕ
 recoloured colours w = map (slice_index colours) w
 
--- g gives on each recoloured window the new colour of what f gives on the window
+-- for each renamed window g gives the new name of the letter that f gives for the window
 pub record IsRecoloured (colours : List ℕ) (f g : LocalRule) : Type 0 where
   pub states : g.states ≡ f.states
   pub width : g.width ≡ f.width
@@ -36,19 +36,19 @@ pub record IsComposed (first second g : LocalRule) : Type 0 where
   pub offset : g.offset ≡ first.offset +ℤ second.offset
   pub images : (x : List ℕ) → IsWord first.states x → g.width ≤ length x + 1 → image g x ≡ image second (image first x)
 
--- width m, with cells to the right that are ignored
+-- the rule at width m, with ignored cells on the right
 pub record IsWidened (r : LocalRule) (m : ℕ) (g : LocalRule) : Type 0 where
   pub states : g.states ≡ r.states
   pub width : g.width ≡ m
   pub offset : g.offset ≡ r.offset
   pub images : KeepsImages r g
 
--- what the rule gives on a window doesn't depend on its first d and its last e letters
+-- the first d and the last e letters of a window never change the letter that the rule gives
 abbrev pub Ignores : LocalRule → ℕ → ℕ → Type 0
 Ignores r d e = (v w : List ℕ) → IsWord r.states v → IsWord r.states w → length v ≡ r.width → length w ≡ r.width
     → drop d (take (r.width - e) v) ≡ drop d (take (r.width - e) w) → local_map r v ≡ local_map r w
 
--- first as many first cells are dropped as are ignored, then as many last ones, and two cells are left at least
+-- all ignored first cells are dropped, and then all ignored last cells, down to a width of 2
 pub record IsTrimmed (r g : LocalRule) : Type 0 where
   pub first : ℕ
   pub last : ℕ

@@ -24,11 +24,11 @@ sum_of_products = refl
 product_of_sums : composed sum_mod_two both ≡ record { states = 2; width = 3; offset = pos 0; table = 0 ∷ 0 ∷ 1 ∷ 0 ∷ 0 ∷ 1 ∷ 0 ∷ 0 ∷ [] }
 product_of_sums = refl
 
--- on a word, the image of its image
+-- the image of a word under the composition is the image of its image
 sum_of_products-image : image (composed both sum_mod_two) (1 ∷ 1 ∷ 0 ∷ 1 ∷ []) ≡ image sum_mod_two (image both (1 ∷ 1 ∷ 0 ∷ 1 ∷ []))
 sum_of_products-image = refl
 
--- the sum, with a third cell that is ignored
+-- the sum, with a third cell that it ignores
 widened-sum : widened sum_mod_two 3 ≡ record { states = 2; width = 3; offset = pos 0; table = 0 ∷ 0 ∷ 1 ∷ 1 ∷ 1 ∷ 1 ∷ 0 ∷ 0 ∷ [] }
 widened-sum = refl
 
@@ -40,17 +40,17 @@ without_first-204 = refl
 recoloured-word : recoloured (1 ∷ 2 ∷ 0 ∷ []) (0 ∷ 0 ∷ 2 ∷ 1 ∷ []) ≡ 1 ∷ 1 ∷ 0 ∷ 2 ∷ []
 recoloured-word = refl
 
--- from place -1 on, three cells may be shifted by 15 and not by 16
+-- a window of three cells at offset -1 can be shifted by 15, and not by 16
 shift_fault-204 : shift_fault rule204 (pos 15) ≡ None
 shift_fault-204 = refl
 
 shift_fault-204_far : shift_fault rule204 (pos 16) ≡ Some Offset
 shift_fault-204_far = refl
 
--- three states at width 3 have 9 words of two letters, and one after the other 81 of four
+-- a rule of three states and width 3 has 9 words of two letters, and its composition with itself 81 words of four
 composed_nodes : compose_fault (record { states = 3; width = 3; offset = pos 0; table = [] }) (record { states = 3; width = 3; offset = pos 0; table = [] }) ≡ Some Nodes
 composed_nodes = refl
 
--- no rule is widened to fewer cells
+-- no rule can be widened to fewer cells
 widen_fault-204 : widen_fault rule204 2 ≡ Some Width
 widen_fault-204 = refl

@@ -1,4 +1,4 @@
--- How it is written why rules make no rule.
+-- The words for the faults of made rules.
 use Rattle.std.specs.Prelude.{ℕ, List, codes}
 use Rattle.rule_algebra.specs.declared.fault.AlgebraFault.{AlgebraFault}
 use Rattle.rule_algebra.specs.declared.fault.AlgebraFault.TheVariants as algebra

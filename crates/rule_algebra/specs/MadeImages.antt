@@ -1,4 +1,4 @@
--- What shifted, recoloured and composed rules do with configurations and words.
+-- Images of configurations and words under shifted, permuted and composed rules.
 use Rattle.std.specs.Prelude.{◌≡◌, ℕ, List, map, ℤ, pos, ◌+ℤ◌}
 use Rattle.std.specs.List.{range_with_len}
 use Rattle.word_image.specs.LocalRules.{LocalRule, IsWord, local_map}
@@ -6,15 +6,15 @@ use Rattle.word_image.specs.Words.{image}
 use Rattle.tail_config.specs.Tails.{TailConfig, IsTail, image_cell}
 use Rattle.rule_algebra.specs.Algebra.{recoloured}
 
--- image cell i is the old one at i + by
+-- image cell i is the old image cell i + by
 abbrev pub ShiftsImages : LocalRule → ℤ → LocalRule → Type 0
 ShiftsImages r by g = (t : TailConfig) (i : ℤ) → image_cell g t i ≡ image_cell r t (i +ℤ by)
 
--- the image of every recoloured word is the recoloured image
+-- the image of every renamed word is the renamed image
 abbrev pub RecoloursImages : List ℕ → LocalRule → LocalRule → Type 0
 RecoloursImages colours f g = (x : List ℕ) → IsWord f.states x → image g (recoloured colours x) ≡ recoloured colours (image f x)
 
--- each image cell under g is what the second rule gives on the first rule's image cells
+-- each image cell under g is the letter that the second rule gives for the first rule's image cells
 abbrev pub ComposesCells : LocalRule → LocalRule → LocalRule → Type 0
 ComposesCells first second g = (t : TailConfig) (i : ℤ) → IsTail first.states t
     → image_cell g t i ≡ local_map second (map (λ j. image_cell first t (i +ℤ second.offset +ℤ pos j)) (range_with_len 0 second.width))

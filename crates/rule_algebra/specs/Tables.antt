@@ -1,11 +1,11 @@
--- The composed, the widened and the narrower rule, by their tables.
+-- Composed, widened and narrower rules by their tables.
 use Rattle.std.specs.Prelude.{◌≡◌, ℕ, ◌+◌, ◌-◌, ◌<◌, ◌≤◌, List, length, take, drop, slice_index, pos, ◌+ℤ◌}
 use Rattle.word_image.specs.LocalRules.{LocalRule, IsWord, local_map, node_count, most_states}
 use Rattle.word_image.specs.Words.{image}
 use Rattle.rule_algebra.specs.Algebra.{Ignores}
 use Rattle.rule_algebra.specs.Tabulated.{table_by}
 
--- the second rule after the first
+-- the composition of two rules
 abbrev pub composed : LocalRule → LocalRule → LocalRule
 composed first second = record {
   states = first.states;
@@ -14,7 +14,7 @@ composed first second = record {
   table = table_by first.states (first.width + second.width - 1) (λ w. local_map second (image first w));
 }
 
--- the rule at width m, whose last cells are ignored
+-- the rule at width m, which ignores its last cells
 abbrev pub widened : LocalRule → ℕ → LocalRule
 widened r m = record {
   states = r.states;
@@ -23,7 +23,7 @@ widened r m = record {
   table = table_by r.states m (λ w. local_map r (take r.width w));
 }
 
--- the rule without its first cell, as the rule is where the first cell is the letter 0
+-- the rule that is left if the first cell is always 0
 abbrev pub without_first : LocalRule → LocalRule
 without_first r = record {
   states = r.states;
@@ -32,20 +32,20 @@ without_first r = record {
   table = take (node_count r) r.table;
 }
 
--- the letters that have the colours of the letters below n, at these colours, and letters below k elsewhere
+-- at the colours of the letters below n these letters, and letters below k elsewhere
 pub record AreOldLetters (k : ℕ) (colours : List ℕ) (n : ℕ) (letters : List ℕ) : Type 0 where
   pub long : length letters ≡ most_states
   pub word : IsWord k letters
   pub back : (a : ℕ) → a < n → slice_index letters (slice_index colours a) ≡ a
 
--- g gives on a window without its first n letters what r gives on the window
+-- g gives for a window without its first n letters the letter that r gives for the window
 pub record IsRest (r : LocalRule) (n : ℕ) (g : LocalRule) : Type 0 where
   pub states : g.states ≡ r.states
   pub width : n + g.width ≡ r.width
   pub offset : g.offset ≡ r.offset +ℤ pos n
   pub letters : (w : List ℕ) → IsWord r.states w → length w ≡ r.width → local_map g (drop n w) ≡ local_map r w
 
--- g is r without as many first cells as are ignored, where two are left
+-- g is r without all ignored first cells, down to a width of 2
 pub record DropsFirsts (r g : LocalRule) : Type 0 where
   pub count : ℕ
   pub rest : IsRest r count g

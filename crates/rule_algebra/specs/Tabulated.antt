@@ -1,8 +1,8 @@
--- The table of what is given on each window.
+-- The table of a function of windows.
 use Rattle.std.specs.Prelude.{ℕ, ◌^◌, List, map}
 use Rattle.std.specs.List.{range_with_len}
 use Rattle.word_image.specs.LocalRules.{word_of}
 
--- the table with the letters that a function gives on the windows of m letters below k
+-- the table of the letters that a function gives for the windows of m letters below k
 abbrev pub table_by : ℕ → ℕ → (List ℕ → ℕ) → List ℕ
 table_by k m f = map (λ v. f (word_of k m v)) (range_with_len 0 (k ^ m))

@@ -1,4 +1,4 @@
-//! One rule after another.
+//! Compositions: one rule after another.
 ghost use Rattle.std.specs.Prelude.{◌≡◌, ◌≤◌, ◌+◌, ◌-◌, ◌<◌, ◌^◌, IfOk, slice_index};
 ghost use Rattle.std.specs.Result.{result_err};
 ghost use Rattle.word_image.specs.LocalRules.{IsRule, value, word_of, most_windows};
@@ -11,11 +11,11 @@ ghost use Rattle.rule_algebra.specs.Tables.{composed};
 use crate::fault::{AlgebraFault, check_limits};
 use word_image::{Rule, value_by};
 
-/// The second rule after the first: its image is the second rule's image of the first rule's image.
-/// Its width is the sum of the widths less 1, its offset the sum of the offsets.
+/// Returns the composition of two rules: its image is the second rule's image of the first rule's image. Its width is
+/// the sum of the two widths minus 1, and its offset the sum of the two offsets.
 ///
-/// `States` comes exactly where the two rules have not one number of states; then `Width`, `Nodes`
-/// and `Offset`, in this order, where that limit is broken.
+/// Returns `States` if the rules have different numbers of states, and otherwise the first of `Width`, `Nodes` and
+/// `Offset` whose limit the composition breaks, if any.
 pub fn compose(first: &Rule, second: &Rule) -> Result<Rule, AlgebraFault>
     ensures fault { result_err result ≡ compose_fault first.now second.now }
     ensures composed { IfOk result (IsComposed first.now second.now) }
@@ -25,7 +25,7 @@ pub fn compose(first: &Rule, second: &Rule) -> Result<Rule, AlgebraFault>
     Ok(composed_rule(first, second))
 }
 
-/// The offset of the second rule after the first, if there is such a rule; else the first fault.
+/// Returns the offset of the composition of two rules, or its first fault.
 fn check_composed(first: &Rule, second: &Rule) -> Result<i8, AlgebraFault>
     ensures fault { result_err result ≡ compose_fault first.now second.now }
     ensures rules { IsRule first.now × IsRule second.now }
@@ -37,7 +37,7 @@ fn check_composed(first: &Rule, second: &Rule) -> Result<i8, AlgebraFault>
     check_limits(first.k(), m, i16::from(first.o()) + i16::from(second.o()))
 }
 
-/// The second rule after the first, where there is such a rule.
+/// Returns the composition of two rules that can be composed.
 fn composed_rule(first: &Rule, second: &Rule) -> Rule
     requires { compose_fault first.now second.now ≡ None }
     ensures { result ≡ composed first.now second.now }
@@ -52,7 +52,7 @@ fn composed_rule(first: &Rule, second: &Rule) -> Rule
     )
 }
 
-/// The value of the image of a window, of which n letters are the image.
+/// Returns the value of the image of a window. The image has `n` letters.
 fn image_value(rule: &Rule, n: u8, window: u16) -> u16
     requires some { 1 ≤ n }
     requires fits { rule.now.states ^ (rule.now.width + n - 1) ≤ most_windows }
@@ -64,7 +64,7 @@ fn image_value(rule: &Rule, n: u8, window: u16) -> u16
     value_by(rule.k(), n, |start| image_letter(rule, n, window, start))
 }
 
-/// The letter at a place of the image of a window, of which n letters are the image.
+/// Returns the letter at place `start` of the image of a window. The image has `n` letters.
 fn image_letter(rule: &Rule, n: u8, window: u16, start: u8) -> u8
     requires fits { rule.now.states ^ (rule.now.width + n - 1) ≤ most_windows }
     requires window { window < rule.now.states ^ (rule.now.width + n - 1) }

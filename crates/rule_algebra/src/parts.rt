@@ -1,10 +1,10 @@
-//! A rule by its parts.
+//! A rule made of its parts.
 ghost use Rattle.std.specs.Prelude.{◌≡◌};
 ghost use Rattle.word_image.specs.LocalRules.{IsRule};
 
 use word_image::Rule;
 
-/// The rule of these parts, which are those of an accepted rule.
+/// Makes the rule with these parts, which some accepted rule has.
 pub(crate) fn rule_of_parts(k: u8, m: u8, o: i8, table: &[u8]) -> Rule
     requires { IsRule (record { states = k; width = m; offset = o; table = table.now }) }
     ensures { result ≡ record { states = k; width = m; offset = o; table = table.now } }

@@ -7,9 +7,9 @@ ghost use Rattle.rule_algebra.specs.Tables.{without_first, DropsFirsts};
 use crate::parts::rule_of_parts;
 use word_image::{Rule, Side};
 
-/// The rule without the cells that it ignores: as long as the width is above 2, the first cell is
-/// dropped if the rule ignores it, and the offset rises by 1; else the last cell if it ignores that.
-/// The image cells are the old ones.
+/// Returns the rule without the cells at its ends that it ignores. While the width is above 2, it drops the first
+/// cell if the rule ignores it, and adds 1 to the offset. Then it drops ignored cells at the right end. The image of
+/// every configuration stays the same.
 pub fn trim(rule: &Rule) -> Rule
     ensures { IsTrimmed rule.now result }
 {
@@ -17,7 +17,7 @@ pub fn trim(rule: &Rule) -> Rule
     without_firsts(&trimmed.reflect()).reflect()
 }
 
-/// The rule without as many first cells as it ignores, where two cells are left.
+/// Drops as many first cells as the rule ignores, down to a width of 2.
 fn without_firsts(rule: &Rule) -> Rule
     ensures dropped { DropsFirsts rule.now result }
     ensures rules { IsRule rule.now × IsRule result }
@@ -32,7 +32,7 @@ fn without_firsts(rule: &Rule) -> Rule
     rest
 }
 
-/// Whether what the rule gives on a window doesn't depend on its first letter.
+/// Returns whether the first letter of a window never changes the letter that the rule gives.
 fn ignores_first(rule: &Rule) -> bool
     ensures ignores { IsTrue result ↔ Ignores rule.now 1 0 }
     ensures rule { IsRule rule.now }
@@ -45,7 +45,7 @@ fn ignores_first(rule: &Rule) -> bool
     true
 }
 
-/// The rule without its first cell, as it is where that is the letter 0.
+/// Returns the rule that is left if the first cell is always 0.
 fn without_first(rule: &Rule) -> Rule
     requires { 2 < rule.now.width }
     ensures { result ≡ without_first rule.now }

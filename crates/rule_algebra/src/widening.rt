@@ -1,4 +1,4 @@
-//! Rules with cells on the right that are ignored.
+//! Rules with ignored cells on the right.
 ghost use Rattle.std.specs.Prelude.{◌≡◌, ◌≤◌, IfOk};
 ghost use Rattle.std.specs.Result.{result_err};
 ghost use Rattle.word_image.specs.LocalRules.{IsShape};
@@ -9,10 +9,10 @@ ghost use Rattle.rule_algebra.specs.Tables.{widened};
 use crate::fault::{AlgebraFault, check_limits};
 use word_image::Rule;
 
-/// The rule at width m, with cells on the right that are ignored: its image cells are the old ones.
+/// Returns the rule at width m, with ignored cells on the right. The image of every configuration stays the same.
 ///
-/// `Width` comes exactly where m is below the rule's width or above 5, then `Nodes` where there are
-/// more than 16 words of m - 1 letters, then `Offset` where the last cell lies too far to the right.
+/// Returns `Width` if m is below the rule's width or above 5, otherwise `Nodes` if there are more than 16 words of m
+/// - 1 letters, and otherwise `Offset` if the last cell is too far to the right.
 pub fn widen(rule: &Rule, m: u8) -> Result<Rule, AlgebraFault>
     ensures fault { result_err result ≡ widen_fault rule.now m }
     ensures widened { IfOk result (IsWidened rule.now m) }
@@ -24,7 +24,7 @@ pub fn widen(rule: &Rule, m: u8) -> Result<Rule, AlgebraFault>
     Ok(widened_rule(rule, m))
 }
 
-/// The rule at a width that it may have.
+/// Returns the rule at a width that it may have.
 fn widened_rule(rule: &Rule, m: u8) -> Rule
     requires wider { rule.now.width ≤ m }
     requires shape { IsShape rule.now.states m rule.now.offset }

@@ -1,10 +1,10 @@
--- What a rule of a class says of the other ones.
+-- Verdicts that rules of the same class share.
 use Rattle.std.specs.Prelude.{◌↔◌, Bool, IsTrue, IsFalse}
 use Rattle.word_image.specs.LocalRules.{LocalRule}
 use Rattle.word_image.specs.Words.{IsSurjective}
 use Rattle.tail_config.specs.Tails.{IsInjective, IsRightClosing, IsLeftClosing}
 
--- the verdicts on r are those on g, where a mirror exchanges right and left
+-- r and g have the same verdicts, with right and left exchanged by a mirror
 pub record HaveOneVerdict (r : LocalRule) (mirror : Bool) (g : LocalRule) : Type 0 where
   pub surjective : IsSurjective r ↔ IsSurjective g
   pub injective : IsInjective r ↔ IsInjective g

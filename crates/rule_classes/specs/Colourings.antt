@@ -8,7 +8,7 @@ use Rattle.rule_algebra.specs.Tabulated.{table_by}
 use Rattle.rule_classes.specs.Classes.{turned}
 use Rattle.rule_classes.specs.declared.colourings.Colouring.{Colouring}
 
--- colours of the letters below k, and at each colour its letter
+-- the colours of the letters below k, and the letter of each colour
 pub record AreInverse (k : ℕ) (colours letters : List ℕ) : Type 0 where
   pub colours_long : k ≤ length colours
   pub letters_long : k ≤ length letters
@@ -21,7 +21,7 @@ pub record AreInverse (k : ℕ) (colours letters : List ℕ) : Type 0 where
 abbrev pub IsColouring : ℕ → Colouring → Type 0
 IsColouring k c = AreInverse k c.colours c.letters
 
--- the side of an old window on which the last letter of the new one stands
+-- the side of an old window on which the new window has its last letter
 abbrev pub last_side : Bool → Side
 last_side mirror = if mirror then Left else Right
 
@@ -29,31 +29,31 @@ last_side mirror = if mirror then Left else Right
 abbrev pub old_word : LocalRule → Colouring → ℕ → List ℕ
 old_word r c v = recoloured c.letters (word_of r.states r.width v)
 
--- read backwards where the rule is mirrored
+-- the word from right to left if the rule is mirrored
 abbrev pub read_as : Bool → List ℕ → List ℕ
 read_as mirror w = if mirror then reverse w else w
 
--- the value of the window that the rule reads in the place of this one
+-- the value of the window that the rule reads instead of this one
 abbrev pub old_value : LocalRule → Colouring → ℕ → ℕ
 old_value r c v = value r.states (read_as c.mirrored (old_word r c v))
 
--- the colour that the recoloured rule, mirrored or not, gives on a window
+-- the colour that the renamed rule, mirrored or not, gives for a window
 abbrev pub new_letter : LocalRule → Colouring → List ℕ → ℕ
 new_letter r c w = slice_index c.colours (local_map (turned r c.mirrored) (recoloured c.letters w))
 
--- the colour that the recoloured rule, mirrored or not, gives on the window of a value
+-- the colour that the renamed rule, mirrored or not, gives for the window with a value
 abbrev pub entry : LocalRule → Colouring → ℕ → ℕ
 entry r c v = new_letter r c (word_of r.states r.width v)
 
--- the rule that gives these colours, at offset 0
+-- the renamed rule, mirrored or not, at offset 0
 abbrev pub in_colours : LocalRule → Colouring → LocalRule
 in_colours r c = record { states = r.states; width = r.width; offset = pos 0; table = table_by r.states r.width (new_letter r c) }
 
--- the Wolfram number of the rule that gives these colours
+-- the Wolfram number of the renamed rule
 abbrev pub recoloured_number : LocalRule → Colouring → ℕ
 recoloured_number r c = wolfram_number (in_colours r c)
 
--- the free colours are those from low on, below high
+-- a chosen colour is below low or at least high; the others are free
 abbrev pub IsChosen : ℕ → ℕ → ℕ → Type 0
 IsChosen low high colour = (colour < low) ⊎ (high ≤ colour)
 
@@ -63,12 +63,12 @@ pub record Completes (k : ℕ) (c : Colouring) (low high : ℕ) (d : Colouring) 
   pub mirrored : d.mirrored ≡ c.mirrored
   pub letters : (a : ℕ) → a < k → IsChosen low high a → slice_index d.letters a ≡ slice_index c.letters a
 
--- the least of a colouring and of those that complete c; the colouring where none of these is less
+-- the least of a colouring and of those that complete c, or the colouring itself if none of these is less
 pub record IsLeastColouring (r : LocalRule) (c : Colouring) (low high : ℕ) (before found : Colouring) : Type 0 where
   pub colouring : IsColouring r.states found
   pub one : (found ≡ before) ⊎ (Completes r.states c low high found × (recoloured_number r found < recoloured_number r before))
   pub least : (d : Colouring) → Completes r.states c low high d → recoloured_number r found ≤ recoloured_number r d
 
--- what completes the colouring has the letters of the best rule from this window on
+-- every colouring that completes c has the letters of the best rule from this window on
 pub record AgreeFrom (r : LocalRule) (c : Colouring) (low high : ℕ) (best : Colouring) (v : ℕ) : Type 0 where
   pub same : (d : Colouring) → Completes r.states c low high d → (u : ℕ) → v ≤ u → u < r.states ^ r.width → entry r d u ≡ entry r best u

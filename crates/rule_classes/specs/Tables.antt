@@ -1,4 +1,4 @@
--- Tables that are filled from window to window.
+-- Tables that are filled window by window.
 use Rattle.std.specs.Prelude.{◌≡◌, ℕ, ◌+◌, ◌*◌, ◌^◌, ◌<◌, ◌≤◌, List, length, slice_index}
 use Rattle.word_image.specs.LocalRules.{LocalRule, most_windows}
 use Rattle.rule_classes.specs.Colourings.{entry, old_value}
@@ -9,7 +9,7 @@ use Rattle.rule_classes.specs.declared.colourings.Row.{Row}
 pub record IsRow (r : LocalRule) (c : Colouring) (u : ℕ) (row : Row) : Type 0 where
   pub values : (a : ℕ) → a < r.states → row.start + slice_index c.letters a * row.step ≡ old_value r c (u * r.states + a)
 
--- a table has room for 256 letters, and zeros after its own
+-- a table of 256 letters with zeros after its own letters
 pub record HasZeros (r : LocalRule) (entries : List ℕ) : Type 0 where
   pub long : length entries ≡ most_windows
   pub zeros : (v : ℕ) → r.states ^ r.width ≤ v → slice_index entries v ≡ 0

@@ -9,28 +9,28 @@ use crate::colourings::Colouring;
 use crate::search::least_of;
 use word_image::Rule;
 
-/// The most colours of a rule whose class is told.
+/// The greatest number of states of a rule whose class is computed.
 pub const MOST_COLOURS: usize = 6;
 
-/// Where a rule stands in its class.
+/// The place of a rule in its class.
 #[derive(Clone, Copy, Debug)]
 pub struct ClassPlace {
     /// The rule of the class with the least Wolfram number.
     pub least: Rule,
-    /// Whether it takes the mirrored rule: no recolouring of the rule's own table gives the least.
+    /// Whether the mirrored rule is needed: no renaming of the letters of the rule's own table gives the least rule.
     pub mirrored: bool,
 }
 
-/// Why a rule has no place.
+/// Why the class of a rule isn't computed.
 #[derive(Clone, Copy, Debug, PartialEq, Eq)]
 pub enum ClassFault {
     /// There are more than 6 states.
     Colours,
 }
 
-/// The least rule of the class of a rule, and whether it takes the mirrored rule; `Colours` exactly
-/// where there are 7 states or more. The verdicts of the least rule are those of the rule, where a
-/// mirror exchanges right and left.
+/// Returns the least rule of a rule's class, and whether the mirrored rule is needed to get it. Returns `Colours` if
+/// there are 7 states or more. The least rule has the same verdicts as the rule, with right and left exchanged if it
+/// is mirrored.
 pub fn class_of(rule: &Rule) -> Result<ClassPlace, ClassFault>
     ensures accepted { IsOk result ↔ (rule.now.states ≤ 6) }
     ensures least { IfOk result (λ place. IsLeastOfClass rule.now place.mirrored place.least) }
@@ -50,7 +50,7 @@ pub fn class_of(rule: &Rule) -> Result<ClassPlace, ClassFault>
     })
 }
 
-/// A class has one least rule, which takes the mirrored rule or doesn't.
+/// Law: a class has exactly one least rule, and the mirrored rule is either needed for it or not.
 pub fn one_least_of_class()
     ensures rule { (r g h : LocalRule) (a b : Bool) → IsRule r → IsLeastOfClass r a g → IsLeastOfClass r b h → g ≡ h }
     ensures mirrored { (r g h : LocalRule) (a b : Bool) → IsRule r → IsLeastOfClass r a g → IsLeastOfClass r b h → a ≡ b }

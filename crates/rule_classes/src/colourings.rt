@@ -1,4 +1,4 @@
-//! Rules with other names for their letters, mirrored or not.
+//! Rules with new names for their letters, mirrored or not.
 ghost use Rattle.std.specs.Prelude.{◌≡◌, ◌≢◌, ◌+◌, ◌*◌, ◌^◌, ◌<◌, ◌≤◌, ℕ, slice_index, if◌then◌else◌};
 ghost use Rattle.word_image.specs.LocalRules.{IsRule, node_count, most_windows};
 ghost use Rattle.word_image.specs.Ends.{end_node, window_with};
@@ -12,14 +12,14 @@ use word_image::{MOST_ENTRIES, Rule, Side};
 /// The values of windows that differ in one letter.
 #[derive(Clone, Copy)]
 pub struct Row {
-    /// The value where the letter is 0.
+    /// The value if the letter is 0.
     pub start: u8,
-    /// How much each further letter adds.
+    /// How much each further letter adds to the value.
     pub step: u8,
 }
 
 impl Row {
-    /// The value where this is the letter.
+    /// Returns the value if this is the letter.
     pub fn window(self, letter: u8) -> u8
         requires { self.start + letter * self.step < most_windows }
         ensures { result ≡ self.start + letter * self.step }
@@ -28,19 +28,19 @@ impl Row {
     }
 }
 
-/// A permutation of the letters, and whether the rule is mirrored before.
+/// A permutation of the letters, and whether the rule is mirrored first.
 #[derive(Clone, Copy, PartialEq, Eq)]
 pub struct Colouring {
-    /// Whether windows are read backwards.
+    /// Whether windows are read from right to left.
     pub mirrored: bool,
-    /// The new colour of each letter.
+    /// The new name of each letter, called its colour.
     pub colours: [u8; MOST_COLOURS],
     /// The letter that has each colour.
     pub letters: [u8; MOST_COLOURS],
 }
 
 impl Colouring {
-    /// Each letter is its own colour.
+    /// Returns the colouring in which each letter keeps its name.
     pub fn unchanged(mirrored: bool) -> Colouring
         ensures mirrored { result.mirrored ≡ mirrored }
         ensures colouring { (k : ℕ) → k ≤ 6 → IsColouring k result }
@@ -53,7 +53,7 @@ impl Colouring {
         }
     }
 
-    /// Two of the k colours change places.
+    /// Exchanges two of the k colours.
     pub fn exchanged(self, k: u8, first: u8, second: u8) -> Colouring
         requires few { k ≤ 6 }
         requires colouring { IsColouring k self }
@@ -74,7 +74,7 @@ impl Colouring {
         new
     }
 
-    /// Puts the table of the recoloured rule in the place of another one of its length.
+    /// Writes the table of the renamed rule over another table of the same length.
     pub fn fill(&self, rule: &Rule, entries: &mut [u8; MOST_ENTRIES])
         requires rule { IsRule rule.now }
         requires states { rule.now.states ≤ 6 }
@@ -90,7 +90,7 @@ impl Colouring {
         }
     }
 
-    /// Fills the windows of one node, and their entries.
+    /// Writes the entries of the windows of one node.
     fn fill_row(
         &self,
         rule: &Rule,
@@ -114,8 +114,8 @@ impl Colouring {
         }
     }
 
-    /// The old value of the window of a node with this last letter, by the row of the node, and the
-    /// colour that the rule gives there.
+    /// Returns the old value of the window of a node and this last letter, and the colour that the rule gives for it.
+    /// `row` belongs to the node.
     pub fn read(&self, rule: &Rule, row: Row, letter: u8) -> (u8, u8)
         requires rule { IsRule rule.now }
         requires states { rule.now.states ≤ 6 }
@@ -130,8 +130,8 @@ impl Colouring {
         (old, self.colours[usize::from(given)])
     }
 
-    /// The old values of the windows of a node, from that of the window a letter back: its first letter
-    /// is left out, and one letter more comes behind, both at the other end where the rule is mirrored.
+    /// Returns the old values of the windows of a node. `back` is the old value of the window one letter earlier: its
+    /// first letter is dropped, and one more letter is appended. For a mirrored rule both happen at the other end.
     pub fn row(&self, rule: &Rule, back: u8) -> Row
         requires states { rule.now.states ≤ 6 }
         requires back { back < rule.now.states ^ rule.now.width }
@@ -151,7 +151,7 @@ impl Colouring {
         }
     }
 
-    /// The value of the window in the old letters, read backwards where the rule is mirrored.
+    /// Returns the value of the window in the old letters, read from right to left if the rule is mirrored.
     pub fn old_window(&self, rule: &Rule, window: u16) -> u8
         requires states { rule.now.states ≤ 6 }
         requires colouring { IsColouring rule.now.states self.now }
@@ -173,7 +173,7 @@ impl Colouring {
         old as u8
     }
 
-    /// The value of some letters and of one more before them, after them where the rule is mirrored.
+    /// Returns the value of some letters and one more letter before them, or after them if the rule is mirrored.
     fn with_letter(&self, k: u16, old: u16, power: u16, letter: u8) -> u16
         requires k { k ≤ 6 }
         requires old { old < most_windows }

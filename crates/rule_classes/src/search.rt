@@ -1,4 +1,4 @@
-//! The least of the rules that permutations of the letters make of one.
+//! The search for the least rule among those that permutations of the letters make.
 ghost use Rattle.std.specs.Prelude.{◌≡◌, ◌⊎◌, ◌<◌, ◌≤◌, ◌+◌, ◌*◌, IfSome, IsNone, IsTrue, IsFalse};
 ghost use Rattle.word_image.specs.LocalRules.{IsRule, node_count};
 ghost use Rattle.rule_classes.specs.Best.{IsBest};
@@ -9,9 +9,9 @@ use crate::best::Best;
 use crate::colourings::Colouring;
 use word_image::{Rule, Side};
 
-/// Makes the best rule so far the least of it and of those whose colourings have the letters of this
-/// one at the chosen colours. The colours from `low` on, below `high`, are free. It chooses the greatest
-/// of them and the least of them by turns, and leaves a branch as soon as no rule in it can be less.
+/// Replaces the best rule by the least of it and of the rules whose colourings have the letters of this one at the
+/// chosen colours. The colours from `low` to `high - 1` are free. It chooses a letter for the greatest and the least
+/// of them in turn, and leaves a branch as soon as none of its rules can be less.
 pub fn least_of(rule: &Rule, colouring: Colouring, low: u8, high: u8, best: &mut Best)
     requires states { rule.now.states ≤ 6 }
     requires colouring { IsColouring rule.now.states colouring }
@@ -40,7 +40,7 @@ pub fn least_of(rule: &Rule, colouring: Colouring, low: u8, high: u8, best: &mut
     }
 }
 
-/// Takes a colouring in place of the best one so far where it makes a lesser rule.
+/// Replaces the best colouring by this one if it makes a lesser rule.
 fn take_lesser(rule: &Rule, colouring: Colouring, best: &mut Best)
     requires rule { IsRule rule.now }
     requires states { rule.now.states ≤ 6 }
@@ -54,9 +54,9 @@ fn take_lesser(rule: &Rule, colouring: Colouring, best: &mut Best)
     }
 }
 
-/// Whether a rule whose colouring has the letters of this one at the chosen colours may be less than the
-/// best one. All letters of a window are known where it has the greatest letter alone, but for a last
-/// letter that is chosen.
+/// Returns whether a rule whose colouring has the letters of this one at the chosen colours may be less than the best
+/// one. It compares windows that have only the greatest letter except for a last letter with a chosen colour, since
+/// all their letters are known.
 fn may_be_less(rule: &Rule, colouring: &Colouring, low: u8, high: u8, best: &Best) -> bool
     requires states { rule.now.states ≤ 6 }
     requires colouring { IsColouring rule.now.states colouring.now }
@@ -75,7 +75,7 @@ fn may_be_less(rule: &Rule, colouring: &Colouring, low: u8, high: u8, best: &Bes
     }
 }
 
-/// Whether a colouring makes a lesser rule than the best one.
+/// Returns whether a colouring makes a lesser rule than the best one.
 fn is_less(rule: &Rule, colouring: &Colouring, best: &Best) -> bool
     requires rule { IsRule rule.now }
     requires states { rule.now.states ≤ 6 }
@@ -92,9 +92,9 @@ fn is_less(rule: &Rule, colouring: &Colouring, best: &Best) -> bool
     false
 }
 
-/// Whether the windows of a node, from this last letter on, tell a colouring and the best one apart, and
-/// then whether it may make the lesser rule. The greatest window comes first, and a letter that has no
-/// colour yet gets the least free one at least.
+/// Compares a colouring with the best one on the windows of a node, starting at this last letter. If they differ,
+/// returns whether the colouring may make the lesser rule. The greatest window comes first, and a letter without a
+/// colour gets at least the least free colour.
 fn told(
     rule: &Rule,
     colouring: &Colouring,
@@ -135,7 +135,7 @@ fn told(
     None
 }
 
-/// Whether a colour is free.
+/// Returns whether a colour is free.
 fn is_free(low: u8, high: u8, colour: u8) -> bool
     ensures free { IsTrue result → (low ≤ colour) × (colour < high) }
     ensures chosen { IsFalse result → IsChosen low high colour }

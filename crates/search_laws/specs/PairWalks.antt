@@ -1,11 +1,11 @@
--- Walks by pairs of letters, and the first of them.
+-- Walks by pairs of letters, and the least of them.
 use Rattle.std.specs.Prelude.{◌≡◌, ◌≢◌, ℕ, ◌/◌, ◌%◌, ◌<◌, List, length, Option, Some}
 use Rattle.std.specs.List.{All}
 use Rattle.std.specs.declared.cmp.Ordering.TheVariants.{Greater}
 use Rattle.word_image.specs.Rings.{pairs_cmp}
 use Rattle.search_laws.specs.Walks.{Walk}
 
--- a step on a letter pair, to where `follow` leads, if it does
+-- a step on a pair of letters, to the state that `follow` returns
 abbrev pub LetterPairStep : (ℕ → ℕ → ℕ → Option ℕ) → ℕ → ℕ × ℕ → ℕ → Type 0
 LetterPairStep follow s p t = follow s p.0 p.1 ≡ Some t
 
@@ -13,27 +13,27 @@ LetterPairStep follow s p t = follow s p.0 p.1 ≡ Some t
 abbrev pub ArePairs : ℕ → List (ℕ × ℕ) → Type 0
 ArePairs n = All (λ p. (p.0 < n) × (p.1 < n))
 
--- the letter pairs, of letters below k, lead from the start to the state
+-- these pairs of letters below k lead from the start to the state t
 pub record PairWalk (follow : ℕ → ℕ → ℕ → Option ℕ) (k start : ℕ) (w : List (ℕ × ℕ)) (t : ℕ) : Type 0 where
   pub steps : Walk (LetterPairStep follow) start w t
   pub letters : ArePairs k w
 
--- the first walk of at least one step to the state: the shortest, and of these the first in dictionary order
+-- the least walk of at least one step to the state t: the shortest, and among those the first in dictionary order
 pub record IsLeastWalk (follow : ℕ → ℕ → ℕ → Option ℕ) (k start t : ℕ) (w : List (ℕ × ℕ)) : Type 0 where
   pub some : 0 < length w
   pub walk : PairWalk follow k start w t
   pub least : (v : List (ℕ × ℕ)) → 0 < length v → PairWalk follow k start v t → pairs_cmp w v ≢ Greater
 
--- the first walk of any number of steps
+-- the least walk to the state t, which may have no steps
 pub record IsLeastWalkTo (follow : ℕ → ℕ → ℕ → Option ℕ) (k start t : ℕ) (w : List (ℕ × ℕ)) : Type 0 where
   pub walk : PairWalk follow k start w t
   pub least : (v : List (ℕ × ℕ)) → PairWalk follow k start v t → pairs_cmp w v ≢ Greater
 
--- the letter pair of a number
+-- the pair of letters with this number
 abbrev pub uncode : ℕ → ℕ → ℕ × ℕ
 uncode n c = (c / n, c % n)
 
--- a step on the number of a letter pair, for letters below k
+-- a step on the number of a pair of letters below k
 pub record CodeStep (follow : ℕ → ℕ → ℕ → Option ℕ) (k n s c t : ℕ) : Type 0 where
   pub first : c / n < k
   pub second : c % n < k

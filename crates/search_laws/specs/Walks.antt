@@ -2,12 +2,12 @@
 use Rattle.std.specs.Prelude.{◌≡◌, ℕ, List, [], ◌∷◌}
 use Rattle.word_image.specs.LocalRules.{IsWord}
 
--- the letters lead from one state to the other, one step after another
+-- the letters lead from one state to the other, step by step
 abbrev pub Walk : {S L : Type 0} → (S → L → S → Type 0) → S → List L → S → Type 0
 Walk Step s [] t = s ≡ t
 Walk {S} Step s (a ∷ w) t = (u : S) × Step s a u × Walk Step u w t
 
--- the letters of the word, which are below k, lead from the start to the state
+-- the letters of the word, all below k, lead from the start to the state t
 pub record Leads {S : Type 0} (Step : S → ℕ → S → Type 0) (k : ℕ) (start : S) (w : List ℕ) (t : S) : Type 0 where
   pub walk : Walk Step start w t
   pub word : IsWord k w

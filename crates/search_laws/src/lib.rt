@@ -1,6 +1,6 @@
-//! Laws of breadth first search: a queue that follows its edges in order, letters ascending, reaches
-//! each state first by its least word.
+//! Laws of breadth-first search. If a queue follows its edges in order, with letters ascending, it reaches each state
+//! first by the least word that leads there.
 //!
-//! There is nothing to run here. The subset construction and the walks of pairs are both such
-//! searches, so the argument stands here once, and speaks of no mask and no map.
+//! This crate has no functions. The subset construction and the walks of pairs are both such searches, so the
+//! argument is stated here once, for any states and steps.
 #![tactic(auto)]

@@ -1,7 +1,7 @@
--- Tables by their letters: how often each stands in them, and which mean they have.
+-- How often letters occur in a table, and their mean.
 use Rattle.std.specs.Prelude.{◌≡◌, ℕ, ◌+◌, ◌*◌, ◌<◌, ◌==◌, List, length, sum, count_by}
 
--- each of k letters stands in the table equally often
+-- each of the k letters occurs equally often in the table
 abbrev pub IsEven : ℕ → List ℕ → Type 0
 IsEven k table = (a : ℕ) → a < k → k * count_by (λ b. b == a) table ≡ length table
 

@@ -1,4 +1,4 @@
--- Configurations: functions from the integers to letters, however they go on, and what a rule makes of them.
+-- Configurations as functions from the integers to letters, and their images under a rule.
 use Rattle.std.specs.Prelude.{◌≡◌, ℕ, ◌<◌, List, map, ℤ, pos, ◌+ℤ◌, neg_ℤ, ◌<ℤ◌, ◌≤ℤ◌}
 use Rattle.std.specs.List.{range_with_len}
 use Rattle.word_image.specs.LocalRules.{LocalRule, local_map}
@@ -15,11 +15,11 @@ IsConfig k x = (i : ℤ) → x i < k
 abbrev pub zeros : Config
 zeros i = 0
 
--- the n letters from place i on
+-- n letters, starting at place i
 abbrev pub run : Config → ℤ → ℕ → List ℕ
 run x i n = map (λ j. x (i +ℤ pos j)) (range_with_len 0 n)
 
--- the image: at each place what the rule gives on its window
+-- the image: at each place the letter that the rule gives for its window
 abbrev pub image_of : LocalRule → Config → Config
 image_of r x i = local_map r (run x (i +ℤ r.offset) r.width)
 

@@ -1,27 +1,27 @@
--- Where two configurations differ.
+-- The places at which two configurations differ.
 use Rattle.std.specs.Prelude.{◌≡◌, ◌≢◌, ℕ, ◌<◌, ◌≤◌, max, length, ℤ, pos, negsuc, ◌<ℤ◌, neg_ℤ, unsigned_abs}
 use Rattle.tail_config.specs.Tails.{TailConfig, cell}
 
--- the place of least absolute value at which the cells differ; of two such places the non-negative one
+-- the place nearest to 0 at which the cells differ; if two places are equally near, it is the positive one
 pub record IsNearestDifference (x y : TailConfig) (i : ℤ) : Type 0 where
   pub other : cell x i ≢ cell y i
   pub nearest : (j : ℤ) → unsigned_abs j < unsigned_abs i → cell x j ≡ cell y j
   pub tie : i <ℤ pos 0 → cell x (neg_ℤ i) ≡ cell y (neg_ℤ i)
 
--- the cells from place 0 on
+-- the cells to the right, starting at place 0
 abbrev pub right_cells : TailConfig → ℕ → ℕ
 right_cells t i = cell t (pos i)
 
--- the cells from place -1 on, from right to left
+-- the cells to the left, starting at place -1
 abbrev pub left_cells : TailConfig → ℕ → ℕ
 left_cells t i = cell t (negsuc i)
 
--- the first number from start on at which two functions differ
+-- the first number at which two functions differ, starting at `start`
 pub record IsFirstDifference (f g : ℕ → ℕ) (start i : ℕ) : Type 0 where
   pub from : start ≤ i
   pub other : f i ≢ g i
   pub before : (j : ℕ) → start ≤ j → j < i → f j ≡ g j
 
--- how many letters the longer middle has
+-- the length of the longer middle
 abbrev pub most_middle : TailConfig → TailConfig → ℕ
 most_middle x y = max (length x.middle) (length y.middle)

@@ -48,7 +48,7 @@ run-one = refl
 image_of-one : run (image_of rule90 one_in_zeros) (negsuc 1) 5 ≡ 0 ∷ 1 ∷ 0 ∷ 1 ∷ 0 ∷ []
 image_of-one = refl
 
--- the shift to the right by one place undoes the shift to the left: what it makes of that configuration's image
+-- the shift to the right by one place undoes the shift to the left: it maps the image of that configuration back to it
 
 mapped-one : run (mapped (record { states = 2; width = 1; offset = negsuc 0; table = 0 ∷ 1 ∷ [] }) (image_of left_shift one_in_zeros)) (negsuc 1) 5 ≡ 0 ∷ 0 ∷ 1 ∷ 0 ∷ 0 ∷ []
 mapped-one = refl

@@ -1,25 +1,25 @@
--- The inverse map of a rule over a determined window (Amoroso and Patt 1972), and what it makes of configurations.
+-- The inverse map of a rule over a determined window (Amoroso and Patt 1972), and the configurations that it gives.
 use Rattle.std.specs.Prelude.{◌≡◌, ℕ, ◌^◌, List, length, slice_index, ℤ, pos, neg_ℤ, ◌+ℤ◌, ◌-ℤ◌}
 use Rattle.word_image.specs.LocalRules.{LocalRule, IsWord, value}
 use Rattle.word_image.specs.Words.{IsPreimage}
 use Rattle.tail_config.specs.Configs.{Config, run}
 
--- what reads `width` letters of an image from cell i + offset on, and gives a letter for cell i
+-- a map that reads `width` letters of an image, starting at cell i + offset, and gives a letter for cell i
 pub record WindowMap : Type 0 where
   pub states : ℕ
   pub width : ℕ
   pub offset : ℤ
   pub table : List ℕ
 
--- what the map gives on a word of `width` letters
+-- the letter that the map gives for a word of `width` letters
 abbrev pub map_letter : WindowMap → List ℕ → ℕ
 map_letter g w = slice_index g.table (value g.states w)
 
--- what the map makes of a configuration: at each place what it gives on the letters from its offset on
+-- the configuration that the map gives: at each place its letter for the letters that begin at its offset
 abbrev pub mapped : WindowMap → Config → Config
 mapped g y i = map_letter g (run y (i +ℤ g.offset) g.width)
 
--- the map gives letter c of every preimage of a word of n letters, and 0 where the word has none
+-- the map gives the letter at place c of every preimage of a word of n letters, and 0 if the word has no preimage
 pub record IsInverseMap (r : LocalRule) (n c : ℕ) (g : WindowMap) : Type 0 where
   pub states : g.states ≡ r.states
   pub width : g.width ≡ n

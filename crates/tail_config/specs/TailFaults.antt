@@ -1,4 +1,4 @@
--- Which texts have the form of a configuration and are accepted, and which fault of the three parts is the first.
+-- The texts that have the form of a configuration and are accepted, and the first fault of three parts.
 use Rattle.std.specs.Prelude.{ℕ, List, [], ◌∷◌, ◌++◌, length, Option, Some, None, nat_lt, nat_le, ◌==◌, if◌then◌else◌, position}
 use Rattle.std.specs.Option.{option_map, option_or}
 use Rattle.tail_config.specs.Tails.{TailConfig}
@@ -8,7 +8,7 @@ use Rattle.tail_config.specs.declared.faults.TailFault.{TailFault}
 use Rattle.tail_config.specs.declared.faults.TailFault.TheVariants as fault
 use Rattle.tail_config.specs.TailTexts.{IsShortTail, HasParts}
 
--- the first that comes of faults in a row
+-- the first fault in a list of possible faults
 abbrev pub first_fault : List (Option TailFault) → Option TailFault
 first_fault [] = None
 first_fault (f ∷ fs) = option_or f (first_fault fs)
@@ -25,25 +25,25 @@ long_fault p w = if nat_lt 1024 (length w) then Some (fault.Long p) else None
 abbrev pub letter_fault : ℕ → Part → List ℕ → Option TailFault
 letter_fault k p w = option_map (fault.Letter p) (position (λ a. nat_le k a) w)
 
--- an empty period, then a part that is too long, each from left to right
+-- the possible faults of length: an empty period, then a part that is too long, each from left to right
 abbrev pub length_faults : List ℕ → List ℕ → List ℕ → List (Option TailFault)
 length_faults left middle right =
     empty_fault fault.LeftEmpty left ∷ empty_fault fault.RightEmpty right
     ∷ long_fault part.Left left ∷ long_fault part.Middle middle ∷ long_fault part.Right right ∷ []
 
--- the first letter that is none, the parts from left to right
+-- the possible faults of letters: the first letter that isn't below k, with the parts from left to right
 abbrev pub letter_faults : ℕ → TailConfig → List (Option TailFault)
 letter_faults k t = letter_fault k part.Left t.left ∷ letter_fault k part.Middle t.middle ∷ letter_fault k part.Right t.right ∷ []
 
--- the first fault of three parts over the letters below k
+-- the first fault of three parts over the letters below k, if there is one
 abbrev pub tail_fault : ℕ → TailConfig → Option TailFault
 tail_fault k t = first_fault (length_faults t.left t.middle t.right ++ letter_faults k t)
 
--- the grammar: the text is one of some configuration, accepted or not
+-- the grammar: the text describes some configuration, accepted or not
 abbrev pub HasForm : List ℕ → Type 0
 HasForm text = (t : TailConfig) × HasParts text t
 
--- the text is accepted as one of this configuration over k letters
+-- the text describes this configuration over k letters, which is accepted
 pub record IsTailText (k : ℕ) (text : List ℕ) (t : TailConfig) : Type 0 where
   pub parts : HasParts text t
   pub accepted : IsShortTail k t

@@ -1,4 +1,4 @@
--- Which fault of a text comes first, and how a text is cut into three parts.
+-- The first fault of a text, and how a text is split into three parts.
 use Rattle.std.specs.Prelude.{◌≡◌, ◌≢◌, ℕ, ◌<◌, ◌≤◌, List, ◌++◌, length, map, codes, slice_index, slice_range, Some, All}
 use Rattle.word_image.specs.Digits.{IsHexDigit, letter_at}
 use Rattle.word_image.specs.Grammars.{IsFormFault}
@@ -10,12 +10,12 @@ use Rattle.tail_config.specs.declared.faults.TailFault.{TailFault}
 use Rattle.tail_config.specs.declared.texts.TailTextFault.{TailTextFault}
 use Rattle.tail_config.specs.declared.texts.TailTextFault.TheVariants as fault
 
--- the fault is the first one of the text over the letters below k: the text has no form, or its parts have a fault
+-- the first fault of a text over the letters below k: the text isn't in the grammar, or its parts have a fault
 pub data IsTailTextFault (k : ℕ) (text : List ℕ) : TailTextFault → Type 0 where
   NoForm : (place : ℕ) → IsFormFault HasForm text place → IsTailTextFault k text (fault.Form place)
   Refused : (t : TailConfig) (f : TailFault) → HasParts text t → tail_fault k t ≡ Some f → IsTailTextFault k text (fault.Tail f)
 
--- from start up to end there are hexadecimal digits, and not any further
+-- the digits that begin at start end before end
 pub record IsDigitsEnd (text : List ℕ) (start end : ℕ) : Type 0 where
   pub from : start ≤ end
   pub within : end ≤ length text
@@ -26,28 +26,28 @@ pub record IsDigitsEnd (text : List ℕ) (start end : ℕ) : Type 0 where
 abbrev pub bar : ℕ
 bar = 124
 
--- from start on there are digits and then a bar
+-- digits begin at start, and a bar follows them
 pub record IsBarAfter (text : List ℕ) (start place : ℕ) : Type 0 where
   pub digits : IsDigitsEnd text start place
   pub inside : place < length text
   pub byte : slice_index text place ≡ bar
 
--- from start on there are digits, and then no bar
+-- digits begin at start, and no bar follows them
 pub record LacksBar (text : List ℕ) (start place : ℕ) : Type 0 where
   pub digits : IsDigitsEnd text start place
   pub other : place < length text → slice_index text place ≢ bar
 
--- the fault is one of form, at a place of which this is true
+-- the fault is a fault of form at a place with this property
 abbrev pub IsFormAt : TailTextFault → (ℕ → Type 0) → Type 0
 IsFormAt f P = (place : ℕ) × (f ≡ fault.Form place) × P place
 
--- the text is three rows of digits with bars between
+-- the text consists of three rows of digits with bars between them
 pub record IsCut (text left middle right : List ℕ) : Type 0 where
   pub parts : text ≡ left ++ codes "|" ++ middle ++ codes "|" ++ right
   pub left_digits : All IsHexDigit left
   pub middle_digits : All IsHexDigit middle
   pub right_digits : All IsHexDigit right
 
--- the configuration that three rows of digits stand for
+-- the configuration that three rows of digits describe
 abbrev pub letters_of : List ℕ → List ℕ → List ℕ → TailConfig
 letters_of left middle right = config_of (map letter_at left) (map letter_at middle) (map letter_at right)

@@ -1,4 +1,4 @@
--- What a Tail is seen as: a configuration, and how many letters it is over.
+-- The value that represents a Tail in contracts: a configuration and the number of its letters.
 use Rattle.std.specs.Prelude.{ℕ, ◌≤◌, List}
 use Rattle.word_image.specs.LocalRules.{most_states}
 use Rattle.tail_config.specs.Tails.{TailConfig}

@@ -1,4 +1,5 @@
-//! Where two Tails differ, and whether they share an image or agree on a side.
+//! Comparing two Tails: the place at which they differ, whether they share an image, and whether they agree on a
+//! side.
 ghost use Rattle.std.specs.Prelude.{◌≡◌, ◌^◌, ◌<◌, ◌≤◌, ◌+◌, ◌↔◌, ℕ, IsTrue, IsNone, IfNone, IfSome, OnSome, unsigned_abs, pos, negsuc, ◌+ℤ◌};
 ghost use Rattle.tail_config.specs.Tails.{Same, ShareImage, AgreeLeft, AgreeRight, image_cell};
 ghost use Rattle.tail_config.specs.Differences.{IsFirstDifference, IsNearestDifference, left_cells, right_cells, most_middle};
@@ -6,8 +7,8 @@ ghost use Rattle.tail_config.specs.Differences.{IsFirstDifference, IsNearestDiff
 use crate::tail::Tail;
 use word_image::Rule;
 
-/// The place of least absolute value at which two Tails differ, the non-negative one of two; `None`
-/// exactly where all their cells agree.
+/// Returns the place nearest to 0 at which two Tails differ, or None if all their cells are equal. If two places are
+/// equally near, returns the positive one.
 pub fn differ(a: &Tail, b: &Tail) -> Option<i64>
     ensures same { IsNone result ↔ Same a.now.config b.now.config }
     ensures nearest { IfSome result (IsNearestDifference a.now.config b.now.config) }
@@ -21,7 +22,7 @@ pub fn differ(a: &Tail, b: &Tail) -> Option<i64>
     }
 }
 
-/// The place `right`, or `left` places left of -1 where that is nearer to place 0.
+/// Returns the place `right`, or the place `left` cells to the left of -1 if it is nearer to 0.
 fn nearer(right: usize, left: usize) -> i64
     requires near_right { right ≤ 2 ^ 12 }
     requires near_left { left ≤ 2 ^ 12 }
@@ -35,8 +36,7 @@ fn nearer(right: usize, left: usize) -> i64
     }
 }
 
-/// Whether the image cells of two Tails under a rule are equal at every integer; all three have
-/// one k.
+/// Returns whether two Tails have the same image under a rule. All three have the same k.
 pub fn share(rule: &Rule, a: &Tail, b: &Tail) -> bool
     requires first { rule.now.states ≡ a.now.states }
     requires second { rule.now.states ≡ b.now.states }
@@ -48,21 +48,21 @@ pub fn share(rule: &Rule, a: &Tail, b: &Tail) -> bool
     share_run(rule, a, b, start, lefts + longer(a, b) + rights)
 }
 
-/// Whether a place exists with equal cells at all places left of it.
+/// Returns whether the cells of two Tails are equal at all places to the left of some place.
 pub fn agree_left(a: &Tail, b: &Tail) -> bool
     ensures { IsTrue result ↔ AgreeLeft a.now.config b.now.config }
 {
     first_left(a, b).is_none()
 }
 
-/// Whether a place exists with equal cells at all places right of it.
+/// Returns whether the cells of two Tails are equal at all places to the right of some place.
 pub fn agree_right(a: &Tail, b: &Tail) -> bool
     ensures { IsTrue result ↔ AgreeRight a.now.config b.now.config }
 {
     first_right(a, b, longer(a, b)).is_none()
 }
 
-/// How many letters the longer middle has.
+/// Returns the length of the longer middle.
 fn longer(a: &Tail, b: &Tail) -> usize
     ensures longer { result ≡ most_middle a.now.config b.now.config }
     ensures short { result ≤ 1024 }
@@ -70,8 +70,8 @@ fn longer(a: &Tail, b: &Tail) -> usize
     a.middle().len().max(b.middle().len())
 }
 
-/// The first place from `start` on at which two Tails differ. Those up to both right periods right
-/// of the longer middle decide.
+/// Returns the first place at which two Tails differ, starting at `start`. It is enough to look at as many places
+/// after the longer middle as both right periods have letters together.
 fn first_right(a: &Tail, b: &Tail, start: usize) -> Option<usize>
     requires { start ≤ most_middle a.now.config b.now.config }
     ensures none { IfNone result ((i : ℕ)
@@ -90,8 +90,8 @@ fn first_right(a: &Tail, b: &Tail, start: usize) -> Option<usize>
     None
 }
 
-/// How far left of place -1 two Tails first differ. The places of both left periods left of place 0
-/// decide.
+/// Returns how far to the left of place -1 two Tails first differ. It is enough to look at as many places as both
+/// left periods have letters together.
 fn first_left(a: &Tail, b: &Tail) -> Option<usize>
     ensures none { IfNone result ((i : ℕ)
         → left_cells a.now.config i ≡ left_cells b.now.config i) }
@@ -108,7 +108,7 @@ fn first_left(a: &Tail, b: &Tail) -> Option<usize>
     None
 }
 
-/// Whether two Tails have equal image cells at so many places from `start` on.
+/// Returns whether two Tails have equal image cells at `count` places, starting at `start`.
 fn share_run(rule: &Rule, a: &Tail, b: &Tail, start: i64, count: usize) -> bool
     requires first { rule.now.states ≡ a.now.states }
     requires second { rule.now.states ≡ b.now.states }

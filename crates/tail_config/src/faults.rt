@@ -1,4 +1,4 @@
-//! Why three parts make no Tail.
+//! Why three parts don't form a Tail.
 ghost use Rattle.std.specs.Prelude.{◌≡◌};
 ghost use Rattle.std.specs.Result.{result_err};
 ghost use Rattle.tail_config.specs.TailValues.{config_of};
@@ -6,7 +6,7 @@ ghost use Rattle.tail_config.specs.TailFaults.{first_fault, length_faults, long_
 
 use word_image::first_foreign;
 
-/// The most letters that a part has.
+/// The greatest number of letters in a part.
 pub const MOST_LETTERS: usize = 1024;
 
 /// A part of a Tail.
@@ -20,20 +20,20 @@ pub enum Part {
     Right,
 }
 
-/// Why three parts make no Tail.
+/// Why three parts don't form a Tail.
 #[derive(Clone, Copy, Debug, PartialEq, Eq)]
 pub enum TailFault {
     /// The left period has no letter.
     LeftEmpty,
     /// The right period has no letter.
     RightEmpty,
-    /// This part, the first such one, has more than 1,024 letters.
+    /// This part has more than 1,024 letters. It is the first such part.
     Long(Part),
-    /// The letter at this place of this part, the first such one, is not below k.
+    /// The letter at this place of this part isn't below k. It is the first such letter.
     Letter(Part, usize),
 }
 
-/// The fault of three parts that make no Tail, and the parts as they were handed in.
+/// The fault of three parts that don't form a Tail, and the parts themselves.
 #[derive(Debug, Drop)]
 pub struct TailRefusal {
     /// The first fault of the parts.
@@ -46,8 +46,8 @@ pub struct TailRefusal {
     pub right: Vec<u8>,
 }
 
-/// Whether three parts make a Tail over the letters below k; else their first fault, in the order
-/// of `TailFault`, and of the parts from left to right.
+/// Checks whether three parts form a Tail over the letters below k. Returns their first fault otherwise, in the order
+/// of `TailFault` and, for the same fault, with the parts from left to right.
 pub fn check_parts(k: u8, left: &[u8], middle: &[u8], right: &[u8]) -> Result<(), TailFault>
     ensures { result_err result ≡ tail_fault k (config_of left.now middle.now right.now) }
 {
@@ -57,7 +57,7 @@ pub fn check_parts(k: u8, left: &[u8], middle: &[u8], right: &[u8]) -> Result<()
     check_letters(k, Part::Right, right)
 }
 
-/// Whether both periods have a letter, and no part is too long.
+/// Checks that both periods have a letter and that no part is too long.
 pub fn check_lengths(left: &[u8], middle: &[u8], right: &[u8]) -> Result<(), TailFault>
     ensures { result_err result ≡ first_fault (length_faults left.now middle.now right.now) }
 {
@@ -72,7 +72,7 @@ pub fn check_lengths(left: &[u8], middle: &[u8], right: &[u8]) -> Result<(), Tai
     check_length(Part::Right, right)
 }
 
-/// Whether a part is not too long.
+/// Checks that a part isn't too long.
 fn check_length(part: Part, letters: &[u8]) -> Result<(), TailFault>
     ensures { result_err result ≡ long_fault part letters.now }
 {
@@ -82,7 +82,7 @@ fn check_length(part: Part, letters: &[u8]) -> Result<(), TailFault>
     Ok(())
 }
 
-/// Whether all letters of a part are below k; else the first that is not.
+/// Checks that all letters of a part are below k. Returns the first other letter otherwise.
 fn check_letters(k: u8, part: Part, letters: &[u8]) -> Result<(), TailFault>
     ensures { result_err result ≡ letter_fault k part letters.now }
 {

@@ -1,4 +1,4 @@
-//! A Tail, its cells, its image cells and its mirror.
+//! A Tail, its cells, its image cells and its mirror image.
 ghost use Rattle.std.specs.Prelude.{◌≡◌, ◌^◌, ◌<◌, ◌≤◌, ◌↔◌, IfOk, IfErr, IsOk, length, unsigned_abs, ℤ, pos, ◌+ℤ◌, ◌-ℤ◌, ◌<ℤ◌};
 ghost use Rattle.std.specs.Option.{option_map};
 ghost use Rattle.std.specs.Result.{result_err};
@@ -12,17 +12,17 @@ use crate::faults::{TailRefusal, check_parts};
 use std::marker::Model;
 use word_image::{MOST_WIDTH, Rule};
 
-/// A configuration over the letters below k: a left period, a middle and a right period of at most
-/// 1,024 letters each.
+/// A configuration over the letters below k: a left period, a middle and a right period of at most 1,024 letters
+/// each.
 #[derive(Debug, Drop)]
 pub struct Tail {
     // From 2 to 16.
     k: u8,
-    // Not empty; its last letter stands at place -1.
+    // At least one letter. The last letter is at place -1.
     left: Vec<u8>,
-    // Its first letter stands at place 0.
+    // The first letter is at place 0.
     middle: Vec<u8>,
-    // Not empty; its first letter stands where the middle ends.
+    // At least one letter. The first letter is at the place where the middle ends.
     right: Vec<u8>,
 }
 
@@ -39,8 +39,8 @@ impl Model for Tail {
 }
 
 impl Tail {
-    /// The Tail of exactly these parts over the letters below k, from 2 to 16; else the first
-    /// fault, in the order of `TailFault`, with the parts as they were.
+    /// Makes the Tail with these parts over the letters below k, from 2 to 16. If the parts don't form a Tail,
+    /// returns the first fault, in the order of `TailFault`, together with the parts.
     pub fn new(k: u8, left: Vec<u8>, middle: Vec<u8>, right: Vec<u8>) -> Result<Tail, TailRefusal>
         requires least { 2 ≤ k }
         requires most { k ≤ most_states }
@@ -70,7 +70,7 @@ impl Tail {
         }
     }
 
-    /// How many letters there are, from 2 to 16.
+    /// Returns the number of letters k, from 2 to 16.
     pub fn k(&self) -> u8
         ensures states { result ≡ self.now.states }
         ensures tail { IsAcceptedTail self.now }
@@ -78,7 +78,7 @@ impl Tail {
         self.k
     }
 
-    /// The left period, which has a letter.
+    /// Returns the left period, which has at least one letter.
     pub fn left(&self) -> &[u8]
         ensures left { result.now ≡ self.now.config.left }
         ensures tail { IsAcceptedTail self.now }
@@ -86,7 +86,7 @@ impl Tail {
         &self.left
     }
 
-    /// The middle, which begins at place 0.
+    /// Returns the middle, which begins at place 0.
     pub fn middle(&self) -> &[u8]
         ensures middle { result.now ≡ self.now.config.middle }
         ensures tail { IsAcceptedTail self.now }
@@ -94,7 +94,7 @@ impl Tail {
         &self.middle
     }
 
-    /// The right period, which has a letter.
+    /// Returns the right period, which has at least one letter.
     pub fn right(&self) -> &[u8]
         ensures right { result.now ≡ self.now.config.right }
         ensures tail { IsAcceptedTail self.now }
@@ -102,7 +102,7 @@ impl Tail {
         &self.right
     }
 
-    /// The letter at a place.
+    /// Returns the letter at a place.
     pub fn cell(&self, i: i64) -> u8
         ensures cell { result ≡ cell self.now.config i }
         ensures letter { result < self.now.states }
@@ -118,8 +118,8 @@ impl Tail {
         }
     }
 
-    /// The letter of the image under a rule over the same letters, at a place of absolute value at
-    /// most `2^61`.
+    /// Returns the letter of the image at a place. The rule has the same letters, and the absolute value of the place
+    /// is at most `2^61`.
     pub fn image_cell(&self, rule: &Rule, i: i64) -> u8
         requires place { unsigned_abs i ≤ 2 ^ 61 }
         requires one_k { rule.now.states ≡ self.now.states }
@@ -133,7 +133,7 @@ impl Tail {
         rule.apply(window)
     }
 
-    /// Writes the letters from a place on.
+    /// Writes the letters that begin at a place.
     fn write_cells(&self, start: i64, row: &mut [u8])
         requires { (start +ℤ pos (length row.old)) <ℤ pos (2 ^ 63) }
         ensures { row.new ≡ cells self.now.config start (length row.old) }
@@ -143,7 +143,7 @@ impl Tail {
         }
     }
 
-    /// The Tail read backwards: its middle begins at place 0 again.
+    /// Returns the reversed Tail. Its middle begins at place 0, too.
     pub fn mirror(self) -> Tail
         ensures states { result.states ≡ self.states }
         ensures config { result.config ≡ mirror_of self.config }
@@ -166,7 +166,7 @@ impl Tail {
     }
 }
 
-/// With s = |M| - 1, the mirrored rule's image cell at i of a mirrored Tail is the rule's image
+/// Law: if the middle has s + 1 letters, the mirrored rule's image cell at i of the reversed Tail is the rule's image
 /// cell at s - i of the Tail.
 pub fn mirrored_image_cell()
     ensures { (r : LocalRule) (t : TailConfig) (i : ℤ) → IsRule r → IsTail r.states t

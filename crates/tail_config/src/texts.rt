@@ -15,13 +15,13 @@ use crate::tail::Tail;
 use std::alloc::{AllocError, Global};
 use word_image::{letter, text_word, word_text};
 
-/// Why a text gives no Tail.
+/// Why a text doesn't describe a Tail.
 #[derive(Clone, Copy, Debug, PartialEq, Eq)]
 pub enum TailTextFault {
-    /// The text isn't in the grammar. Its longest prefix that begins some text of the grammar has
-    /// this length.
+    /// The text isn't in the grammar. This is the length of its longest prefix with which some text of the grammar
+    /// begins.
     Form(usize),
-    /// The parts make no Tail.
+    /// The parts don't form a Tail.
     Tail(TailFault),
     /// There is not enough memory.
     Memory(AllocError),
@@ -38,7 +38,8 @@ struct Parts<'a> {
     right: &'a [u8],
 }
 
-/// Whether a text is `L|M|R`, each part a row of hexadecimal digits of either case, which may be empty.
+/// Returns whether a text has the form `L|M|R`. Each part is a possibly empty row of hexadecimal digits of either
+/// case.
 pub fn has_form(text: &[u8]) -> bool
     ensures { IsTrue result ↔ HasForm text.now }
 {
@@ -48,8 +49,8 @@ pub fn has_form(text: &[u8]) -> bool
     }
 }
 
-/// The Tail over the letters below k, from 2 to 16, that a text stands for; else the first fault,
-/// in the order of `TailTextFault`.
+/// Reads a Tail over the letters below k, from 2 to 16. Returns the first fault of the text, in the order of
+/// `TailTextFault`.
 pub fn parse(alloc: Global, k: u8, text: &[u8]) -> Result<Tail, TailTextFault>
     requires least { 2 ≤ k }
     requires most { k ≤ most_states }
@@ -68,7 +69,7 @@ pub fn parse(alloc: Global, k: u8, text: &[u8]) -> Result<Tail, TailTextFault>
     tail_of(alloc, k, &parts).map_err(TailTextFault::Memory)
 }
 
-/// The text of a Tail, in lower case. The only error is want of memory.
+/// Returns the text of a Tail, in lower case. The only error is lack of memory.
 pub fn print(alloc: Global, tail: &Tail) -> Result<Vec<u8>, AllocError>
     ensures { IfOk result (λ text. text.items ≡ printed tail.now.config) }
 {
@@ -80,12 +81,12 @@ pub fn print(alloc: Global, tail: &Tail) -> Result<Vec<u8>, AllocError>
     Ok(text)
 }
 
-/// The printed text of every Tail is a text of that Tail.
+/// Law: the printed text of each Tail is a text of this Tail.
 pub fn printed_text_is_read()
     ensures { (t : TailOver) → IsAcceptedTail t → IsTailText t.states (printed t.config) t.config }
 {}
 
-/// The parts of a text of the grammar.
+/// Splits a text of the grammar into its parts.
 fn split(text: &[u8]) -> Result<Parts<'_>, TailTextFault>
     ensures parts { IfOk result (λ p. IsCut text.now p.left.now p.middle.now p.right.now) }
     ensures fault { IfErr result (λ f. IsFormAt f (IsFormFault HasForm text.now)) }
@@ -103,7 +104,7 @@ fn split(text: &[u8]) -> Result<Parts<'_>, TailTextFault>
     })
 }
 
-/// The place of the bar that ends the digits from a place on.
+/// Returns the place of the bar after the digits that begin at a place.
 fn bar_after(text: &[u8], start: usize) -> Result<usize, TailTextFault>
     requires { start ≤ length text.now }
     ensures bar { IfOk result (IsBarAfter text.now start) }
@@ -117,7 +118,7 @@ fn bar_after(text: &[u8], start: usize) -> Result<usize, TailTextFault>
     }
 }
 
-/// Where the digits from a place on end.
+/// Returns the place at which the digits that begin at a place end.
 fn digits_end(text: &[u8], start: usize) -> usize
     requires { start ≤ length text.now }
     ensures { IsDigitsEnd text.now start result }
@@ -130,7 +131,7 @@ fn digits_end(text: &[u8], start: usize) -> usize
     text.len()
 }
 
-/// Whether rows of digits stand for a Tail; else the first fault of its parts.
+/// Checks whether rows of digits describe a Tail. Returns the first fault of the parts otherwise.
 fn check_digits(k: u8, parts: &Parts) -> Result<(), TailFault>
     ensures { let p = parts.now in
         result_err result ≡ tail_fault k (letters_of p.left.now p.middle.now p.right.now) }
@@ -141,7 +142,7 @@ fn check_digits(k: u8, parts: &Parts) -> Result<(), TailFault>
     check_row(k, Part::Right, parts.right)
 }
 
-/// Whether all letters of a row of digits are below k; else the first that is not.
+/// Checks that all letters of a row of digits are below k. Returns the first other letter otherwise.
 fn check_row(k: u8, part: Part, digits: &[u8]) -> Result<(), TailFault>
     ensures { result_err result ≡ letter_fault k part (map letter_at digits.now) }
 {
@@ -151,7 +152,7 @@ fn check_row(k: u8, part: Part, digits: &[u8]) -> Result<(), TailFault>
     }
 }
 
-/// The place of the first digit whose letter is not below k.
+/// Returns the place of the first digit whose letter isn't below k.
 fn first_foreign(k: u8, digits: &[u8]) -> Option<usize>
     ensures { result ≡ position (λ b. nat_le k (letter_at b)) digits.now }
 {
@@ -160,7 +161,7 @@ fn first_foreign(k: u8, digits: &[u8]) -> Option<usize>
         .position(|byte| letter(*byte).unwrap_or(0) >= k)
 }
 
-/// The Tail that rows of digits stand for.
+/// Makes the Tail that rows of digits describe.
 fn tail_of(alloc: Global, k: u8, parts: &Parts) -> Result<Tail, AllocError>
     requires least { 2 ≤ k }
     requires most { k ≤ most_states }

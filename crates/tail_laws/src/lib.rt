@@ -1,14 +1,13 @@
-//! Laws of configurations with periodic tails: what a determined window and a look-ahead forbid, and
-//! how a loop of pairs of nodes gives twins and splits.
+//! Laws of configurations with periodic tails: a determined window excludes twins, a look-ahead excludes splits, and
+//! a loop of pairs of nodes gives twins and splits.
 //!
-//! Rule 170 gives the cell to the right, and moves every configuration by one cell: it is injective and
-//! has no twins. The sum of two cells modulo 2 has the twins 0 and 1, since the rings of zeros and of
-//! ones both have the image of zeros; and it closes on both sides, since a sum and one of its letters
-//! tell the other, so it has no split.
+//! Rule 170 copies the cell to the right, so it moves every configuration by one cell. It is injective and has no
+//! twins. The sum of two cells modulo 2 has the twins 0 and 1: the ring of zeros and the ring of ones both have the
+//! image of zeros. It closes on both sides and has no split, since a sum and one of its letters determine the other
+//! letter.
 //!
-//! The functions here do nothing. Each carries a law by its contract. The lemmas speak of the
-//! definitions of word_image and tail_config alone, and stand in a crate of their own since the
-//! deciders and the checker of certificates both cite them.
+//! The functions of this crate do nothing. The contract of each states a law. The lemmas only use definitions of
+//! word_image and tail_config. Both the deciders and the checker of certificates use them.
 #![tactic(auto)]
 
 ghost use Rattle.std.specs.Prelude.{◌↔◌, ℕ, List};
@@ -18,21 +17,21 @@ ghost use Rattle.tail_config.specs.Tails.{TailConfig, IsInjective, IsRightClosin
 ghost use Rattle.tail_config.specs.LeftSplits.{IsLeftSplit};
 ghost use Rattle.tail_config.specs.Splits.{IsNormalRightSplit, IsLeastLeftSplit};
 
-/// A rule is injective exactly where it has no twins: two different words of one length whose rings have
-/// one image.
+/// Law: a rule is injective if and only if it has no twins, which are two different words of the same length whose
+/// rings have the same image.
 pub fn injective_has_no_twins()
     ensures { (r : LocalRule) → IsRule r → (IsInjective r ↔ ((x y : List ℕ) → ¬ IsTwins r x y)) }
 {}
 
-/// A rule closes on a side exactly where it has no normal split there. A normal left split is a normal
-/// right split of the mirrored rule, read backwards.
+/// Law: a rule closes on a side if and only if it has no normal split there. A normal left split is a reversed normal
+/// right split of the mirrored rule.
 pub fn closing_has_no_split()
     ensures right { (r : LocalRule) → IsRule r → (IsRightClosing r ↔ ((x y : TailConfig) → ¬ IsNormalRightSplit r x y)) }
     ensures left { (r : LocalRule) → IsRule r → (IsLeftClosing r ↔ ((x y : TailConfig) → ¬ IsNormalRightSplit (mirrored r) x y)) }
 {}
 
-/// The least normal left split is a left split of the rule itself: two different configurations that
-/// share an image and agree to the right.
+/// Law: the least normal left split is a left split of the rule itself, which is two different configurations that
+/// share an image and agree on the right.
 pub fn left_split_is_split()
     ensures { (r : LocalRule) (x y : TailConfig) → IsRule r → IsLeastLeftSplit r x y → IsLeftSplit r x y }
 {}

@@ -1,4 +1,4 @@
--- What an answer says that is handed back.
+-- The meaning of an answer.
 use Rattle.std.specs.Prelude.{Bool, true, false}
 use Rattle.word_image.specs.LocalRules.{LocalRule}
 use Rattle.tail_config.specs.Tails.{TailConfig}
@@ -8,16 +8,16 @@ use Rattle.tail_preimage.specs.declared.answer.Placed.{Placed}
 use Rattle.tail_preimage.specs.declared.answer.Pre.{Pre}
 use Rattle.tail_preimage.specs.declared.answer.Pre.TheVariants.{From, Gap}
 
--- the placed configuration of four parts
+-- the placed configuration with these four parts
 abbrev pub placed_config : Placed → PlacedConfig
 placed_config p = record { at = p.at; config = config_of p.left p.middle p.right }
 
--- an answer is right
+-- the answer is right
 abbrev pub IsPreimageAnswer : LocalRule → TailConfig → Pre → Type 0
 IsPreimageAnswer r t (From p) = IsFrom r t (placed_config p)
 IsPreimageAnswer r t (Gap before after w) = IsGap r t before after w
 
--- a placed configuration is answered
+-- the answer is a placed configuration
 abbrev pub is_from : Pre → Bool
 is_from (From p) = true
 is_from (Gap before after w) = false

@@ -8,7 +8,7 @@ use Rattle.tail_preimage.specs.Preimages.{PlacedConfig, placed_cells, letters, s
 abbrev placed : PlacedConfig
 placed = record { at = negsuc 1; config = record { left = 0 ∷ []; middle = 0 ∷ 0 ∷ 1 ∷ []; right = 0 ∷ [] } }
 
--- the cells of the placed configuration from -3 to 1: the 1 stands at cell 0
+-- the cells of the placed configuration from -3 to 1: the 1 is at cell 0
 placed_cells-placed : placed_cells placed (negsuc 2) 5 ≡ 0 ∷ 0 ∷ 0 ∷ 1 ∷ 0 ∷ []
 placed_cells-placed = refl
 
@@ -24,10 +24,10 @@ mixed = record { left = 0 ∷ 1 ∷ []; middle = 1 ∷ []; right = 1 ∷ 0 ∷ 0
 stretch-mixed : stretch mixed 2 1 ≡ 0 ∷ 1 ∷ 0 ∷ 1 ∷ 1 ∷ 1 ∷ 0 ∷ 0 ∷ []
 stretch-mixed = refl
 
--- a shape that spans one left period comes before one that spans two
+-- a shape that spans one left period is less than one that spans two
 shape_cmp-spans : shape_cmp (record { before = 0; back = 1; after = 0; on = 3 }) (record { before = 1; back = 1; after = 0; on = 1 }) ≡ Less
 shape_cmp-spans = refl
 
--- of two shapes that span as many periods on both sides the one with fewer left periods in its middle comes first
+-- of two shapes that span the same periods, the one with fewer left periods in its middle is less
 shape_cmp-middles : shape_cmp (record { before = 1; back = 1; after = 0; on = 1 }) (record { before = 0; back = 2; after = 0; on = 1 }) ≡ Greater
 shape_cmp-middles = refl

@@ -1,4 +1,4 @@
--- The walks that a placed configuration is made of, and the first of them.
+-- The walks that form a placed configuration, and the first of them.
 use Rattle.std.specs.Prelude.{◌≡◌, ℕ, ◌+◌, ◌-◌, ◌*◌, ◌^◌, ◌≤◌, List, length, drop, slice_index, pos, ◌-ℤ◌}
 use Rattle.std.specs.List.{repeat}
 use Rattle.word_image.specs.LocalRules.{LocalRule}
@@ -8,7 +8,7 @@ use Rattle.tail_config.specs.TailValues.{config_of}
 use Rattle.tail_preimage.specs.Walks.{IsWalk, HasWalk, Reaches, IsLeastWalkInto, before_last}
 use Rattle.tail_preimage.specs.Preimages.{PlacedConfig, Shape, stretch}
 
--- three walks that spell left periods round from node v to v, the middle with some periods from v to w, and right periods round from w to w
+-- three walks: one along left periods from node v back to v, one along the middle with some periods from v to w, and one along right periods from w back to w
 pub record AreLoopWalks (r : LocalRule) (t : TailConfig) (s : Shape) (v w : ℕ) (x y z : List ℕ) : Type 0 where
   pub back_some : 1 ≤ s.back
   pub on_some : 1 ≤ s.on
@@ -20,7 +20,7 @@ pub record AreLoopWalks (r : LocalRule) (t : TailConfig) (s : Shape) (v w : ℕ)
 abbrev pub placed_of : LocalRule → TailConfig → ℕ → List ℕ → List ℕ → List ℕ → PlacedConfig
 placed_of r t before x y z = record { at = r.offset -ℤ pos (before * length t.left); config = config_of (before_last r x) (before_last r y) (before_last r z) }
 
--- the first walks of a shape: the least node from which three walks lead, and first walks in dictionary order
+-- the first walks of a shape: those from the least possible node, each the first in dictionary order
 pub record AreFirstWalks (r : LocalRule) (t : TailConfig) (s : Shape) (v w : ℕ) (x y z : List ℕ) : Type 0 where
   pub back_some : 1 ≤ s.back
   pub on_some : 1 ≤ s.on
@@ -31,7 +31,7 @@ pub record AreFirstWalks (r : LocalRule) (t : TailConfig) (s : Shape) (v w : ℕ
   pub middle : IsLeastWalkInto r (stretch t s.before s.after) v turns w y
   pub right : IsLeastWalkInto r (repeat s.on t.right) w (2 ^ w) w z
 
--- the sets of the last n + 1 places of a word, from its end on
+-- the sets of the last n + 1 places of a word, starting at its end
 pub record AreOpen (r : LocalRule) (w : List ℕ) (goal n : ℕ) (sets : List ℕ) : Type 0 where
   pub long : length sets ≡ n + 1
   pub each : (j : ℕ) → j ≤ n → IsNodeSet r (Reaches r (drop (length w - j) w) goal) (slice_index sets j)

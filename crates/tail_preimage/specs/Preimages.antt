@@ -1,4 +1,4 @@
--- Placed configurations that a rule maps to a given one: their shapes and their order, the words that show that none does, and which of these is the answer.
+-- Placed configurations that a rule maps to a given one: their shapes and their order, the words that show that there is none, and the right answer.
 use Rattle.std.specs.Prelude.{◌≡◌, ◌≢◌, ℕ, ◌+◌, ◌*◌, ◌-◌, ◌≤◌, List, ◌++◌, length, map, ℤ, pos, ◌+ℤ◌, ◌-ℤ◌}
 use Rattle.std.specs.List.{range_with_len, repeat}
 use Rattle.std.specs.Ordering.{ordering_then, nat_cmp}
@@ -14,27 +14,27 @@ pub record PlacedConfig : Type 0 where
   pub at : ℤ
   pub config : TailConfig
 
--- the letter of a placed configuration at place i is that of the configuration at i - at
+-- the letter of a placed configuration at place i is the letter of the configuration at i - at
 abbrev pub placed_cell : PlacedConfig → ℤ → ℕ
 placed_cell p i = cell p.config (i -ℤ p.at)
 
--- the n cells of a placed configuration from place i on
+-- n cells of a placed configuration, starting at place i
 abbrev pub placed_cells : PlacedConfig → ℤ → ℕ → List ℕ
 placed_cells p i n = map (λ j. placed_cell p (i +ℤ pos j)) (range_with_len 0 n)
 
--- at every place the rule gives on its window the letter of t
+-- at every place the rule gives the letter of t for the window there
 pub record MapsTo (r : LocalRule) (p : PlacedConfig) (t : TailConfig) : Type 0 where
   pub config : IsTail r.states p.config
   pub cells : (i : ℤ) → local_map r (placed_cells p (i +ℤ r.offset) r.width) ≡ cell t i
 
--- how many left and right periods of t the middle spans beside t's own middle, and how many its own periods span
+-- how many left and right periods of t the parts of a placed configuration span: its middle, besides the middle of t, and its own two periods
 pub record Shape : Type 0 where
   pub before : ℕ
   pub back : ℕ
   pub after : ℕ
   pub on : ℕ
 
--- the parts of a placed configuration are as long as so many periods of t, its middle stands where these do, and the m - 1 cells from there on are those that stand one of its left periods before
+-- the parts of a placed configuration are as long as these periods of t, its middle is where they are, and its m - 1 cells from there on are equal to those one of its left periods earlier
 pub record HasShape (r : LocalRule) (t : TailConfig) (s : Shape) (p : PlacedConfig) : Type 0 where
   pub back_some : 1 ≤ s.back
   pub on_some : 1 ≤ s.on
@@ -42,17 +42,17 @@ pub record HasShape (r : LocalRule) (t : TailConfig) (s : Shape) (p : PlacedConf
   pub middle : length p.config.middle ≡ s.before * length t.left + length t.middle + s.after * length t.right
   pub right : length p.config.right ≡ s.on * length t.right
   pub at : p.at ≡ r.offset -ℤ pos (s.before * length t.left)
-  -- the m - 1 cells from the middle on are equal to those one left period before
+  -- the m - 1 cells at the beginning of the middle are equal to those one left period earlier
   pub node : placed_cells p p.at (r.width - 1) ≡ placed_cells p (p.at -ℤ pos (s.back * length t.left)) (r.width - 1)
 
--- the order of shapes: by the left periods of left period and middle together, then the right ones, then those of the middle
+-- the order of shapes: by the left periods of left period and middle together, then the right ones, then the left and the right ones of the middle
 abbrev pub shape_cmp : Shape → Shape → Ordering
 shape_cmp s u =
     ordering_then (nat_cmp (s.back + s.before) (u.back + u.before))
     (ordering_then (nat_cmp (s.on + s.after) (u.on + u.after))
     (ordering_then (nat_cmp s.before u.before) (nat_cmp s.after u.after)))
 
--- the three parts of a placed configuration, one after the other
+-- the three parts of a placed configuration as one word
 abbrev pub letters : PlacedConfig → List ℕ
 letters p = p.config.left ++ p.config.middle ++ p.config.right
 
@@ -61,24 +61,24 @@ pub record IsShapedPreimage (r : LocalRule) (t : TailConfig) (s : Shape) (p : Pl
   pub maps : MapsTo r p t
   pub shape : HasShape r t s p
 
--- the first placed configuration that maps to t: by shape, then in dictionary order
+-- the least placed configuration that maps to t: by its shape, then in dictionary order
 pub record IsLeastPreimage (r : LocalRule) (t : TailConfig) (p : PlacedConfig) : Type 0 where
   pub shape : Shape
   pub preimage : IsShapedPreimage r t shape p
   pub least : (s : Shape) (q : PlacedConfig) → IsShapedPreimage r t s q → ordering_then (shape_cmp shape s) (slice_cmp nat_cmp (letters p) (letters q)) ≢ Greater
 
--- the word of some left periods, the middle, and some right periods of a configuration
+-- the word of some left periods, the middle and some right periods of a configuration
 abbrev pub stretch : TailConfig → ℕ → ℕ → List ℕ
 stretch t before after = repeat before t.left ++ t.middle ++ repeat after t.right
 
--- the first orphan of some left periods, the middle and some right periods: by the left ones, then by the right ones
+-- the first stretch that is an orphan: with the fewest left periods, and then the fewest right ones
 pub record IsLeastGap (r : LocalRule) (t : TailConfig) (before after : ℕ) (w : List ℕ) : Type 0 where
   pub word : w ≡ stretch t before after
   pub orphan : IsOrphan r w
   pub before_least : (b a : ℕ) → IsOrphan r (stretch t b a) → before ≤ b
   pub after_least : (a : ℕ) → IsOrphan r (stretch t before a) → after ≤ a
 
--- at most 16 periods on either side
+-- at most 16 periods on each side
 pub record IsSmall (s : Shape) : Type 0 where
   pub left : s.back + s.before ≤ most_nodes
   pub right : s.on + s.after ≤ most_nodes
@@ -88,7 +88,7 @@ pub record IsFrom (r : LocalRule) (t : TailConfig) (p : PlacedConfig) : Type 0 w
   pub least : IsLeastPreimage r t p
   pub small : IsSmall least.shape
 
--- the first gap, where no placed configuration maps to t
+-- the first gap, if no placed configuration maps to t
 pub record IsGap (r : LocalRule) (t : TailConfig) (before after : ℕ) (w : List ℕ) : Type 0 where
   pub least : IsLeastGap r t before after w
   pub before_few : before ≤ most_nodes

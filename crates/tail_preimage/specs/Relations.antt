@@ -8,7 +8,7 @@ use Rattle.search_laws.specs.Walks.{Walk}
 pub record IsRelation (r : LocalRule) (Related : ℕ → ℕ → Type 0) (table : List ℕ) : Type 0 where
   pub rows : (u : ℕ) → u < node_count r → IsNodeSet r (Related u) (slice_index table u)
 
--- a relation as steps on letters that say nothing
+-- a relation as steps whose letters have no meaning
 abbrev pub Unlettered : (ℕ → ℕ → Type 0) → ℕ → Unit {0} → ℕ → Type 0
 Unlettered E s a t = E s t
 
@@ -16,23 +16,23 @@ Unlettered E s a t = E s t
 pub record Steps (E : ℕ → ℕ → Type 0) (n u v : ℕ) : Type 0 where
   pub walk : Walk (Unlettered E) u (replicate n tt) v
 
--- n steps lead from u anywhere
+-- some walk of n steps begins at u
 abbrev pub Open : (ℕ → ℕ → Type 0) → ℕ → ℕ → Type 0
 Open E n u = (v : ℕ) × Steps E n u v
 
--- n steps lead from u to a node to which `on` steps lead back
+-- n steps lead from u to a node that has a loop of `on` steps
 abbrev pub Rounds : (ℕ → ℕ → Type 0) → ℕ → ℕ → ℕ → Type 0
 Rounds E n on u = (v : ℕ) × Steps E n u v × Steps E on v v
 
--- n steps lead from u to a node to which others lead back, for some two numbers with this sum of which the second isn't 0
+-- some steps lead from u to a node that has a loop of one or more steps, and both numbers have this sum
 abbrev pub SomeRounds : (ℕ → ℕ → Type 0) → ℕ → ℕ → Type 0
 SomeRounds E sum u = (n : ℕ) × (on : ℕ) × (n + on ≡ sum) × (1 ≤ on) × Rounds E n on u
 
--- a fact holds of a node of the set
+-- some node of the set has the property
 abbrev pub Meets : LocalRule → (ℕ → Type 0) → ℕ → Type 0
 Meets r Holds set = (u : ℕ) × (u < node_count r) × Holds u × IsBitSet set u
 
--- n is the first number of which it holds
+-- n is the least number with the property
 pub record IsFirst (Holds : ℕ → Type 0) (n : ℕ) : Type 0 where
   pub holds : Holds n
   pub none : (i : ℕ) → i < n → ¬ Holds i

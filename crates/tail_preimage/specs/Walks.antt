@@ -1,4 +1,4 @@
--- Preimages of a word as walks in the de Bruijn graph: from the node of their first m - 1 letters to that of their last, along edges whose labels spell the word.
+-- Preimages of a word as walks in the de Bruijn graph, from the node of their first m - 1 letters to the node of their last ones, along edges whose labels spell the word.
 use Rattle.std.specs.Prelude.{◌≡◌, ◌≢◌, ℕ, ◌-◌, List, length, take, drop, IsBitSet}
 use Rattle.std.specs.declared.cmp.Ordering.TheVariants.{Greater}
 use Rattle.std.specs.Ordering.{nat_cmp}
@@ -12,7 +12,7 @@ pub record IsWalk (r : LocalRule) (w : List ℕ) (u v : ℕ) (x : List ℕ) : Ty
   pub first : value r.states (take (r.width - 1) x) ≡ u
   pub last : value r.states (drop (length w) x) ≡ v
 
--- the letters of a walk before those of its last node
+-- the letters of a walk without those of its last node
 abbrev pub before_last : LocalRule → List ℕ → List ℕ
 before_last r x = take (length x - (r.width - 1)) x
 
@@ -24,7 +24,7 @@ HasWalk r w u v = (x : List ℕ) × IsWalk r w u v x
 abbrev pub Reaches : LocalRule → List ℕ → ℕ → ℕ → Type 0
 Reaches r w goal u = (v : ℕ) × IsBitSet goal v × HasWalk r w u v
 
--- x is the first walk of w from node u into a set of nodes, in dictionary order, and ends with node v
+-- x is the first walk of w, in dictionary order, from node u into a set of nodes, and it ends with node v
 pub record IsLeastWalkInto (r : LocalRule) (w : List ℕ) (u goal v : ℕ) (x : List ℕ) : Type 0 where
   pub walk : IsWalk r w u v x
   pub within : IsBitSet goal v

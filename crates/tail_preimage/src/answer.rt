@@ -20,10 +20,10 @@ use std::alloc::{AllocError, Global};
 use tail_config::Tail;
 use word_image::{Rule, Word};
 
-/// A configuration whose middle begins at a place.
+/// A configuration whose middle begins at a given place.
 #[derive(Debug, Drop)]
 pub struct Placed {
-    /// Where the middle begins.
+    /// The place at which the middle begins.
     pub at: i64,
     /// The left period.
     pub left: Word,
@@ -33,24 +33,24 @@ pub struct Placed {
     pub right: Word,
 }
 
-/// What maps to a configuration, or why nothing does.
+/// A preimage of a configuration, or a reason why there is none.
 #[derive(Debug, Drop)]
 pub enum Pre {
-    /// The first placed configuration that maps to it.
+    /// The first placed configuration that the rule maps to it.
     From(Placed),
-    /// The first orphan among its stretches.
+    /// The first stretch of the configuration that is an orphan.
     Gap {
-        /// How many left periods it has.
+        /// The number of left periods in the stretch.
         before: u16,
-        /// How many right periods it has.
+        /// The number of right periods in the stretch.
         after: u16,
         /// The orphan.
         word: Word,
     },
 }
 
-/// The first placed configuration that the rule maps to a configuration, or else the first of the
-/// configuration's stretches that is an orphan.
+/// Returns the first placed configuration that the rule maps to the given one, or otherwise the first stretch of the
+/// given configuration that is an orphan.
 pub fn preimage(alloc: Global, rule: &Rule, tail: &Tail) -> Result<Pre, AllocError>
     requires { rule.now.states ≡ tail.now.states }
     ensures answer { IfOk result (IsPreimageAnswer rule.now tail.now.config) }
@@ -71,7 +71,7 @@ pub fn preimage(alloc: Global, rule: &Rule, tail: &Tail) -> Result<Pre, AllocErr
     Ok(Pre::From(first_placed(alloc, &graph, tail, &parts, spans)?))
 }
 
-/// The first placed configuration of the first shape.
+/// Returns the first placed configuration of the first possible shape.
 fn first_placed(
     alloc: Global,
     graph: &Graph,
@@ -98,7 +98,7 @@ fn first_placed(
     })
 }
 
-/// The first walk along n copies of a part from a node back to it, where there is one.
+/// Returns the first walk along n copies of a part from a node back to it, if there is one.
 fn first_loop(
     alloc: Global,
     graph: &Graph,
@@ -116,7 +116,7 @@ fn first_loop(
     Ok(least_walk(alloc, graph, node, &word, 1u16 << node)?.0)
 }
 
-/// The nodes from which three walks of a possible shape lead.
+/// Returns the nodes from which three walks of a possible shape lead.
 fn starts(graph: &Graph, parts: &Parts, spans: Spans) -> u16
     requires left { spans.back + spans.before ≤ most_nodes }
     requires right { spans.on + spans.after ≤ most_nodes }
@@ -132,7 +132,7 @@ fn starts(graph: &Graph, parts: &Parts, spans: Spans) -> u16
     loops(graph, &parts.left, spans.back) & lefts
 }
 
-/// The place at which the middle begins where it spans so many left periods.
+/// Returns the place at which the middle begins if it spans this many left periods.
 fn place_of(graph: &Graph, tail: &Tail, periods: u8) -> i64
     ensures { result ≡ graph.now.offset -ℤ pos (periods * length tail.now.config.left) }
 {
@@ -140,7 +140,7 @@ fn place_of(graph: &Graph, tail: &Tail, periods: u8) -> i64
     i64::from(graph.rule().o()) - i64::from(letters)
 }
 
-/// The letters of a walk before those of its last node.
+/// Returns the letters of a walk without those of its last node.
 fn without_node(graph: &Graph, mut walk: Vec<u8>) -> Word
     ensures { result ≡ before_last graph.now walk.items }
 {

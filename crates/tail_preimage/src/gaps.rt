@@ -1,4 +1,4 @@
-//! The first numbers of periods with which a configuration's middle is an orphan.
+//! The first numbers of periods for which a configuration's middle with these periods is an orphan.
 
 ghost use Rattle.std.specs.Prelude.{MatchOption};
 ghost use Rattle.word_image.specs.LocalRules.{most_nodes};
@@ -10,8 +10,9 @@ use crate::shapes::Parts;
 use debruijn::Graph;
 use word_image::MOST_NODES;
 
-/// The least number of left periods that lead nowhere with 16 right ones, and the least number of right
-/// periods that lead nowhere with these; `None` where 16 periods on either side lead through.
+/// Returns the least number of left periods that can't be followed by the middle and 16 right periods, and then the
+/// least number of right periods that can't follow these and the middle. Returns None if 16 periods on both sides
+/// have a walk.
 pub fn first_gap(graph: &Graph, parts: &Parts) -> Option<(u8, u8)>
     requires { HaveParts graph.now parts.now }
     ensures { MatchOption result (PassesThrough graph.now parts.now most_nodes most_nodes) (λ (b, a). IsFirstGap graph.now parts.now b a) }

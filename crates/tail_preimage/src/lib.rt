@@ -1,27 +1,27 @@
-//! Preimages of configurations with periodic tails: the first placed configuration that a rule maps to
-//! a given one, or else the first stretch of the given one that is an orphan.
+//! Preimages of configurations with periodic tails: the first placed configuration that a rule maps to a given one,
+//! or otherwise the first stretch of the given one that is an orphan.
 //!
-//! A placed configuration is a left period, a middle and a right period, and the place at which the
-//! middle begins. It maps to a configuration where at every integer the rule gives on its window there
-//! the letter that stands there. It is a walk in the de Bruijn graph (Sutner 1991) whose labels are the
-//! letters of the given configuration: its node at a place is the word of the m - 1 letters from there on.
+//! A placed configuration consists of a left period, a middle, a right period, and the place at which the middle
+//! begins. The rule maps it to a configuration if at every integer it gives the letter of that configuration for the
+//! window there. A placed configuration is a walk in the de Bruijn graph (Sutner 1991) whose labels are the letters
+//! of the given configuration. Its node at a place is the word of the m - 1 letters that begin there.
 //!
-//! A stretch of the given configuration `L|M|R` is some left periods, the middle and some right periods.
-//! Where a stretch is an orphan nothing maps. Else there is a walk along 16 left periods, the middle and
-//! 16 right periods. Of the 17 nodes at the ends of the left periods two are one, since there are at most
-//! 16 nodes, and so are two on the right: two loops of whole periods, and a walk between them. They are a
-//! placed configuration whose periods are the loops.
+//! A stretch of the given configuration `L|M|R` consists of some left periods, the middle and some right periods. If
+//! a stretch is an orphan, there is no preimage. Otherwise there is a walk along 16 left periods, the middle and 16
+//! right periods. There are at most 16 nodes, so two of the 17 nodes at the ends of the left periods are equal, and
+//! so are two on the right. This gives two loops of whole periods and a walk between them: a placed configuration
+//! whose periods are the loops.
 //!
-//! Of those the first has the fewest periods on the left, then on the right, then in its middle on the
-//! left, then on the right, and then the first letters in dictionary order. Each number is the least for
-//! which two sets of nodes meet: those before the middle with a loop on the left, and those from which
-//! the middle leads to a loop on the right. Both sides are searched alike: the left periods are read
-//! backwards, from the middle on. The letters are found forwards, at each place the edge to the least node
-//! from which the goal can still be reached.
+//! The first placed configuration has the fewest given periods on the left, then on the right, then in its middle on
+//! the left, then in its middle on the right, and then the first letters in dictionary order. Each of these numbers
+//! is the least for which two sets of nodes meet: those before the middle with a loop on the left, and those from
+//! which the middle leads to a loop on the right. Both sides are searched in the same way, and the left periods are
+//! read backward, starting at the middle. The letters are found from left to right: at each place the edge to the
+//! least node from which the goal can still be reached.
 //!
-//! Under rule 90, which adds the two neighbours modulo 2, `-1 0|0|01` maps to `0|1|0`: its cells are
-//! 0 up to place 0, and from there on 0 1 0 1 by turns, so that the neighbours of place 0 alone differ.
-//! Under rule 110 nothing maps to `0|101|0`, since 01010 is an orphan; neither 1010 nor 0101 is one.
+//! Under rule 90, the sum of the two neighbours modulo 2, `-1 0|0|01` is mapped to `0|1|0`. Its cells are 0 up to
+//! place 0 and alternate after it, so the two neighbours differ only at place 0. Under rule 110 nothing is mapped to
+//! `0|101|0`: 01010 is an orphan, and neither 1010 nor 0101 is one.
 //!
 //! For N = k^(m - 1) nodes and parts of l letters a call takes time **O(N² l)** and space **O(N l)**.
 #![tactic(auto)]

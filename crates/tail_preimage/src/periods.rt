@@ -1,4 +1,4 @@
-//! The periods on one side of a configuration, as they lead away from its middle.
+//! The periods on one side of a configuration, in the direction away from its middle.
 
 ghost use Rattle.std.specs.Prelude.{◌≡◌, ◌-◌, ◌<◌, ◌≤◌, ℕ, IfSome, MatchOption};
 ghost use Rattle.word_image.specs.LocalRules.{most_nodes};
@@ -10,16 +10,16 @@ use crate::relations::{Relation, before, powers, returning};
 use debruijn::Graph;
 use word_image::MOST_NODES;
 
-/// The relation of a period, and those of 0 to 16 periods.
+/// The relation of one period, and the relations of 0 to 16 periods.
 #[derive(Clone, Copy)]
 pub struct Periods {
-    /// Of one period.
+    /// The relation of one period.
     pub period: Relation,
-    /// Of 0 to 16 periods.
+    /// The relations of 0 to 16 periods.
     pub powers: [Relation; MOST_NODES + 1],
 }
 
-/// The periods of which each has this relation.
+/// Computes the relations of up to 16 periods from the relation of one period.
 pub fn periods_of(graph: &Graph, period: Relation) -> Periods
     requires { AreSets graph.now period }
     ensures period { result.period ≡ period }
@@ -31,7 +31,7 @@ pub fn periods_of(graph: &Graph, period: Relation) -> Periods
     }
 }
 
-/// The nodes from which n periods lead anywhere.
+/// Returns the nodes from which some walk along n periods leads.
 pub fn open(graph: &Graph, periods: &Periods, n: u8) -> u16
     requires few { n ≤ most_nodes }
     requires periods { ArePeriods graph.now periods.now }
@@ -40,7 +40,7 @@ pub fn open(graph: &Graph, periods: &Periods, n: u8) -> u16
     before(graph, &periods.powers[usize::from(n)], graph.full())
 }
 
-/// The nodes to which n periods lead back.
+/// Returns the nodes from which a walk along n periods leads back to the node.
 pub fn loops(graph: &Graph, periods: &Periods, n: u8) -> u16
     requires few { n ≤ most_nodes }
     requires periods { ArePeriods graph.now periods.now }
@@ -49,7 +49,7 @@ pub fn loops(graph: &Graph, periods: &Periods, n: u8) -> u16
     returning(graph, &periods.powers[usize::from(n)])
 }
 
-/// The nodes from which n periods lead to a node to which `on` periods lead back.
+/// Returns the nodes from which n periods lead to a node that has a loop of `on` periods.
 pub fn rounds(graph: &Graph, periods: &Periods, n: u8, on: u8) -> u16
     requires n_few { n ≤ most_nodes }
     requires on_few { on ≤ most_nodes }
@@ -63,7 +63,8 @@ pub fn rounds(graph: &Graph, periods: &Periods, n: u8, on: u8) -> u16
     )
 }
 
-/// The same for any two numbers with this sum, of which the second one isn't 0.
+/// Returns the nodes from which some periods lead to a node with a loop of one or more periods. Both numbers of
+/// periods have this sum.
 pub fn some_rounds(graph: &Graph, periods: &Periods, sum: u8) -> u16
     requires few { sum ≤ most_nodes }
     requires periods { ArePeriods graph.now periods.now }
@@ -76,7 +77,7 @@ pub fn some_rounds(graph: &Graph, periods: &Periods, sum: u8) -> u16
     set
 }
 
-/// The least number of periods that lead nowhere from a set of nodes; `None` where 16 lead somewhere.
+/// Returns the least number of periods that have no walk from a node of the set, or None if 16 periods have one.
 pub fn least_closed(graph: &Graph, periods: &Periods, set: u16) -> Option<u8>
     requires periods { ArePeriods graph.now periods.now }
     ensures few { IfSome result (λ n. n ≤ most_nodes) }
@@ -91,7 +92,7 @@ pub fn least_closed(graph: &Graph, periods: &Periods, set: u16) -> Option<u8>
     None
 }
 
-/// The least sum with which `some_rounds` meets a set of nodes, where some sum up to 16 does.
+/// Returns the least sum for which `some_rounds` contains a node of the set. Some sum up to 16 does.
 pub fn least_sum(graph: &Graph, periods: &Periods, set: u16) -> u8
     requires periods { ArePeriods graph.now periods.now }
     requires some { (sum : ℕ) × (sum ≤ most_nodes) × Meets graph.now (SomeRounds (HasBit periods.now.period) sum) set }
@@ -106,7 +107,7 @@ pub fn least_sum(graph: &Graph, periods: &Periods, set: u16) -> u8
     unreachable!()
 }
 
-/// The least n with which `rounds` of this sum meets a set of nodes, where some n does.
+/// Returns the least n for which `rounds` with this sum contains a node of the set. Some n does.
 pub fn least_first(graph: &Graph, periods: &Periods, sum: u8, set: u16) -> u8
     requires few { sum ≤ most_nodes }
     requires periods { ArePeriods graph.now periods.now }

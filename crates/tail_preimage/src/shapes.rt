@@ -14,7 +14,7 @@ use word_image::MOST_NODES;
 /// The parts of a configuration as relations.
 #[derive(Clone, Copy)]
 pub struct Parts {
-    /// The left periods, from the end to the start.
+    /// The left periods, read from the end to the start.
     pub left: Periods,
     /// The middle.
     pub middle: Relation,
@@ -22,21 +22,21 @@ pub struct Parts {
     pub right: Periods,
 }
 
-/// How many left and right periods the middle of a placed configuration spans beside the middle that it
-/// maps to, and how many its own periods span.
+/// How many given left and right periods the parts of a placed configuration span: its middle, besides the given
+/// middle, and its own two periods.
 #[derive(Clone, Copy)]
 pub struct Spans {
-    /// Left periods of the middle.
+    /// Left periods in the middle.
     pub before: u8,
-    /// Left periods of the left period.
+    /// Left periods in the left period.
     pub back: u8,
-    /// Right periods of the middle.
+    /// Right periods in the middle.
     pub after: u8,
-    /// Right periods of the right period.
+    /// Right periods in the right period.
     pub on: u8,
 }
 
-/// The parts of this configuration.
+/// Returns the parts of this configuration.
 pub fn parts_of(graph: &Graph, tail: &Tail) -> Parts
     requires { graph.now.states ≡ tail.now.states }
     ensures parts { AreTailParts graph.now tail.now.config result }
@@ -49,7 +49,7 @@ pub fn parts_of(graph: &Graph, tail: &Tail) -> Parts
     }
 }
 
-/// The first possible shape, where 16 periods on either side lead through.
+/// Returns the first possible shape. 16 periods on both sides have a walk.
 pub fn first_shape(graph: &Graph, parts: &Parts) -> Spans
     requires parts { HaveParts graph.now parts.now }
     requires some { PassesThrough graph.now parts.now most_nodes most_nodes }

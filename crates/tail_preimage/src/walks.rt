@@ -11,7 +11,7 @@ use debruijn::Graph;
 use std::alloc::{AllocError, Global};
 use word_image::Rule;
 
-/// The least node of a set that has one.
+/// Returns the least node of a set that isn't empty.
 pub fn least_node(set: u16) -> u8
     requires { set ≢ 0 }
     ensures { IsFirst (IsBitSet set) result }
@@ -19,7 +19,7 @@ pub fn least_node(set: u16) -> u8
     set.trailing_zeros() as u8
 }
 
-/// For each place of the word, from its end to its start, the nodes from which the rest of it leads
+/// Returns for each place of the word, from its end to its start, the nodes from which the rest of the word leads
 /// into the goal.
 fn open_sets(alloc: Global, graph: &Graph, word: &[u8], goal: u16) -> Result<Vec<u16>, AllocError>
     requires word { IsWord graph.now.states word.now }
@@ -35,7 +35,7 @@ fn open_sets(alloc: Global, graph: &Graph, word: &[u8], goal: u16) -> Result<Vec
     Ok(sets)
 }
 
-/// The letters of a node.
+/// Returns the letters of a node.
 fn node_letters(alloc: Global, rule: &Rule, u: u8) -> Result<Vec<u8>, AllocError>
     requires { u < node_count rule.now }
     ensures { IfOk result (λ word. word.items ≡ word_of rule.now.states (rule.now.width - 1) u) }
@@ -47,7 +47,7 @@ fn node_letters(alloc: Global, rule: &Rule, u: u8) -> Result<Vec<u8>, AllocError
     Ok(word)
 }
 
-/// The first walk of a word from a node into a set of nodes, and the node with which it ends.
+/// Returns the first walk of a word from a node into a set of nodes, and the node at its end.
 pub fn least_walk(
     alloc: Global,
     graph: &Graph,

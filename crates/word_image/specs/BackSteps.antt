@@ -1,9 +1,9 @@
--- Steps of pairs of nodes, read backwards.
+-- Steps of pairs of nodes, followed backward.
 use Rattle.std.specs.Prelude.{◌≡◌, ℕ, ◌<◌, Some}
 use Rattle.word_image.specs.LocalRules.{LocalRule}
 use Rattle.word_image.specs.Graphs.{node_letter, first_of, second_of, pair_count, follow}
 
--- the nodes of the pair p begin with the letters a and b, and an edge each leads from them to the nodes of q, with equal labels
+-- the nodes of pair p have the first letters a and b, and edges with equal labels lead from them to the nodes of pair q
 pub record LeadsBack (r : LocalRule) (q a b p : ℕ) : Type 0 where
   pub in_pairs : p < pair_count r
   pub first : node_letter r (first_of r p) 0 ≡ a

@@ -1,4 +1,4 @@
--- The edges of the de Bruijn graph, read along them to the right and against them to the left, as sets in which node v is bit v.
+-- The edges of the de Bruijn graph as sets of nodes: forward edges on the right side, backward edges on the left. Bit v of a set stands for node v.
 use Rattle.std.specs.Prelude.{◌≡◌, ◌<◌, ◌≤◌, ℕ, List, [], slice_index, slice_index_or, IsBitSet}
 use Rattle.word_image.specs.LocalRules.{LocalRule, node_count, most_states, most_nodes}
 use Rattle.word_image.specs.Graphs.{IsNodeSet}
@@ -10,19 +10,19 @@ use Rattle.word_image.specs.declared.side.Side.TheVariants.{Right}
 abbrev pub IsEdge : Side → LocalRule → ℕ → ℕ → ℕ → Type 0
 IsEdge side r label u v = (a : ℕ) × (a < r.states) × ((label_at side r u a ≡ label) × (end_at side r u a ≡ v))
 
--- the set of the nodes to which an edge with this label leads from node u
+-- the set of nodes to which edges with this label lead from node u
 abbrev pub IsEnds : Side → LocalRule → ℕ → ℕ → ℕ → Type 0
 IsEnds side r u label = IsNodeSet r (IsEdge side r label u)
 
--- a step of a set on letter a leads to the nodes to which an edge with that label leads from a node of the set
+-- the result is the set of nodes to which edges with label a lead from the nodes of the set
 abbrev pub IsStep : LocalRule → ℕ → ℕ → ℕ → Type 0
 IsStep r set a = IsNodeSet r (λ v. (u : ℕ) × (u < node_count r) × (IsBitSet set u × IsEdge Right r a u v))
 
--- the set that rows of sets have for a label and a node
+-- the set that the rows store for a label and a node
 abbrev pub ends_at : List (List ℕ) → ℕ → ℕ → ℕ
 ends_at rows label u = slice_index (slice_index_or rows label []) u
 
--- the rows have the ends of all edges, label by label and node by node, and nothing past the nodes
+-- the rows store the ends of all edges by label and node, and empty sets past the last label and the last node
 pub record AreEdgeRows (side : Side) (r : LocalRule) (rows : List (List ℕ)) : Type 0 where
   pub ends : (label u : ℕ) → label < most_states → u < node_count r → IsEnds side r u label (ends_at rows label u)
   pub past : (label u : ℕ) → label < most_states → u < most_nodes → node_count r ≤ u → ends_at rows label u ≡ 0

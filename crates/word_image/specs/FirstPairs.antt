@@ -1,11 +1,11 @@
--- The pairs of nodes with which two walks part, on the right and on the left.
+-- The pairs of nodes that two walks reach when they part, on the right and on the left.
 use Rattle.std.specs.Prelude.{◌≡◌, ◌≢◌, ℕ, ◌-◌, ◌<◌, drop}
 use Rattle.word_image.specs.LocalRules.{LocalRule, node_count, word_of}
 use Rattle.word_image.specs.Graphs.{next, label, node_letter, pair_count, pair_of, first_of, second_of}
 use Rattle.word_image.specs.declared.side.Side.{Side}
 use Rattle.word_image.specs.declared.side.Side.TheVariants.{Right, Left}
 
--- a pair to which two different letters lead from one node, with one label
+-- a pair of nodes that two different letters reach from the same node, along edges with equal labels
 pub record IsFirstOfRight (r : LocalRule) (p : ℕ) : Type 0 where
   pub node : ℕ
   pub a : ℕ
@@ -17,7 +17,7 @@ pub record IsFirstOfRight (r : LocalRule) (p : ℕ) : Type 0 where
   pub one_label : label r node a ≡ label r node b
   pub pair : p ≡ pair_of r (next r node a) (next r node b)
 
--- a pair of nodes that differ in their first letter and only there, from which one letter leads with one label
+-- a pair of nodes that differ only in their first letter, and from which one letter leads along edges with equal labels
 pub record IsFirstOfLeft (r : LocalRule) (p : ℕ) : Type 0 where
   pub letter : ℕ
   pub in_pairs : p < pair_count r

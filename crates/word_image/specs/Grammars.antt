@@ -1,12 +1,12 @@
--- Where a text leaves a grammar, whatever the grammar is.
+-- The place at which a text leaves a grammar, for any grammar.
 use Rattle.std.specs.Prelude.{ℕ, ◌<◌, ◌≤◌, List, ◌++◌, length, take}
 
--- some text of the grammar begins so
+-- some text of the grammar begins with this text
 pub record Begins (IsText : List ℕ → Type 0) (text : List ℕ) : Type 0 where
   pub more : List ℕ
   pub whole : IsText (text ++ more)
 
--- the text isn't in the grammar, and its longest prefix that begins some text of the grammar has this length
+-- the text isn't in the grammar, and place is the length of its longest prefix with which some text of the grammar begins
 pub record IsFormFault (IsText : List ℕ → Type 0) (text : List ℕ) (place : ℕ) : Type 0 where
   pub outside : ¬ IsText text
   pub within : place ≤ length text

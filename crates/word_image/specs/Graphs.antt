@@ -1,24 +1,24 @@
--- The de Bruijn graph of a rule (Sutner 1991): a node is a word of m - 1 letters by its value, an edge a window. Its pairs of nodes, and the steps between these.
+-- The de Bruijn graph of a rule (Sutner 1991). A node is the value of a word of m - 1 letters, and an edge is the value of a window. Pairs of nodes, and steps between pairs.
 use Rattle.std.specs.Prelude.{◌≡◌, ℕ, List, ◌+◌, ◌-◌, ◌*◌, ◌/◌, ◌%◌, ◌^◌, ◌<◌, Option, Some, None, ◌==◌, if◌then◌else◌, slice_index, ◌↔◌, IsBitSet}
 use Rattle.word_image.specs.LocalRules.{LocalRule, node_count, most_nodes, word_of}
 use Rattle.word_image.specs.Ends.{label_at, end_at}
 use Rattle.word_image.specs.declared.side.Side.{Side}
 use Rattle.word_image.specs.declared.side.Side.TheVariants.{Right, Left}
 
--- where letter a leads from node u: to the last m - 1 letters of their window
+-- the node that letter a reaches from node u: the last m - 1 letters of their window
 abbrev pub next : LocalRule → ℕ → ℕ → ℕ
 next = end_at Right
 
--- what the rule gives on the window of node u and letter a
+-- the letter that the rule gives for the window of node u and letter a
 abbrev pub label : LocalRule → ℕ → ℕ → ℕ
 label = label_at Right
 
--- a set is a number in which u is bit u: this one has those below n of which something holds
+-- the set of the numbers below n for which Holds is true; bit u of a set says whether u is in it
 pub record IsSetOf (n : ℕ) (Holds : ℕ → Type 0) (set : ℕ) : Type 0 where
   pub within : set < 2 ^ n
   pub nodes : (u : ℕ) → u < n → (IsBitSet set u ↔ Holds u)
 
--- the set of the nodes of which something holds
+-- the set of the nodes for which something holds
 abbrev pub IsNodeSet : LocalRule → (ℕ → Type 0) → ℕ → Type 0
 IsNodeSet r = IsSetOf (node_count r)
 
@@ -50,26 +50,26 @@ first_of r p = p / node_count r
 abbrev pub second_of : LocalRule → ℕ → ℕ
 second_of r p = p % node_count r
 
--- where letters lead from the nodes of a pair, if the labels of the two edges are equal
+-- the pair that the letters a and b reach from the nodes of pair p, if the labels of the two edges are equal
 abbrev pub follow_on : Side → LocalRule → ℕ → ℕ → ℕ → Option ℕ
 follow_on side r p a b =
     if label_at side r (first_of r p) a == label_at side r (second_of r p) b
     then Some (pair_of r (end_at side r (first_of r p) a) (end_at side r (second_of r p) b))
     else None
 
--- from a pair on letters a and b
+-- the pair that the letters a and b reach from pair p, read to the right
 abbrev pub follow : LocalRule → ℕ → ℕ → ℕ → Option ℕ
 follow = follow_on Right
 
--- how many pairs of nodes there are
+-- the number of pairs of nodes
 abbrev pub pair_count : LocalRule → ℕ
 pair_count r = node_count r * node_count r
 
--- the most pairs of nodes of an accepted rule
+-- the greatest number of pairs of nodes that an accepted rule has
 abbrev pub most_pairs : ℕ
 most_pairs = most_nodes * most_nodes
 
--- some letters lead from one pair to another, along two edges with one label
+-- some letters lead from pair p to pair q along two edges with equal labels
 pub record PairStep (r : LocalRule) (p q : ℕ) : Type 0 where
   pub a : ℕ
   pub b : ℕ
@@ -78,7 +78,7 @@ pub record PairStep (r : LocalRule) (p q : ℕ) : Type 0 where
   pub b_letter : b < r.states
   pub follows : follow r p a b ≡ Some q
 
--- a pair leads on to another: to the right by a step to it, and to the left by a step from it
+-- on the right a step leads from pair p to pair q, and on the left from q to p
 abbrev pub LeadsOn : Side → LocalRule → ℕ → ℕ → Type 0
 LeadsOn Right r p q = PairStep r p q
 LeadsOn Left r p q = PairStep r q p

@@ -1,10 +1,9 @@
--- The marked graph, in which a walk of pairs remembers that its letters have differed.
+-- The marked graph: a walk of pairs of nodes with a mark that says whether its two letters have differed so far.
 use Rattle.std.specs.Prelude.{ℕ, ◌+◌, ◌*◌, ◌%◌, Option, Some, None, ◌==◌, ◌||◌, not, if◌then◌else◌, nat_le}
 use Rattle.word_image.specs.LocalRules.{LocalRule}
 use Rattle.word_image.specs.Graphs.{next, label, pair_of, first_of, second_of, pair_count, most_pairs}
 
--- the marked graph: a pair p with mark 0 is p, and with mark 1 it is p plus the number of pairs.
--- The mark becomes 1 where the two letters differ, and stays 1.
+-- One step in the marked graph. The pair p with mark 0 has the number p, and with mark 1 it has p plus the number of pairs. The mark becomes 1 when two letters differ, and stays 1.
 abbrev pub marked : LocalRule → ℕ → ℕ → ℕ → Option ℕ
 marked r t a b =
     if label r (first_of r (t % pair_count r)) a == label r (second_of r (t % pair_count r)) b
@@ -12,6 +11,6 @@ marked r t a b =
     + (if nat_le (pair_count r) t || not (a == b) then pair_count r else 0))
     else None
 
--- the most marked pairs of an accepted rule
+-- the greatest number of marked pairs that an accepted rule has
 abbrev pub most_marked_pairs : ℕ
 most_marked_pairs = 2 * most_pairs

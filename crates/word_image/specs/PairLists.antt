@@ -4,7 +4,7 @@ use Rattle.word_image.specs.LocalRules.{LocalRule}
 use Rattle.word_image.specs.Graphs.{pair_count, follow, first_of, second_of}
 use Rattle.word_image.specs.FirstPairs.{IsFirstOfRight}
 
--- a list of pairs that proves surjectivity
+-- a list of pairs of nodes that proves a rule surjective
 pub record IsPairList (r : LocalRule) (pairs : List ℕ) : Type 0 where
   pub below : (p : ℕ) → Contains pairs p → p < pair_count r
   pub firsts : (p : ℕ) → IsFirstOfRight r p → Contains pairs p

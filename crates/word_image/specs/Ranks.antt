@@ -1,11 +1,11 @@
--- How far two nodes lead, or have been led, with equal labels, and the last nodes of the preimages of a word, said in words (Sutner 1991).
+-- How long walks from two nodes, or to two nodes, can have equal labels, and the last nodes of the preimages of a word, both in terms of words (Sutner 1991).
 use Rattle.std.specs.Prelude.{◌≡◌, ℕ, ◌+◌, ◌-◌, List, length, take, drop}
 use Rattle.word_image.specs.LocalRules.{LocalRule, IsWord, value}
 use Rattle.word_image.specs.Graphs.{IsNodeSet}
 use Rattle.word_image.specs.Words.{IsPreimage}
 use Rattle.word_image.specs.Windows.{HaveOneImage}
 
--- two words of n + m - 1 letters with one image begin with the nodes u and v
+-- two words of n + m - 1 letters with the same image begin with the nodes u and v
 pub record BeginTogether (r : LocalRule) (u v n : ℕ) : Type 0 where
   pub x : List ℕ
   pub y : List ℕ
@@ -13,7 +13,7 @@ pub record BeginTogether (r : LocalRule) (u v n : ℕ) : Type 0 where
   pub first : value r.states (take (r.width - 1) x) ≡ u
   pub second : value r.states (take (r.width - 1) y) ≡ v
 
--- two words of n + m - 1 letters with one image end with the nodes u and v
+-- two words of n + m - 1 letters with the same image end with the nodes u and v
 pub record EndTogether (r : LocalRule) (u v n : ℕ) : Type 0 where
   pub x : List ℕ
   pub y : List ℕ
@@ -21,22 +21,22 @@ pub record EndTogether (r : LocalRule) (u v n : ℕ) : Type 0 where
   pub first : value r.states (drop n x) ≡ u
   pub second : value r.states (drop n y) ≡ v
 
--- n holds, and n + 1 doesn't
+-- n is the last length for which it holds: it doesn't hold for n + 1
 pub record IsRank (Holds : ℕ → Type 0) (n : ℕ) : Type 0 where
   pub holds : Holds n
   pub no_more : ¬ Holds (n + 1)
 
--- every length holds
+-- it holds for every length
 abbrev pub IsEndless : (ℕ → Type 0) → Type 0
 IsEndless Holds = (n : ℕ) → Holds n
 
--- u is the last node of a preimage of w
+-- some preimage of the word w has u as its last m - 1 letters
 pub record IsLastNode (r : LocalRule) (w : List ℕ) (u : ℕ) : Type 0 where
   pub x : List ℕ
   pub preimage : IsPreimage r w x
   pub last : value r.states (drop (length w) x) ≡ u
 
--- the set of the last nodes of the preimages of a word
+-- the set of the last nodes of all preimages of a word
 pub record IsLastSet (r : LocalRule) (w : List ℕ) (set : ℕ) : Type 0 where
   pub word : IsWord r.states w
   pub last : IsNodeSet r (IsLastNode r w) set

@@ -1,8 +1,8 @@
--- Rules by what they give at each value of a window.
+-- Rules that are given by the letter at each value of a window.
 use Rattle.std.specs.Prelude.{◌≡◌, ℕ, ◌^◌, ◌<◌, slice_index, ℤ}
 use Rattle.word_image.specs.LocalRules.{LocalRule, IsRule}
 
--- an accepted rule of this shape, whose table has at each value of a window what is given there
+-- an accepted rule with k states, width m and offset o, whose table has the given letter at each value of a window
 pub record IsRuleBy (k m : ℕ) (o : ℤ) (gives : ℕ → ℕ → Type 0) (r : LocalRule) : Type 0 where
   pub rule : IsRule r
   pub states : r.states ≡ k

@@ -1,4 +1,4 @@
--- The two sides of the line: what is said of the right is said of the left, where what stands first and last change places.
+-- The two sides of the line. What holds on the right holds on the left of the mirrored rule.
 use Rattle.std.specs.Prelude.{ℕ}
 use Rattle.word_image.specs.LocalRules.{LocalRule, mirrored}
 use Rattle.word_image.specs.Graphs.{first_of, second_of}
@@ -12,20 +12,20 @@ abbrev pub other : Side → Side
 other Right = Left
 other Left = Right
 
--- the rule whose right side is this side of the rule
+-- the rule itself for the right side, and the mirrored rule for the left side
 abbrev pub seen_from : Side → LocalRule → LocalRule
 seen_from Right r = r
 seen_from Left r = mirrored r
 
--- two nodes go on together for n: to the right they begin together, and to the left they end together
+-- two words of n + m - 1 letters with the same image begin with these nodes, on the right, or end with them, on the left
 abbrev pub Together : Side → LocalRule → ℕ → ℕ → ℕ → Type 0
 Together Right = BeginTogether
 Together Left = EndTogether
 
--- the nodes of a pair go on together for n
+-- the same for the two nodes of a pair
 abbrev pub PairGoes : Side → LocalRule → ℕ → ℕ → Type 0
 PairGoes side r p = Together side r (first_of r p) (second_of r p)
 
--- n letters of the image and the last m - 1 letters determine the letter before these: a right look-ahead on the line that is read backwards
+-- n letters of the image and the last m - 1 letters of a word determine the letter before these: a right look-ahead of the mirrored rule
 abbrev pub IsLeftAhead : LocalRule → ℕ → Type 0
 IsLeftAhead r n = IsRightAhead (mirrored r) n

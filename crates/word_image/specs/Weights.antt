@@ -1,4 +1,4 @@
--- The weights of letters: for each letter a whole number of eight bits.
+-- The weights of letters: a whole number of eight bits for each letter.
 use Rattle.std.specs.Prelude.{◌≡◌, ℕ, ◌≤◌, List, length, All}
 use Rattle.std.specs.List.{range_with_len}
 

@@ -1,8 +1,8 @@
--- Words by what they have at each place.
+-- Words that are given by the letter at each place.
 use Rattle.std.specs.Prelude.{◌≡◌, ℕ, ◌<◌, List, length, slice_index}
 use Rattle.word_image.specs.LocalRules.{IsWord}
 
--- a word of n letters below k, which has at each place what is given there
+-- a word of n letters below k that has the given letter at each place
 pub record IsWordBy (k n : ℕ) (gives : ℕ → ℕ → Type 0) (w : List ℕ) : Type 0 where
   pub word : IsWord k w
   pub long : length w ≡ n

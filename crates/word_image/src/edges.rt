@@ -1,4 +1,4 @@
-//! The edges of the de Bruijn graph as rows of sets of nodes, and steps of sets along them.
+//! The edges of the de Bruijn graph, stored as sets of nodes, and steps of sets along them.
 
 ghost use Rattle.std.specs.Prelude.{◌≡◌, ◌^◌, ◌<◌, ◌≤◌, ℕ, List, [], ◌∷◌, ◌++◌, length, slice_index, slice_index_or, IsBitSet};
 ghost use Rattle.word_image.specs.LocalRules.{IsRule, most_states, most_nodes};
@@ -9,12 +9,12 @@ ghost use Rattle.word_image.specs.Edges.{AreEdgeRows, IsStep};
 use crate::local_rule::{MOST_NODES, MOST_STATES, Rule};
 use crate::side::Side;
 
-/// For each label and node the set of the nodes where the edges with that label lead from it; node v
-/// is bit v. The sets of what is no label or no node are empty.
+/// For each label and each node, the set of nodes to which the edges with that label lead from the node. Bit v of a
+/// set says whether node v is in it. Entries past the last label or the last node are empty sets.
 pub type EdgeRows = [[u16; MOST_NODES]; MOST_STATES];
 
-/// The edges of the rule's de Bruijn graph, read to this side: along them to the right, and against
-/// them to the left.
+/// Returns the edges of the rule's de Bruijn graph. On the right side they lead forward, and on the left side
+/// backward.
 pub fn edge_rows(rule: &Rule, side: Side) -> EdgeRows
     ensures edges { AreEdgeRows side rule.now result }
     ensures tall { length result ≡ most_states }
@@ -33,8 +33,9 @@ pub fn edge_rows(rule: &Rule, side: Side) -> EdgeRows
     ends
 }
 
-/// The nodes to which an edge labelled a leads from a node of the set, where these are the rule's edges to
-/// the right. Where the set is that of the last nodes of a word, the answer is that of the word followed by a.
+/// Returns the nodes to which edges with the label `a` lead from the nodes of `set`. If `set` holds the last nodes of
+/// all preimages of a word, the result holds those of the word followed by `a`. `edges` are the rule's edges to the
+/// right.
 pub fn step(rule: &Rule, edges: &EdgeRows, set: u16, a: u8) -> u16
     requires edges { AreEdgeRows Side.Right rule.now edges.now }
     requires letter { a < rule.now.states }
@@ -44,7 +45,8 @@ pub fn step(rule: &Rule, edges: &EdgeRows, set: u16, a: u8) -> u16
     after(rule.nodes(), &edges[usize::from(a)], set)
 }
 
-/// Of so many nodes those to which a node of the set is related, where row u is the set of those to which node u is.
+/// Returns the union of the rows of those nodes that are in `set`: row u is the set of nodes that are related to node
+/// u. There are at most 16 nodes.
 pub fn after(nodes: u8, rows: &[u16; MOST_NODES], set: u16) -> u16
     requires few { nodes ≤ most_nodes }
     requires within { (u : ℕ) → u < nodes → slice_index rows.now u < 2 ^ nodes }

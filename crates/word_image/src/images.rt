@@ -7,10 +7,10 @@ ghost use Rattle.word_image.specs.ImageFaults.{image_fault};
 use crate::local_rule::{Rule, first_foreign};
 use std::alloc::{AllocError, Global};
 
-/// Why a word gets no image.
+/// Why a word has no image.
 #[derive(Clone, Copy, Debug, PartialEq, Eq)]
 pub enum ImageFault {
-    /// The letter at this place of the word, the first such one, is not below k.
+    /// The letter at this place isn't below k. It is the first such letter.
     Letter(usize),
     /// The word has fewer than m - 1 letters.
     Short,
@@ -18,11 +18,11 @@ pub enum ImageFault {
     Memory(AllocError),
 }
 
-/// The image of a word of at least m - 1 letters below k: what the rule gives on its windows of
-/// m letters, from the first one to the last. It has m - 1 letters fewer than the word.
+/// Returns the image of a word: the letters that the rule gives for its windows of m letters, from left to right. The
+/// word has at least m - 1 letters, all below k, and the image has m - 1 letters fewer.
 ///
-/// `Letter` and `Short` come exactly where they are the first fault of the word, in this order,
-/// and `Memory` only where the word has neither.
+/// Returns `Letter` or `Short` if the word breaks one of these conditions; a wrong letter is named first. Returns
+/// `Memory` only for a word that breaks neither.
 pub fn image(alloc: Global, rule: &Rule, word: &[u8]) -> Result<Vec<u8>, ImageFault>
     ensures image { IfOk result (λ v. v.items ≡ image rule.now word.now) }
     ensures refused { IfSome (image_fault rule.now word.now) (λ fault. result ≡ Err fault) }
@@ -37,7 +37,7 @@ pub fn image(alloc: Global, rule: &Rule, word: &[u8]) -> Result<Vec<u8>, ImageFa
     windows_image(alloc, rule, word).map_err(ImageFault::Memory)
 }
 
-/// What the rule gives on the windows of a word that has an image.
+/// Returns the letters that the rule gives for the windows of a word.
 fn windows_image(alloc: Global, rule: &Rule, word: &[u8]) -> Result<Vec<u8>, AllocError>
     requires rule { IsRule rule.now }
     requires word { IsWord rule.now.states word.now }

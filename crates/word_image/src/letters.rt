@@ -5,7 +5,7 @@ ghost use Rattle.word_image.specs.Digits.{lower_digit, hex_value, letter_at, wor
 
 use std::alloc::{AllocError, Global};
 
-/// The ASCII byte of the lower-case hexadecimal digit of a letter below 16.
+/// Returns the lower-case hexadecimal digit, in ASCII, of a letter below 16.
 pub fn digit(letter: u8) -> u8
     requires { letter < most_states }
     ensures { result ≡ lower_digit letter }
@@ -17,7 +17,7 @@ pub fn digit(letter: u8) -> u8
     }
 }
 
-/// The value of a hexadecimal digit of either case; `None` exactly where the byte is none.
+/// Returns the value of a hexadecimal digit of either case, or None if the byte isn't one.
 pub fn letter(byte: u8) -> Option<u8>
     ensures { result ≡ hex_value byte }
 {
@@ -29,8 +29,7 @@ pub fn letter(byte: u8) -> Option<u8>
     }
 }
 
-/// The letters that the hexadecimal digits of a text stand for, and 0 for each other byte. The only error
-/// is want of memory.
+/// Reads each hexadecimal digit as a letter. Any other byte counts as 0. The only error is lack of memory.
 pub fn text_word(alloc: Global, digits: &[u8]) -> Result<Vec<u8>, AllocError>
     ensures { IfOk result (λ word. word.items ≡ map letter_at digits.now) }
 {
@@ -40,8 +39,7 @@ pub fn text_word(alloc: Global, digits: &[u8]) -> Result<Vec<u8>, AllocError>
         .collect(alloc)
 }
 
-/// The text of a word: the lower-case digit of each letter, which is below 16. The only error is
-/// want of memory.
+/// Writes each letter, which is below 16, as a lower-case hexadecimal digit. The only error is lack of memory.
 pub fn word_text(alloc: Global, word: &[u8]) -> Result<Vec<u8>, AllocError>
     requires { IsWord most_states word.now }
     ensures { IfOk result (λ text. text.items ≡ word_text word.now) }

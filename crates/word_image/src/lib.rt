@@ -1,22 +1,21 @@
-//! The local rules of one-dimensional cellular automata, and what they give on windows and words.
+//! Local rules of one-dimensional cellular automata, and the images of windows, words and rings.
 //!
-//! A rule has k states, the letters 0 to k - 1, and a width m. Its table has a letter for each
-//! window of m letters, at the window's value: the base-k number whose most significant digit is
-//! the leftmost letter. Cell i of the image of a line x is the table's letter for the window of
-//! m cells from i + o on, where o is the rule's offset.
+//! A rule has k states, the letters 0 to k - 1, a width m and an offset o. Its table has one letter for each window
+//! of m letters. The letter for a window is at the window's value: the base-k number whose most significant digit is
+//! the leftmost letter. To get cell i of the image of a configuration, look up the window that consists of the cells
+//! i + o to i + o + m - 1.
 //!
-//! Rule 110 has k = 2, m = 3, o = -1 and the table 0 1 1 1 0 1 1 0. It gives 1 on the window
-//! 0 1 1, whose value is 3.
+//! Rule 110 has k = 2, m = 3, o = -1 and the table 0 1 1 1 0 1 1 0. It gives 1 for the window 0 1 1, whose value is
+//! 3.
 //!
-//! The image of a word is what the rule gives on its windows, from the first one to the last.
-//! Under rule 110 the image of 0 1 1 0 0 is 1 1 0, and that of 0 1 has no letter.
+//! The image of a word consists of the letters that the rule gives for the word's windows, from left to right. Under
+//! rule 110 the image of 0 1 1 0 0 is 1 1 0. The image of 0 1 is empty.
 //!
-//! The last m - 1 letters of a word are a node of the de Bruijn graph, of which there are
-//! N = k^(m - 1), at most 16. `at` takes time O(1), `apply` O(m), and `image` of n letters time
-//! O(n m) and space O(n).
+//! A node of the de Bruijn graph is a word of m - 1 letters. There are N = k^(m - 1) nodes, at most 16. `at` takes
+//! time O(1), `apply` O(m), and `image` takes time O(n m) and space O(n) for an image of n letters.
 //!
-//! `Word`, `SetList`, `RankRow` and `FluxRow` are the lists in which evidence is handed on, and
-//! `Weights` has a number for each letter, by which the sums of rings are taken.
+//! `Word`, `SetList`, `RankRow` and `FluxRow` are the lists that evidence consists of. `Weights` has a weight for
+//! each letter.
 #![tactic(auto)]
 
 mod edges;

@@ -1,9 +1,9 @@
-//! Small lists, each seen as the list that it holds.
+//! Lists that evidence consists of. In contracts each is the list of its items.
 ghost use Rattle.std.specs.Prelude.{◌≡◌};
 
 use std::marker::Model;
 
-/// A word, seen as the list of its letters.
+/// A word, as the list of its letters.
 #[derive(Debug, Drop)]
 pub struct Word {
     letters: Vec<u8>,
@@ -18,14 +18,14 @@ impl Model for Word {
 }
 
 impl Word {
-    /// The word of these letters, in this order.
+    /// Makes a word of these letters.
     pub fn of(items: Vec<u8>) -> Self
         ensures { result ≡ items.items }
     {
         Word { letters: items }
     }
 
-    /// The letters, the first one first.
+    /// Returns the letters from left to right.
     pub fn as_slice(&self) -> &[u8]
         ensures { result.now ≡ self.now }
     {
@@ -33,7 +33,7 @@ impl Word {
     }
 }
 
-/// A list of sets of nodes, in which node u is bit u of a set.
+/// A list of sets of nodes. Bit u of a set says whether node u is in it.
 #[derive(Debug, Drop)]
 pub struct SetList {
     sets: Vec<u16>,
@@ -48,14 +48,14 @@ impl Model for SetList {
 }
 
 impl SetList {
-    /// The list of these sets, in this order.
+    /// Makes a list of these sets.
     pub fn of(items: Vec<u16>) -> Self
         ensures { result ≡ items.items }
     {
         SetList { sets: items }
     }
 
-    /// The sets, the first one first.
+    /// Returns the sets in their order.
     pub fn as_slice(&self) -> &[u16]
         ensures { result.now ≡ self.now }
     {
@@ -63,7 +63,7 @@ impl SetList {
     }
 }
 
-/// A row of ranks, one for each pair of nodes; `None` is an endless one.
+/// The rank of each pair of nodes, in the order of the pairs' numbers. None stands for an infinite rank.
 #[derive(Debug, Drop)]
 pub struct RankRow {
     ranks: Vec<Option<u16>>,
@@ -78,14 +78,14 @@ impl Model for RankRow {
 }
 
 impl RankRow {
-    /// The row of these ranks, in this order.
+    /// Makes a row of these ranks.
     pub fn of(items: Vec<Option<u16>>) -> Self
         ensures { result ≡ items.items }
     {
         RankRow { ranks: items }
     }
 
-    /// The ranks, the first one first.
+    /// Returns the ranks, beginning with the rank of pair 0.
     pub fn as_slice(&self) -> &[Option<u16>]
         ensures { result.now ≡ self.now }
     {
@@ -93,7 +93,7 @@ impl RankRow {
     }
 }
 
-/// The flux over each node, in the order of the nodes.
+/// The flux of each node, in the order of the nodes' values.
 #[derive(Debug, Drop)]
 pub struct FluxRow {
     flows: Vec<i32>,
@@ -108,14 +108,14 @@ impl Model for FluxRow {
 }
 
 impl FluxRow {
-    /// The row of these flows, in this order.
+    /// Makes a row of these numbers.
     pub fn of(items: Vec<i32>) -> Self
         ensures { result ≡ items.items }
     {
         FluxRow { flows: items }
     }
 
-    /// The flows, that of node 0 first.
+    /// Returns the flux of each node, beginning with node 0.
     pub fn as_slice(&self) -> &[i32]
         ensures { result.now ≡ self.now }
     {

@@ -1,4 +1,4 @@
-//! A rule, and what it gives on a window.
+//! A rule, and the letter that it gives for a window.
 ghost use Rattle.std.specs.Prelude.{◌≡◌, ℕ, ◌-◌, ◌^◌, ◌<◌, ◌≤◌, ◌↔◌, List, length, reverse, ℤ, nat_le, position, slice_index, IfOk, IfSome, IsOk, IsTrue};
 ghost use Rattle.std.specs.Cmp.Rules.{comparing};
 ghost use Rattle.std.proofs.Common.{rules};
@@ -11,39 +11,39 @@ ghost use Rattle.word_image.specs.Storage.{padded};
 use crate::values::{letter_of, value_by};
 use std::marker::Model;
 
-/// The most states of an accepted rule.
+/// The greatest number of states that an accepted rule may have.
 pub const MOST_STATES: usize = 16;
 
-/// The widest window of an accepted rule.
+/// The greatest width that an accepted rule may have.
 pub const MOST_WIDTH: usize = 5;
 
-/// The most nodes: words of m - 1 letters.
+/// The greatest number of nodes, which are the words of m - 1 letters.
 pub const MOST_NODES: usize = 16;
 
-/// The most pairs of nodes.
+/// The greatest number of pairs of nodes.
 pub const MOST_PAIRS: usize = 256;
 
-/// The most letters that a table has: 16 states at width 2.
+/// The greatest number of letters in a table. A rule of 16 states and width 2 has this many.
 pub const MOST_ENTRIES: usize = 256;
 
-/// Which limit of an accepted rule is broken.
+/// The limit that a rule breaks.
 #[derive(Clone, Copy, Debug, PartialEq, Eq)]
 pub enum RuleFault {
-    /// There are not 2 to 16 states.
+    /// The number of states isn't from 2 to 16.
     States,
-    /// The width is not 2 to 5.
+    /// The width isn't from 2 to 5.
     Width,
     /// There are more than 16 words of m - 1 letters.
     Nodes,
     /// A window reaches further than 16 cells to the left or to the right.
     Offset,
-    /// The table has not one letter for each window.
+    /// The table doesn't have one letter for each window.
     Length,
-    /// The letter at this place of the table, the first such one, is not below k.
+    /// The letter at this place of the table isn't below k. It is the first such letter.
     Letter(u16),
 }
 
-/// An accepted local rule, as `LocalRule` says it: its states, width, offset and table.
+/// An accepted local rule. In contracts it is a `LocalRule` with its states, width, offset and table.
 #[derive(Clone, Copy, Debug)]
 pub struct Rule {
     // How many states there are.
@@ -89,8 +89,8 @@ impl Rule {
     ghost use Rattle.word_image.specs.Graphs.{node_letter};
     ghost use Rattle.word_image.specs.Words.{image};
 
-    /// The rule of exactly these states, width, offset and table, whose letters stand in the order
-    /// of the values of their windows; else the first fault, in the order of `RuleFault`.
+    /// Makes the rule with k states, width m, offset o and this table, whose letters are in the order of the windows'
+    /// values. Returns the first fault, in the order of `RuleFault`, if a rule can't have these parts.
     pub fn new(k: u8, m: u8, o: i8, table: &[u8]) -> Result<Rule, RuleFault>
         ensures rule { IfOk result (λ r. r ≡ record { states = k; width = m; offset = o; table = table.now }) }
         ensures fault { result_err result ≡ rule_fault k m o table.now }
@@ -107,7 +107,8 @@ impl Rule {
         })
     }
 
-    /// The rule of this shape whose table has the letter that a function gives at each value of a window.
+    /// Makes the rule whose table has, at the value of each window, the letter that the function returns for that
+    /// value.
     pub fn by<F: Fn(u16) -> u8>(k: u8, m: u8, o: i8, letter: F) -> Rule
         requires rule { (r : LocalRule) × IsRuleBy k m o (F.post letter) r }
         requires callable { (v : ℕ) → v < k ^ m → F.pre letter v }
@@ -126,7 +127,7 @@ impl Rule {
         }
     }
 
-    /// Says only that the rule keeps the limits: nothing is done.
+    /// States in its contract that the rule keeps all limits. It does nothing.
     pub fn keeps_limits(&self)
         ensures { IsRule self.now }
     {
@@ -157,7 +158,7 @@ impl Rule {
         self.o
     }
 
-    /// How many windows there are, and so letters in the table: `k^m`, at most 256.
+    /// Returns the number of windows, which is the number of letters in the table: `k^m`, at most 256.
     pub fn size(&self) -> u16
         ensures size { result ≡ self.now.states ^ self.now.width }
         ensures rule { IsRule self.now }
@@ -165,7 +166,7 @@ impl Rule {
         u16::from(self.k).pow(u32::from(self.m))
     }
 
-    /// How many words of m - 1 letters there are, the nodes of the de Bruijn graph: at most 16.
+    /// Returns the number of nodes of the de Bruijn graph, which are the words of m - 1 letters: at most 16.
     pub fn nodes(&self) -> u8
         ensures nodes { result ≡ node_count self.now }
         ensures rule { IsRule self.now }
@@ -173,14 +174,14 @@ impl Rule {
         self.nodes
     }
 
-    /// The table: the letter for each window, in the order of the values of the windows.
+    /// Returns the table: the letter for each window, in the order of the windows' values.
     pub fn table(&self) -> &[u8]
         ensures table { result.now ≡ self.now.table }
     {
         &self.entries[..usize::from(self.size())]
     }
 
-    /// The table's letter for the window of this value, which is below `k^m`.
+    /// Returns the letter for the window with this value, which is below `k^m`.
     pub fn at(&self, value: u16) -> u8
         requires { value < self.now.states ^ self.now.width }
         ensures entry { result ≡ slice_index self.now.table value }
@@ -189,7 +190,8 @@ impl Rule {
         self.entries[usize::from(value)]
     }
 
-    /// The letter at a place of a node: of the word of m - 1 letters that has this value.
+    /// Returns one letter of a node. The node is the value of a word of m - 1 letters, and `place` counts from its
+    /// left end, starting at 0.
     pub fn node_letter(&self, node: u8, place: u8) -> u8
         requires node { node < node_count self.now }
         requires place { place < self.now.width - 1 }
@@ -199,7 +201,7 @@ impl Rule {
         node / self.k().pow(u32::from(after)) % self.k()
     }
 
-    /// The letter that the rule gives on a window of m letters below k.
+    /// Returns the letter that the rule gives for a window of m letters below k.
     pub fn apply(&self, window: &[u8]) -> u8
         requires word { IsWord self.now.states window.now }
         requires long { length window.now ≡ self.now.width }
@@ -209,8 +211,8 @@ impl Rule {
         self.at(value_of(self.k, window))
     }
 
-    /// The mirrored rule: it gives on a window what this one gives on the window read backwards, and
-    /// its window lies as far on the other side of the cell.
+    /// Returns the mirrored rule. It gives for each window the letter that this rule gives for the reversed window.
+    /// Its offset is -o - (m - 1), so that the window is mirrored at cell 0.
     pub fn reflect(&self) -> Rule
         ensures mirrored { result ≡ mirrored self.now }
         ensures image { (x : List ℕ) → IsWord self.now.states x → image result (reverse x) ≡ reverse (image self.now x) }
@@ -224,7 +226,7 @@ impl Rule {
         )
     }
 
-    /// The offset of a window that lies as far on the other side of the cell.
+    /// Returns the offset of the mirrored rule.
     fn mirrored_offset(&self) -> i8
         ensures { result ≡ (mirrored self.now).offset }
     {
@@ -237,7 +239,7 @@ impl PartialEq for Rule {
 
     ghost laws = { Prim.search (comparing, rules) depth 9 };
 
-    /// Two rules are equal exactly where their states, widths, offsets and tables are.
+    /// Compares states, widths, offsets and tables.
     fn eq(&self, other: &Rule) -> bool
         ensures parts { result ≡ same_rule self.now other.now }
         ensures same { IsTrue result ↔ (self.now ≡ other.now) }
@@ -250,7 +252,7 @@ impl Eq for Rule {
     ghost laws = { Prim.search (comparing, rules) depth 9 };
 }
 
-/// The letters of a table, and zeros after them.
+/// Returns the letters of a table, followed by zeros.
 fn in_memory(table: &[u8]) -> [u8; MOST_ENTRIES]
     requires { length table.now ≤ most_windows }
     ensures { result ≡ padded table.now }
@@ -260,7 +262,7 @@ fn in_memory(table: &[u8]) -> [u8; MOST_ENTRIES]
     entries
 }
 
-/// How many words of m - 1 letters there are, for a shape that is accepted.
+/// Returns the number of words of m - 1 letters. Some rule has k states and width m.
 fn node_count(k: u8, m: u8) -> u8
     requires { (o : ℤ) × IsShape k m o }
     ensures { result ≡ k ^ (m - 1) }
@@ -268,8 +270,8 @@ fn node_count(k: u8, m: u8) -> u8
     k.pow(u32::from(m - 1))
 }
 
-/// Whether a rule may have k states, width m and offset o; else the first of `States`, `Width`,
-/// `Nodes` and `Offset` that holds.
+/// Checks whether a rule can have k states, width m and offset o. Returns the first of `States`, `Width`, `Nodes` and
+/// `Offset` that applies, if any.
 pub fn check_shape(k: u8, m: u8, o: i8) -> Result<(), RuleFault>
     ensures { result_err result ≡ shape_fault k m o }
 {
@@ -289,7 +291,7 @@ pub fn check_shape(k: u8, m: u8, o: i8) -> Result<(), RuleFault>
     Ok(())
 }
 
-/// The first fault of a table, for a shape that is accepted.
+/// Returns the first fault of a table, if any. Some rule has k states and width m.
 fn check_table(k: u8, m: u8, table: &[u8]) -> Result<(), RuleFault>
     requires { k ^ m ≤ most_windows }
     ensures { result_err result ≡ table_fault k m table.now }
@@ -303,7 +305,7 @@ fn check_table(k: u8, m: u8, table: &[u8]) -> Result<(), RuleFault>
     }
 }
 
-/// The place of the first letter that is not below k.
+/// Returns the place of the first letter that isn't below k.
 pub fn first_foreign(k: u8, word: &[u8]) -> Option<usize>
     ensures place { result ≡ position (λ a. nat_le k a) word.now }
     ensures within { IfSome result (λ i. i < length word.now) }
@@ -311,7 +313,7 @@ pub fn first_foreign(k: u8, word: &[u8]) -> Option<usize>
     word.iter().position(|letter| *letter >= k)
 }
 
-/// The value of a window of letters below k, short enough for its value to fit.
+/// Returns the value of a window of letters below k. The value fits because at most 256 words have this length.
 fn value_of(k: u8, window: &[u8]) -> u16
     requires word { IsWord k window.now }
     requires fits { k ^ length window.now ≤ most_windows }
@@ -324,7 +326,7 @@ fn value_of(k: u8, window: &[u8]) -> u16
     value
 }
 
-/// The value of a window, read backwards.
+/// Returns the value of the reversed window.
 fn backwards(k: u8, m: u8, window: u16) -> u16
     requires states { 0 < k }
     requires fits { k ^ m ≤ most_windows }

@@ -1,4 +1,4 @@
-//! The pairs of nodes of a rule, by their numbers, the steps between them, and the set of all nodes.
+//! Pairs of nodes: their numbers, the steps between them, and the set of all nodes.
 
 ghost use Rattle.std.specs.Prelude.{◌≡◌, ◌<◌, IfSome};
 ghost use Rattle.word_image.specs.LocalRules.{IsRule, node_count};
@@ -8,7 +8,7 @@ use crate::local_rule::Rule;
 use crate::side::Side;
 
 impl Rule {
-    /// The set of all nodes: node u is bit u.
+    /// Returns the set of all nodes. Bit u of the set stands for node u.
     pub fn all_nodes(&self) -> u16
         ensures set { result ≡ full_set self.now }
         ensures rule { IsRule self.now }
@@ -16,8 +16,8 @@ impl Rule {
         u16::MAX >> (16 - self.nodes())
     }
 
-    /// How many pairs of nodes there are: N * N for the N nodes, from 4 to 256. The pair of u and v has
-    /// the number u * N + v.
+    /// Returns the number of pairs of nodes: N * N if there are N nodes, from 4 to 256. The pair of the nodes u and v
+    /// has the number u * N + v.
     pub fn pairs(&self) -> u16
         ensures count { result ≡ pair_count self.now }
         ensures rule { IsRule self.now }
@@ -26,7 +26,7 @@ impl Rule {
         nodes * nodes
     }
 
-    /// The two nodes of the pair with this number.
+    /// Returns the first and the second node of the pair with this number.
     pub fn nodes_of(&self, pair: u16) -> (u8, u8)
         requires { pair < pair_count self.now }
         ensures first { result.0 ≡ first_of self.now pair }
@@ -39,7 +39,7 @@ impl Rule {
         ((pair / nodes) as u8, (pair % nodes) as u8)
     }
 
-    /// The number of the pair of two nodes.
+    /// Returns the number of the pair of these nodes.
     pub fn pair_of(&self, first: u8, second: u8) -> u16
         requires first { first < node_count self.now }
         requires second { second < node_count self.now }
@@ -49,8 +49,8 @@ impl Rule {
         u16::from(first) * u16::from(self.nodes()) + u16::from(second)
     }
 
-    /// The pair to which the letters a and b lead from the nodes of a pair, read to this side; `None`
-    /// exactly where the labels of the two edges differ.
+    /// Follows the letter `a` from the first node of a pair and `b` from the second, forward on the right side and
+    /// backward on the left. Returns the pair that is reached, or None if the labels of the two edges differ.
     pub fn follow(&self, side: Side, pair: u16, a: u8, b: u8) -> Option<u16>
         requires pair { pair < pair_count self.now }
         requires first { a < self.now.states }

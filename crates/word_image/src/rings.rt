@@ -1,4 +1,4 @@
-//! The image of a ring, and its sum.
+//! The image of a ring, and its sum of weights.
 ghost use Rattle.std.specs.Prelude.{◌≡◌, ◌^◌, ◌<◌, ◌↔◌, length, pos, slice_index, alloc_error, IfOk, IfSome, IfNone, IsOkUnless, IsTrue};
 ghost use Rattle.std.specs.Int.{int_rem_euclid};
 ghost use Rattle.word_image.specs.LocalRules.{IsRule, local_map};
@@ -9,10 +9,10 @@ use crate::local_rule::{MOST_WIDTH, Rule, first_foreign};
 use crate::weights::Weights;
 use std::alloc::{AllocError, Global};
 
-/// Why a ring gets no image.
+/// Why a ring has no image.
 #[derive(Clone, Copy, Debug, PartialEq, Eq)]
 pub enum RingFault {
-    /// The letter at this place of the ring, the first such one, is not below k.
+    /// The letter at this place isn't below k. It is the first such letter.
     Letter(usize),
     /// The ring has no letter.
     Empty,
@@ -20,11 +20,11 @@ pub enum RingFault {
     Memory(AllocError),
 }
 
-/// The image of a ring of at least one letter below k: a ring of as many letters, each of them what
-/// the rule gives on the window of its place, counted round the ring.
+/// Returns the image of a ring: a ring of the same length. Each letter is what the rule gives for the window of its
+/// place, which may go around the ring. The ring has at least one letter, and its letters are below k.
 ///
-/// `Letter` and `Empty` come exactly where they are the first fault of the ring, in this order, and
-/// `Memory` only where the ring has neither.
+/// Returns `Letter` or `Empty` if the ring breaks one of these conditions; a wrong letter is named first. Returns
+/// `Memory` only for a ring that breaks neither.
 pub fn ring_image(alloc: Global, rule: &Rule, ring: &[u8]) -> Result<Vec<u8>, RingFault>
     ensures image { IfOk result (λ v. v.items ≡ ring_image rule.now ring.now) }
     ensures refused { IfSome (ring_fault rule.now ring.now) (λ fault. result ≡ Err fault) }
@@ -39,7 +39,7 @@ pub fn ring_image(alloc: Global, rule: &Rule, ring: &[u8]) -> Result<Vec<u8>, Ri
     new_letters(alloc, rule, ring).map_err(RingFault::Memory)
 }
 
-/// What the rule gives on the window of each place of a ring.
+/// Returns the letters that the rule gives for the windows of all places of a ring.
 fn new_letters(alloc: Global, rule: &Rule, ring: &[u8]) -> Result<Vec<u8>, AllocError>
     requires rule { IsRule rule.now }
     requires ring { IsRing rule.now.states ring.now }
@@ -54,7 +54,7 @@ fn new_letters(alloc: Global, rule: &Rule, ring: &[u8]) -> Result<Vec<u8>, Alloc
     Ok(letters)
 }
 
-/// Where the window of place 0 begins, on a ring of this many letters.
+/// Returns the place at which the window of place 0 begins, on a ring of `count` letters.
 fn first_place(rule: &Rule, count: usize) -> usize
     requires some { 0 < count }
     requires fits { count < 2 ^ 63 }
@@ -63,7 +63,7 @@ fn first_place(rule: &Rule, count: usize) -> usize
     i64::from(rule.o()).rem_euclid(count as i64) as usize
 }
 
-/// What the rule gives on the window of m letters that begins at a place of a ring.
+/// Returns the letter that the rule gives for the window of m letters that begins at the place `first` of a ring.
 pub fn ring_apply(rule: &Rule, ring: &[u8], first: usize) -> u8
     requires ring { IsRing rule.now.states ring.now }
     requires first { first < length ring.now }
@@ -78,7 +78,7 @@ pub fn ring_apply(rule: &Rule, ring: &[u8], first: usize) -> u8
     rule.apply(&window[..width])
 }
 
-/// Whether a ring and its image have one sum of weights.
+/// Returns whether the weights of a ring's letters have the same sum as the weights of its image's letters.
 pub fn keeps_sum(rule: &Rule, weights: &Weights, ring: &[u8]) -> bool
     requires letters { length weights.now ≡ rule.now.states }
     requires ring { IsRing rule.now.states ring.now }

@@ -1,4 +1,4 @@
-//! The two sides of the line, and the ends of windows that lie on them.
+//! The right and the left side of the line, and the ends of a window on each side.
 
 ghost use Rattle.std.specs.Prelude.{◌≡◌, ◌^◌, ◌<◌};
 ghost use Rattle.word_image.specs.LocalRules.{IsRule, node_count};
@@ -7,8 +7,7 @@ ghost use Rattle.word_image.specs.Ends.{window_with, end_node, end_letter};
 
 use crate::local_rule::Rule;
 
-/// A side of the line, and so an end of each window. Edges are read along them to the right, and
-/// against them to the left.
+/// A side of the line. On the right, edges of the de Bruijn graph are followed forward, and on the left backward.
 #[derive(Clone, Copy, Debug, PartialEq, Eq)]
 pub enum Side {
     Right,
@@ -16,7 +15,7 @@ pub enum Side {
 }
 
 impl Side {
-    /// The other side.
+    /// Returns the other side.
     pub fn other(self) -> Side
         ensures { result ≡ other self }
     {
@@ -26,7 +25,7 @@ impl Side {
         }
     }
 
-    /// The value of the window of a node and a letter on this side of it.
+    /// Returns the value of the window that consists of a node and one more letter on this side of it.
     pub fn window_with(self, rule: &Rule, node: u8, letter: u8) -> u16
         requires node { node < node_count rule.now }
         requires letter { letter < rule.now.states }
@@ -40,7 +39,8 @@ impl Side {
         }
     }
 
-    /// The node of a window's letters at its end on this side, all but one.
+    /// Returns the node at the end of a window on this side: its last m - 1 letters on the right, its first m - 1
+    /// letters on the left.
     pub fn end_node(self, rule: &Rule, window: u16) -> u8
         requires { window < rule.now.states ^ rule.now.width }
         ensures value { result ≡ end_node self rule.now window }
@@ -53,7 +53,7 @@ impl Side {
         }
     }
 
-    /// The letter of a window at its end on this side.
+    /// Returns the letter at the end of a window on this side: the last one on the right, the first one on the left.
     pub fn end_letter(self, rule: &Rule, window: u16) -> u8
         requires { window < rule.now.states ^ rule.now.width }
         ensures value { result ≡ end_letter self rule.now window }

@@ -3,8 +3,8 @@ ghost use Rattle.std.specs.Prelude.{◌≡◌, ℕ, ◌^◌, ◌<◌, ◌≤◌,
 ghost use Rattle.word_image.specs.LocalRules.{value, word_of, most_windows};
 ghost use Rattle.word_image.specs.WordsBy.{IsWordBy};
 
-/// The value of the word of n letters below k that a function gives place by place, where there are
-/// at most 256 such words.
+/// Returns the value of the word of n letters that has the letter `letter(i)` at place i. The letters are below k,
+/// and there are at most 256 words of n letters.
 pub fn value_by<F: Fn(u8) -> u8>(k: u8, n: u8, letter: F) -> u16
     requires word { (w : List ℕ) × IsWordBy k n (F.post letter) w }
     requires fits { k ^ n ≤ most_windows }
@@ -19,8 +19,7 @@ pub fn value_by<F: Fn(u8) -> u8>(k: u8, n: u8, letter: F) -> u16
     value
 }
 
-/// The letter at a place of the word of n letters below k that has this value, where there are at most
-/// 256 such words.
+/// Returns the letter at a place of the word of n letters below k with this value. There are at most 256 such words.
 pub fn letter_of(k: u8, n: u8, word: u16, place: u8) -> u8
     requires some { 0 < k }
     requires fits { k ^ n ≤ most_windows }

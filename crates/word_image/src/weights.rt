@@ -1,4 +1,4 @@
-//! What each letter weighs.
+//! The weights of the letters.
 ghost use Rattle.std.specs.Prelude.{◌≡◌, ◌<◌, ◌≤◌, ◌↔◌, length, slice_index, IfOk, IsOk, IsTrue};
 ghost use Rattle.word_image.specs.LocalRules.{most_states};
 ghost use Rattle.word_image.specs.Weights.{own_weights};
@@ -6,14 +6,14 @@ ghost use Rattle.word_image.specs.Weights.{own_weights};
 use crate::local_rule::MOST_STATES;
 use std::marker::Model;
 
-/// Why a list gives no weights.
+/// Why a list isn't accepted as weights.
 #[derive(Clone, Copy, Debug, PartialEq, Eq)]
 pub enum WeightFault {
-    /// The list has not one number for each letter.
+    /// The list doesn't have one number for each letter.
     Length,
 }
 
-/// A weight from 0 to 255 for each of 2 to 16 letters, seen as the list of the weights.
+/// A weight from 0 to 255 for each of 2 to 16 letters. In contracts it is the list of the weights.
 #[derive(Clone, Copy, Debug, PartialEq, Eq)]
 pub struct Weights {
     // How many letters there are.
@@ -42,7 +42,7 @@ impl Model for Weights {
 }
 
 impl Weights {
-    /// The weights of this list, exactly where it has one for each of k letters.
+    /// Takes these weights if the list has one for each of the k letters, and returns `Length` otherwise.
     pub fn new(k: u8, list: &[u8]) -> Result<Weights, WeightFault>
         requires least { 2 ≤ k }
         requires most { k ≤ most_states }
@@ -57,7 +57,7 @@ impl Weights {
         Ok(Weights { k, numbers })
     }
 
-    /// Each letter weighs its own value.
+    /// Returns the weights under which each letter weighs its own value.
     pub fn own(k: u8) -> Weights
         requires least { 2 ≤ k }
         requires most { k ≤ most_states }
@@ -71,7 +71,7 @@ impl Weights {
         Weights { k, numbers }
     }
 
-    /// How many letters there are, from 2 to 16.
+    /// Returns the number of letters, from 2 to 16.
     pub fn k(&self) -> u8
         ensures states { result ≡ length self.now }
         ensures least { 2 ≤ result }
@@ -80,7 +80,7 @@ impl Weights {
         self.k
     }
 
-    /// What a letter weighs.
+    /// Returns the weight of a letter below k.
     pub fn at(&self, letter: u8) -> u8
         requires { letter < length self.now }
         ensures { result ≡ slice_index self.now letter }
@@ -88,7 +88,7 @@ impl Weights {
         self.numbers[usize::from(letter)]
     }
 
-    /// Whether each letter weighs its own value.
+    /// Returns whether each letter weighs its own value.
     pub fn is_own(&self) -> bool
         ensures { IsTrue result ↔ (self.now ≡ own_weights (length self.now)) }
     {
@@ -100,7 +100,7 @@ impl Weights {
         true
     }
 
-    /// The weights, that of letter 0 first.
+    /// Returns the weights, beginning with the weight of letter 0.
     pub fn as_slice(&self) -> &[u8]
         ensures weights { result.now ≡ self.now }
     {
