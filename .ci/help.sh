@@ -31,7 +31,7 @@ form() { forms | sed -n "/^ *\.\/ca $1 /p"; }
 # is_command WORD
 is_command() { [[ $1 =~ ^[a-z]+$ ]] && [ -n "$(form "$1")" ]; }
 
-# operands COMMAND: what stands behind it, [..] where it may be missing.
+# operands COMMAND: the operands after it, in [..] if they may be missing.
 operands() { form "$1" | sed -E 's/^ *\.\/ca [a-z]+ //; s/  .*//; s/<.*//'; }
 
 # may_be COMMAND OPERAND: what the operand may be.
@@ -102,8 +102,8 @@ no_command() {
     fi
 }
 
-# usage_fault NAME OPERANDS WORD..: says why these words can't stand behind the name, where these operands are to; fails if
-# they can.
+# usage_fault NAME OPERANDS WORD..: says why these words aren't right after the name, if the command has these operands;
+# fails if they are.
 usage_fault() {
     local name=$1 all=() least=0 one word
     read -ra all <<<"$2"
@@ -127,7 +127,7 @@ usage_fault() {
     return 1
 }
 
-# meaning OF FAULT: what a fault means. OF is `rule` for the text of a rule, `shape` for K, M and the numbers behind them,
+# meaning OF FAULT: what a fault means. OF is `rule` for the text of a rule, `shape` for K, M and the numbers after them,
 # `list` for a BEGIN, and the command for a cause of NotFit.
 meaning() {
     case "$1 $2" in
@@ -146,11 +146,11 @@ meaning() {
     'rule letter' | 'list letter') echo "each digit of the table must be less than K" ;;
     'rule number')
         echo "an elementary rule has a number from 0 to 255, another one a number less than K^(K^M)"
-        echo "digits without colons are a number; before a table stands K:M:O:t, as in 2:3:-1:t01110110" ;;
+        echo "digits without colons are a number; before a table comes K:M:O:t, for example 2:3:-1:t01110110" ;;
     'shape number') echo "FROM + COUNT - 1, the last number, must be less than K^(K^M); that is 256 for K 2 and M 3" ;;
     'compose states' | 'same states') echo "both rules must have the same number of states" ;;
-    'compose width') echo "the width of the result must be at most 5: it is the sum of both widths less 1" ;;
-    'compose nodes') echo "with M the sum of both widths less 1, $(meaning rule nodes)" ;;
+    'compose width') echo "the width of the result must be at most 5: it is the sum of both widths, minus 1" ;;
+    'compose nodes') echo "M is the sum of both widths, minus 1; $(meaning rule nodes)" ;;
     'compose offset') echo "the window of the result must be within 16 cells on both sides" ;;
     'widen width') echo "M must be from the width of R to 5" ;;
     'widen nodes') meaning rule nodes ;;
@@ -158,9 +158,9 @@ meaning() {
     'shift offset') echo "N must leave the window within 16 cells on both sides" ;;
     'permute permutation') echo "DIGITS must have each letter from 0 to K - 1 exactly once, such as 10 for two states" ;;
     'inverse twins') echo "R has no inverse, since it isn't injective: these two words, each closed to a ring, have one image" ;;
-    'inverse wide') echo "R has an inverse, but its table is too large: there are more than 65,536 words of so many letters" ;;
+    'inverse wide') echo "R has an inverse, but its table is too large: there are more than 65,536 words of N letters, for its window N C" ;;
     'preimage tail leftempty') echo "the left period, before the first bar, must have a letter" ;;
-    'preimage tail rightempty') echo "the right period, behind the second bar, must have a letter" ;;
+    'preimage tail rightempty') echo "the right period, after the second bar, must have a letter" ;;
     'preimage tail long') echo "each of the three parts must have at most 1,024 letters" ;;
     'preimage tail letter') echo "each letter must be less than the number of states of R" ;;
     'decide weights' | 'certify weights' | 'brief weights')
@@ -173,7 +173,7 @@ meaning() {
     esac
 }
 
-# may_follow PREFIX: what may stand behind the beginning of a rule's text.
+# may_follow PREFIX: what may come after the beginning of a rule's text.
 may_follow() {
     local LC_ALL=C digits='a decimal digit'
     if [[ $1 =~ ^[0-9]{1,2}$ ]]; then echo "$digits or :"
@@ -192,7 +192,7 @@ may_follow() {
     else echo "$digits"; fi
 }
 
-# at_place TEXT KIND PLACE: where in a rule's text the fault is, where its kind has a place.
+# at_place TEXT KIND PLACE: where in a rule's text the fault is, if its kind has a place.
 at_place() {
     local LC_ALL=C next
     case $2 in
@@ -286,7 +286,7 @@ page() {
     done <"$commands_page" | plain
 }
 
-# give_help WORD..: where there are no words or they ask for help, says on standard error what they ask for, gives the program's
+# give_help WORD..: if there are no words or they ask for help, says on standard error what they ask for, gives the program's
 # answer to them and ends. It returns if it would have to judge a rule for that answer.
 give_help() {
     local word name= place=2
@@ -295,7 +295,7 @@ give_help() {
     if [ -n "$name" ]; then
         page "$name"
     else
-        echo "usage: ./ca COMMAND OPERANDS, where R is a rule, such as 110"
+        echo "usage: ./ca COMMAND OPERANDS. R is a rule, for example 110"
         forms
         echo "./ca help COMMAND says more of one; docs/COMMANDS.md has all."
     fi >&2
@@ -303,7 +303,7 @@ give_help() {
         printf 'usage error\n' 2>/dev/null || exit 7
         exit 2
     fi
-    # --help stands in the place of a rule. A number of an elementary rule before it is accepted.
+    # --help is in the place of a rule. The number of an elementary rule before it is accepted.
     if [ "$2" = --help ] || [[ $2 =~ ^0{0,30}([0-9]{1,3})$ && 10#${BASH_REMATCH[1]} -le 255 ]]; then
         [ "$2" != --help ] || place=1
         printf 'rule fault %s form 0\n' "$place" 2>/dev/null || exit 7
@@ -311,8 +311,8 @@ give_help() {
     fi
 }
 
-# give_lists_help WORD..: where there are no words, says on standard error how ./rules is called, gives the program's answer
-# and ends; where they ask for help, prints the beginning of docs/LISTS.md and ends.
+# give_lists_help WORD..: if there are no words, says on standard error how ./rules is called, gives the program's answer and
+# ends; if they ask for help, prints the beginning of docs/LISTS.md and ends.
 give_lists_help() {
     if asks_help "$@"; then
         sed -n '/^## The order$/q; p' "$top/docs/LISTS.md" | plain || exit 70

@@ -1,26 +1,26 @@
 /*
  * The decider for one-dimensional cellular automata as a C library.
  *
- * ./library builds libca_c.a and libca_c.so in crates/ca_c/out/library, and prints where they are; ./install
- * PREFIX puts them below a folder as libca.a and libca.so, with this header and ca.pc for pkg-config. The functions
- * here are those of crates/ca_c/src/exports.rt, whose contracts say what is proved of them; the structs are
- * RuleVerdicts of crates/c_values/src/table_verdicts.rt, RuleReport of rule_reports.rt and those of letter_rows.rt beside
- * it, and KeptSums of crates/kept_sums/src/kept.rt. That this header agrees with them is tested and not proved.
+ * ./library builds libca_c.a and libca_c.so in crates/ca_c/out/library, and prints their paths. ./install PREFIX installs
+ * them as libca.a and libca.so, with this header and ca.pc for pkg-config. The functions are those of
+ * crates/ca_c/src/exports.rt, whose contracts say what is proved about them. The structs are RuleVerdicts of
+ * crates/c_values/src/table_verdicts.rt, RuleReport of rule_reports.rt, the structs of letter_rows.rt, and KeptSums of
+ * crates/kept_sums/src/kept.rt. It is tested, not proved, that this header agrees with these sources.
  *
- * Pointers. A pointer with a length beside it points to as many bytes as the length says, and may be NULL if the length is 0.
- * Any other pointer points to all of its type, and isn't NULL. A call keeps no pointer, and the caller has nothing to free. It
- * only reads what is passed as const. The buffer and *length, to which it writes, must overlap nothing else that is passed.
+ * Pointers. A pointer that is passed with a length points to as many bytes as the length says. It may be NULL if the length is
+ * 0. Any other pointer points to a whole object of its type, and isn't NULL. A call keeps no pointer, and the caller has
+ * nothing to free. A call doesn't write to const arguments. The buffer and *length, to which it writes, must not overlap
+ * another argument.
  *
- * Numbers. The arguments are as wide as their types: 258 states are 2 for uint8_t, and a compiler doesn't warn of it. Check
- * the range of an int before you pass it on.
+ * Numbers. An argument is converted to its type without a warning: if you pass 258 as a uint8_t, it becomes 2. Check the range
+ * of an int before you pass it.
  *
- * Stack. A call takes up to 128 KiB of stack. Give a thread of your own 256 KiB.
+ * Stack. A call takes up to 128 KiB of stack. Give 256 KiB to a thread that calls the library.
  *
- * Threads. There is no state outside of a call, so several threads may call at once, each with a buffer
- * and a length of its own; they may share what is only read. A call waits for nothing and starts no
- * thread. It takes memory by malloc, realloc and free of the program, which must be safe for that, and
- * gives all of it back before it returns. Don't call from a signal handler, nor in the child of a fork of
- * a process with several threads.
+ * Threads. A call keeps no state. So several threads may call at once, each with a buffer and a length of its own; they may
+ * share arguments that are only read. A call waits for nothing and starts no thread. It takes memory by malloc, realloc and
+ * free of your program, which must be safe for threads, and frees all of it before it returns. Don't call from a signal
+ * handler, or in the child of a fork of a process with several threads.
  */
 #ifndef CA_H
 #define CA_H
@@ -33,31 +33,31 @@
 extern "C" {
 #endif
 
-/* The version of this interface, which ca_version gives. */
+/* The version of this interface. ca_version returns the version of the linked library. */
 #define CA_VERSION 2
 
-/* How many there are at most, for the sizes of arrays. */
+/* The greatest numbers, for the sizes of arrays. */
 #define CA_MOST_WINDOWS 256         /* letters of a table, and windows of an order */
 #define CA_MOST_NODES 16            /* words of width - 1 letters, and numbers of the flux of a report */
-#define CA_MOST_REPORT_LETTERS 72712 /* letters of the words of a report */
-#define CA_MOST_WORDS 16            /* words of range letters, and weights of them */
+#define CA_MOST_REPORT_LETTERS 72712 /* letters of all words of a report together */
+#define CA_MOST_WORDS 16            /* words of range letters, and their weights */
 #define CA_MOST_FLUX 128            /* words of width + range - 2 letters, and numbers of their flux */
-#define CA_MOST_RING_LETTERS 15     /* letters of a ring that shows that a sum isn't kept */
+#define CA_MOST_RING_LETTERS 15     /* letters of a ring that shows that a rule doesn't keep a sum */
 
-/* What ca_run and ca_run_json give. With codes up to CA_CODE_TOO_LONG there is an output. ca_report gives
+/* The codes that ca_run and ca_run_json return. With codes up to CA_CODE_TOO_LONG there is an output. ca_report returns
  * CA_CODE_DONE, CA_CODE_MEMORY or CA_CODE_SHORT. */
 enum ca_code {
     CA_CODE_DONE = 0,       /* the command was carried out */
-    CA_CODE_REFUSED = 1,    /* check judged the input, and it is no certificate that is accepted */
-    CA_CODE_USAGE = 2,      /* the words are no command */
+    CA_CODE_REFUSED = 1,    /* check refused the input */
+    CA_CODE_USAGE = 2,      /* the words aren't a command */
     CA_CODE_RULE_FAULT = 3, /* a rule operand or a shape is refused */
-    CA_CODE_NOT_FIT = 4,    /* nothing can be made of the operands as the command asks */
+    CA_CODE_NOT_FIT = 4,    /* the command has no answer for these operands */
     CA_CODE_TOO_LONG = 5,   /* the input of check has more than 4,194,304 bytes */
     CA_CODE_MEMORY = 8,     /* there was no memory */
-    CA_CODE_NO_WORDS = 9,   /* a word isn't UTF-8, or the last has no 0 byte after it */
+    CA_CODE_NO_WORDS = 9,   /* a word isn't UTF-8, or the last word has no 0 byte after it */
     CA_CODE_SHORT = 10,     /* the buffer is too short for the output */
 
-    /* Other names of the same, which older programs use. */
+    /* Other names of the same codes, for older programs. */
     CA_DONE = CA_CODE_DONE,
     CA_REFUSED = CA_CODE_REFUSED,
     CA_USAGE = CA_CODE_USAGE,
@@ -69,37 +69,37 @@ enum ca_code {
     CA_SHORT = CA_CODE_SHORT
 };
 
-/* Why a call gives no verdicts, no report, no order, no rule, no sums, no flux or no image: the first that holds. */
+/* Why a call returns no verdicts, report, order, rule, sums, flux or image. A call returns the first fault that applies. */
 enum ca_fault {
-    CA_FAULT_NONE = 0,   /* it gives them */
+    CA_FAULT_NONE = 0,   /* there is no fault */
     CA_FAULT_STATES = 1, /* there are not 2 to 16 states */
     CA_FAULT_WIDTH = 2,  /* the width is not 2 to 5 */
     CA_FAULT_NODES = 3,  /* there are more than 16 words of width - 1 letters */
-    CA_FAULT_OFFSET = 4, /* the offset is less than -16, or the last cell of the window beyond the 16th on the right */
-    CA_FAULT_LENGTH = 5, /* the table, or the order to be written, doesn't have one byte for each window */
+    CA_FAULT_OFFSET = 4, /* the window reaches further than 16 cells to the left or to the right */
+    CA_FAULT_LENGTH = 5, /* the table, or the room for the order, doesn't have one byte for each window */
     CA_FAULT_LETTER = 6, /* a letter of the table is not below states */
     CA_FAULT_KIND = 7,   /* there are more than six states, so rules have no numbers */
-    CA_FAULT_NUMBER = 8, /* a number has no rule */
-    CA_FAULT_FORM = 9,   /* a text isn't the text of a rule; only ca_read_rule gives it */
+    CA_FAULT_NUMBER = 8, /* a number isn't the number of a rule */
+    CA_FAULT_FORM = 9,   /* a text isn't the text of a rule; only ca_read_rule returns this */
 
-    CA_FAULT_PROPERTY = 10, /* the property is none */
+    CA_FAULT_PROPERTY = 10, /* the property isn't one of enum ca_bit */
     CA_FAULT_ORDER = 11,    /* the order doesn't have each window once */
     CA_FAULT_BEGIN = 12,    /* more letters are fixed than there are windows */
     CA_FAULT_NO_RULE = 13,  /* there is no further rule */
 
-    CA_FAULT_RANGE = 14,  /* words of no letter */
-    CA_FAULT_WORDS = 15,  /* there are more than 16 words of so many letters */
-    CA_FAULT_WEIGHT = 16, /* a weight is greater than 2^56, or less than its negative */
-    CA_FAULT_LOST = 17,   /* the sum isn't kept */
+    CA_FAULT_RANGE = 14,  /* the words have no letter */
+    CA_FAULT_WORDS = 15,  /* there are more than 16 words of range letters */
+    CA_FAULT_WEIGHT = 16, /* a weight isn't from -2^56 to 2^56 */
+    CA_FAULT_LOST = 17,   /* the rule doesn't keep the sum */
 
     CA_FAULT_WEIGHTS = 18, /* there isn't one weight for each letter */
 
     CA_FAULT_PERIOD = 19, /* a period of the configuration has no letter */
     CA_FAULT_CELL = 20,   /* a letter of the configuration is not below states */
-    CA_FAULT_PLACE = 21   /* first is not from -2^61 to 2^61, or there are to be more than 2^61 letters */
+    CA_FAULT_PLACE = 21   /* first is not from -2^61 to 2^61, or count is more than 2^61 */
 };
 
-/* What a fault means, in English and without a full stop. */
+/* The meaning of a fault, in English and without a full stop. */
 static inline const char *ca_fault_text(uint8_t fault)
 {
     switch (fault) {
@@ -129,8 +129,8 @@ static inline const char *ca_fault_text(uint8_t fault)
     }
 }
 
-/* What the byte of a rule is the sum of: those that hold, in the words of struct ca_rule_verdicts. For ca_window_order and
- * ca_next_rule each is a property. */
+/* The byte of a rule is the sum of the bits of its verdicts; struct ca_rule_verdicts explains the verdicts. For ca_window_order
+ * and ca_next_rule each bit is a property. */
 enum ca_bit {
     CA_BIT_SURJECTIVE = 1,
     CA_BIT_INJECTIVE = 2,
@@ -140,18 +140,18 @@ enum ca_bit {
     CA_BIT_CONSERVING = 32
 };
 
-/* What holds of a rule. */
+/* The verdicts of a rule. */
 struct ca_rule_verdicts {
-    uint8_t fault;   /* an enum ca_fault; if it isn't CA_FAULT_NONE, all below are false */
+    uint8_t fault;   /* an enum ca_fault; if it isn't CA_FAULT_NONE, all other fields are false */
     bool surjective; /* every word has a preimage */
-    bool injective;  /* no two different configurations share an image */
-    bool right;      /* no two that agree on the left do: the rule is right-closing */
-    bool left;       /* no two that agree on the right do: the rule is left-closing */
-    bool is_open;    /* both of these: the rule is open */
-    bool conserving; /* every ring keeps the sum of its letters */
+    bool injective;  /* no two different configurations have the same image */
+    bool right;      /* no two different configurations that agree on the left have the same image: right-closing */
+    bool left;       /* no two different configurations that agree on the right have the same image: left-closing */
+    bool is_open;    /* right and left are true */
+    bool conserving; /* every ring has the same sum of letters as its image */
 };
 
-/* A word: length letters of the buffer, the first at begin. If there is none, both numbers are 0. */
+/* A word: length letters of the buffer, beginning at begin. If there is no word, both numbers are 0. */
 struct ca_row {
     size_t begin;
     size_t length;
@@ -177,27 +177,28 @@ struct ca_split {
 };
 
 /*
- * What holds of a rule, each verdict with its least evidence. A verdict is 1 if it holds, and else 0. The evidence for the
- * other verdict is 0 throughout. In C++ the function ca_report is ca::ca_report.
+ * The verdicts of a rule, each with its least evidence. A verdict is 1 for yes and 0 for no. The fields with evidence for the
+ * opposite verdict are 0. In C++ the function ca_report is ca::ca_report.
  */
 struct ca_report {
-    uint8_t fault;      /* an enum ca_fault; if it isn't CA_FAULT_NONE, there is no report, and all below are 0 */
-    uint8_t surjective; /* every word has a preimage; else orphan is the first word that has none */
-    uint8_t injective;  /* no two different configurations share an image, and any window letters of an image tell the
-                           letter place, starting at 0, of the window + width - 1 letters from which they come; else
-                           the rings of twins share one */
-    uint8_t right;      /* no two that agree on the left do, and any width - 1 letters and right_ahead letters of the
-                           image tell the next letter; else those of right_split do */
-    uint8_t left;       /* no two that agree on the right do, and left_ahead is the right_ahead of the mirrored rule;
-                           else those of left_split do */
-    uint8_t is_open;    /* both of these: the rule is open */
-    uint8_t conserving; /* every ring keeps the sum of the weights of its letters, as flux shows; else ring doesn't */
-    uint8_t nodes;      /* how many numbers flux has: one for each word of width - 1 letters, by its value */
+    uint8_t fault;      /* an enum ca_fault; if it isn't CA_FAULT_NONE, there is no report, and all other fields are 0 */
+    uint8_t surjective; /* every word has a preimage; otherwise orphan is the first word without a preimage */
+    uint8_t injective;  /* no two different configurations have the same image. Then window letters of an image determine the
+                           letter at place, counted from 0, of the window + width - 1 letters whose image they are.
+                           Otherwise the rings of the two twins have the same image */
+    uint8_t right;      /* no two different configurations that agree on the left have the same image. Then width - 1 letters
+                           and right_ahead letters of the image determine the next letter. Otherwise right_split has two
+                           such configurations */
+    uint8_t left;       /* no two different configurations that agree on the right have the same image. Then left_ahead is the
+                           right_ahead of the mirrored rule. Otherwise left_split has two such configurations */
+    uint8_t is_open;    /* right and left are 1 */
+    uint8_t conserving; /* every ring has the same sum of weights as its image, which flux shows; otherwise ring doesn't */
+    uint8_t nodes;      /* the number of entries of flux: one for each word of width - 1 letters, by its value */
     uint32_t window;
     uint32_t place;
     uint32_t right_ahead;
     uint32_t left_ahead;
-    int32_t flux[CA_MOST_NODES]; /* zeros after its numbers */
+    int32_t flux[CA_MOST_NODES]; /* zeros after the last entry */
     struct ca_row orphan;
     struct ca_twins twins;
     struct ca_row ring;
@@ -207,30 +208,30 @@ struct ca_report {
 };
 
 /*
- * The sums that a rule keeps, of weights of words of range letters.
+ * The sums that a rule keeps, for weights of words of range letters (docs/SUMS.md).
  *
- * A word stands at its value, the number whose digits in base states are its letters, the leftmost the most
- * significant. The place of a word that doesn't begin with 0 has a row or a ring, every other place neither: it has a ring
- * if its number of counts isn't 0. In C++ the function ca_kept_sums is ca::ca_kept_sums.
+ * The place of a word is its value: the number that its letters form in base states, with the leftmost letter as the most
+ * significant digit. If a word doesn't begin with 0, its place has either a row or a ring; it has a ring if its entry of counts
+ * isn't 0. All other places have neither. In C++ the function ca_kept_sums is ca::ca_kept_sums.
  */
 struct ca_kept_sums {
-    int64_t rows[CA_MOST_WORDS][CA_MOST_WORDS]; /* the weights of the words, if there is a row: its first number that
-                                                   isn't 0 stands at its own place, is positive, and is 0 in all other
-                                                   rows; else zeros */
-    uint8_t counts[CA_MOST_WORDS];              /* how many letters the ring has, if there is one; else 0 */
-    uint8_t rings[CA_MOST_WORDS][CA_MOST_RING_LETTERS]; /* as many letters, and zeros or other letters after them */
+    int64_t rows[CA_MOST_WORDS][CA_MOST_WORDS]; /* the weights of the words, if the place has a row; otherwise zeros. The
+                                                   first number of a row that isn't 0 is at the row's own place. It is
+                                                   positive, and all other rows have 0 at this place */
+    uint8_t counts[CA_MOST_WORDS];              /* the number of letters of the ring, or 0 if the place has no ring */
+    uint8_t rings[CA_MOST_WORDS][CA_MOST_RING_LETTERS]; /* the letters of the ring; the letters after them mean nothing */
 };
 
-/* A rule as the calls below take it. */
+/* A rule, with the arguments that the calls below need. */
 struct ca_rule {
     uint8_t states;
     uint8_t width;
     int8_t offset;
     uint16_t table_length;
-    uint8_t table[CA_MOST_WINDOWS]; /* the letter of each window, by the window's value, and zeros after them */
+    uint8_t table[CA_MOST_WINDOWS]; /* the letter for each window, by the window's value, and then zeros */
 };
 
-/* How many decimal digits a text begins with, or hexadecimal ones, up to this many. ca_read_rule uses it. */
+/* The number of decimal digits, or of hexadecimal digits, with which a text begins; at most `most`. ca_read_rule uses it. */
 static inline size_t ca_count_digits(const char *text, bool decimal, size_t most)
 {
     size_t count = 0;
@@ -241,7 +242,7 @@ static inline size_t ca_count_digits(const char *text, bool decimal, size_t most
     return count;
 }
 
-/* Writes the letters of a table of so many hexadecimal digits. ca_read_rule uses it. */
+/* Writes the letters of a table, from its hexadecimal digits. ca_read_rule uses it. */
 static inline uint8_t ca_read_table(const char *digits, size_t length, struct ca_rule *rule)
 {
     size_t at;
@@ -256,7 +257,7 @@ static inline uint8_t ca_read_table(const char *digits, size_t length, struct ca
     return CA_FAULT_NONE;
 }
 
-/* Writes the letters of the rule whose number has these decimal digits, at most 39. ca_read_rule uses it. */
+/* Writes the letters of the rule with this number, from its decimal digits, at most 39. ca_read_rule uses it. */
 static inline uint8_t ca_read_number(const char *digits, size_t length, struct ca_rule *rule)
 {
     uint8_t number[39], rest = 0;
@@ -264,7 +265,7 @@ static inline uint8_t ca_read_number(const char *digits, size_t length, struct c
     for (at = 0; at < length; at++)
         number[at] = (uint8_t)(digits[at] - '0');
     for (window = 0; window < rule->table_length; window++) {
-        unsigned over = 0; /* the number is divided by the states, and this is left over */
+        unsigned over = 0; /* what is left over when the number is divided by the number of states */
         for (at = 0; at < length; at++) {
             const unsigned part = 10u * over + number[at];
             number[at] = (uint8_t)(part / rule->states);
@@ -277,7 +278,7 @@ static inline uint8_t ca_read_number(const char *digits, size_t length, struct c
     return rest == 0 ? CA_FAULT_NONE : CA_FAULT_NUMBER;
 }
 
-/* Looks at states, width and offset, and at the form of what follows, t or w. ca_read_rule uses it. */
+/* Checks states, width and offset, and whether the form, t or w, is allowed. ca_read_rule uses it. */
 static inline uint8_t ca_read_shape(const int parts[3], char form, struct ca_rule *rule)
 {
     int place, nodes = 1;
@@ -304,8 +305,8 @@ static inline uint8_t ca_read_shape(const int parts[3], char form, struct ca_rul
  * Reads the text of a rule, with a 0 byte after it, as docs/COMMANDS.md describes it: "110", "2:3:-1:w110" and
  * "2:3:-1:t01110110" are the same rule. It needs no library.
  *
- * It gives CA_FAULT_NONE and fills *rule; or CA_FAULT_FORM, CA_FAULT_STATES to CA_FAULT_OFFSET, CA_FAULT_KIND, CA_FAULT_LENGTH,
- * CA_FAULT_LETTER or CA_FAULT_NUMBER, the first of these that holds, and leaves *rule as it was.
+ * It returns CA_FAULT_NONE and fills *rule. Otherwise it returns the first of these faults that applies, and leaves *rule as it
+ * was: CA_FAULT_FORM, CA_FAULT_STATES to CA_FAULT_OFFSET, CA_FAULT_KIND, CA_FAULT_LENGTH, CA_FAULT_LETTER, CA_FAULT_NUMBER.
  */
 static inline uint8_t ca_read_rule(const char *text, struct ca_rule *rule)
 {
@@ -340,67 +341,70 @@ static inline uint8_t ca_read_rule(const char *text, struct ca_rule *rule)
     return fault;
 }
 
-/* The version of the interface that was linked. */
+/* Returns the version of the interface that was linked. */
 uint32_t ca_version(void);
 
 /*
  * Carries out a command, as the program ca does.
  *
- * words has the words of the command line without the program's name, each in UTF-8 with one 0 byte after
- * it: "orphan\0" "110\0" are 11 bytes. With words_length 0 there are none. docs/COMMANDS.md has the
- * commands, and what each writes.
+ * words has the words of the command line without the name of the program. Each word is in UTF-8, with one 0 byte after it:
+ * "orphan\0" "110\0" are 11 bytes. If words_length is 0, there are no words. docs/COMMANDS.md describes the commands and their
+ * outputs.
  *
- * input is what the command check judges; every other command leaves it unread.
+ * input is the certificate for the command check. All other commands leave it unread.
  *
- * It gives an enum ca_code, and sets *length in every case:
+ * It returns an enum ca_code, and always sets *length:
  *
- *   up to CA_CODE_TOO_LONG  The output stands in the first *length bytes of output, with no 0 byte after
- *                           it; the other bytes of the buffer are as they were.
- *   CA_CODE_SHORT           The output has *length bytes, which is more than room. The buffer is as it
- *                           was. A second call, with room enough, works the output out again.
+ *   up to CA_CODE_TOO_LONG  The first *length bytes of output have the output, without a 0 byte after it. The other bytes of
+ * the
+ *                           buffer don't change.
+ *   CA_CODE_SHORT           The output has *length bytes, which is more than room. The buffer doesn't change. A second call,
+ * with
+ *                           enough room, computes the output again.
  *   CA_CODE_MEMORY and CA_CODE_NO_WORDS
- *                           *length is 0, and the buffer is as it was.
+ *                           *length is 0, and the buffer doesn't change.
  */
 uint8_t ca_run(const uint8_t *words, size_t words_length, const uint8_t *input, size_t input_length,
                uint8_t *output, size_t room, size_t *length);
 
 /*
- * Carries out a command as ca_run does, and writes in place of the program's output the whole reply as JSON: one
- * object in ASCII, without blanks and without a line end, which docs/ANSWERS.md describes. Its key "status" is
- * "done", "refused", "usage", "rulefault", "notfit" or "toolong", as the codes 0 to 5 say. Codes, length and buffer are
- * as with ca_run.
+ * Carries out a command as ca_run does, but writes the reply as JSON: one object in ASCII, without blanks and without a line
+ * end. docs/ANSWERS.md describes it. Its key "status" is "done", "refused", "usage", "rulefault", "notfit" or "toolong", for
+ * the codes 0 to 5. Codes, length and buffer are as for ca_run.
  */
 uint8_t ca_run_json(const uint8_t *words, size_t words_length, const uint8_t *input, size_t input_length,
                     uint8_t *output, size_t room, size_t *length);
 
 /*
- * Decides the questions of a rule, each letter of which weighs its own value, and takes no memory.
+ * Decides the verdicts of a rule, and needs no memory. Each letter weighs its own value.
  *
- * The rule has the letters 0 to states - 1, and cell i of an image is the table's letter for the window of
- * the width cells from cell i on. table has one letter a byte, in the order of the windows' values, the
- * leftmost letter of a window most significant.
+ * The rule has the letters 0 to states - 1. To get cell i of an image, take the window of the cells i to i + width - 1; the
+ * table has its letter. table has one byte for each letter, in the order of the values of the windows. The leftmost letter of a
+ * window is the most significant digit of its value.
  */
 struct ca_rule_verdicts ca_verdicts(uint8_t states, uint8_t width, const uint8_t *table,
                                     size_t table_length);
 
 /*
- * Reports on a rule: what `decide` of docs/COMMANDS.md prints of it, as numbers and letters.
+ * Returns the report of a rule as numbers and letters. It is the report that `decide` of docs/COMMANDS.md prints.
  *
- * The rule is that of ca_verdicts, but the window of cell i begins at cell i + offset, where offset is at least -16 and
- * offset + width - 1 at most 16. weights has what each letter weighs, letter 0 first. With weights_length 0 each weighs its
- * own value.
+ * The rule is given as for ca_verdicts, but the window of cell i begins at cell i + offset. offset is at least -16, and
+ * offset + width - 1 is at most 16. weights has the weight of each letter, beginning with the letter 0. If weights_length is 0,
+ * each letter weighs its own value.
  *
- * It gives CA_CODE_DONE, CA_CODE_SHORT or CA_CODE_MEMORY, and sets *length in every case:
+ * It returns CA_CODE_DONE, CA_CODE_SHORT or CA_CODE_MEMORY, and always sets *length:
  *
- *   CA_CODE_DONE    *report is filled, and the letters of its words stand in the first *length bytes of letters, one a
- *                   byte; the other bytes of the buffer are as they were. Where there is no report, its fault is
- *                   CA_FAULT_STATES to CA_FAULT_LETTER or CA_FAULT_WEIGHTS, the first that holds, and *length is 0.
- *   CA_CODE_SHORT   There are *length letters, which is more than room. *report and the buffer are as they were. A
- *                   second call, with room enough, works the report out again. docs/COMMANDS.md says how long each
- *                   word can be: CA_MOST_REPORT_LETTERS hold the words of any rule.
- *   CA_CODE_MEMORY  *length is 0, and *report and the buffer are as they were.
+ *   CA_CODE_DONE    *report is filled. The first *length bytes of letters have the letters of its words, one byte for each
+ * letter;
+ *                   the other bytes of the buffer don't change. If there is no report, its fault is the first of
+ *                   CA_FAULT_STATES to CA_FAULT_LETTER and CA_FAULT_WEIGHTS that applies, and *length is 0.
+ *   CA_CODE_SHORT   There are *length letters, which is more than room. *report and the buffer don't change. A second call,
+ * with
+ *                   enough room, computes the report again. docs/COMMANDS.md says how long each word can be.
+ *                   CA_MOST_REPORT_LETTERS letters are enough for every rule.
+ *   CA_CODE_MEMORY  *length is 0, and *report and the buffer don't change.
  *
- * Test report->fault too: a rule that is refused has the code CA_CODE_DONE, and no verdict of its report holds.
+ * Test report->fault too: if the rule is refused, the code is CA_CODE_DONE, and all verdicts of the report are 0.
  */
 #ifdef __cplusplus
 namespace ca {
@@ -413,24 +417,25 @@ uint8_t ca_report(uint8_t states, uint8_t width, int8_t offset, const uint8_t *t
 #endif
 
 /*
- * Applies a rule once to a configuration, writes letters of the image, and takes no memory: with it the evidence of a report
- * can be checked by hand. The rule is that of ca_report.
+ * Applies a rule once to a configuration, writes letters of the image, and needs no memory. With this call you can check the
+ * evidence of a report by hand. The rule is given as for ca_report.
  *
- * The configuration has the letters of middle from cell 0 on, the letters of right over and over to the right of them, and
- * those of left over and over to the left. Letter i of letters is that of the image at cell first + i, as many as count says.
- * The image of a periodic configuration is periodic too, so a caller who wants the image as a configuration asks for one period
- * on each side, and between them for the cells whose windows meet the middle.
+ * The middle of the configuration begins at cell 0. To its right the letters of right are repeated without end, and to its left
+ * the letters of left. The call writes count letters: letter i is the letter of the image at cell first + i. The image of a
+ * periodic configuration is periodic too. To get the image as a configuration, ask for one period on each side, and for the
+ * cells between them whose windows meet the middle.
  *
- * It gives CA_FAULT_NONE, or CA_FAULT_STATES to CA_FAULT_LETTER, CA_FAULT_PERIOD, CA_FAULT_CELL or CA_FAULT_PLACE, the first that
- * holds; letters is then as it was. It looks at each letter of the configuration once, and then at one window for each letter.
+ * It returns CA_FAULT_NONE. Otherwise it returns the first of CA_FAULT_STATES to CA_FAULT_LETTER, CA_FAULT_PERIOD,
+ * CA_FAULT_CELL and CA_FAULT_PLACE that applies, and letters doesn't change. It looks at each letter of the configuration once,
+ * and then at one window for each letter of the image.
  */
 uint8_t ca_image(uint8_t states, uint8_t width, int8_t offset, const uint8_t *table, size_t table_length,
                  const uint8_t *left, size_t left_length, const uint8_t *middle, size_t middle_length,
                  const uint8_t *right, size_t right_length, int64_t first, uint8_t *letters, size_t count);
 
 /*
- * Writes the image of a ring by ca_image: ring_length letters, letter i that of the window of place i, counted round the ring.
- * A ring is the configuration whose periods are the ring, without a middle.
+ * Writes the image of a ring by ca_image: ring_length letters. Letter i is the letter for the window of place i, counted around
+ * the ring. The ring is passed as a configuration: both periods are the ring, and the middle is empty.
  */
 static inline uint8_t ca_ring_image(uint8_t states, uint8_t width, int8_t offset, const uint8_t *table,
                                     size_t table_length, const uint8_t *ring, size_t ring_length, uint8_t *letters)
@@ -440,8 +445,8 @@ static inline uint8_t ca_ring_image(uint8_t states, uint8_t width, int8_t offset
 }
 
 /*
- * Writes the image of a word by ca_image: width - 1 letters fewer than the word has, of its windows from the first one to the
- * last. A word of fewer letters than that has an image without letters.
+ * Writes the image of a word by ca_image: one letter for each window of the word, so width - 1 letters fewer than the word has.
+ * If the word has fewer than width letters, the image has no letter.
  */
 static inline uint8_t ca_word_image(uint8_t states, uint8_t width, const uint8_t *table, size_t table_length,
                                     const uint8_t *word, size_t word_length, uint8_t *letters)
@@ -452,39 +457,36 @@ static inline uint8_t ca_word_image(uint8_t states, uint8_t width, const uint8_t
 }
 
 /*
- * Decides the questions of many rules with consecutive numbers, and takes no memory.
+ * Decides the verdicts of many rules with consecutive numbers, and needs no memory.
  *
- * The first number is first_high times 2^64 and first_low, and there are as many rules as bytes. Into byte i
- * it writes what holds of the rule with the i-th number from the first one on, of these states, this width
- * and offset 0, as a sum of enum ca_bit. The letter of a rule's table at place v is the digit v of its number
- * in base states, digit 0 the least significant.
+ * The first number is first_high * 2^64 + first_low, and there is one rule for each byte. Byte i gets the verdicts of the rule
+ * with the first number plus i, these states, this width and offset 0, as a sum of enum ca_bit. The letter of a rule's table at
+ * place v is the digit v of its number in base states; digit 0 is the least significant.
  *
- * It gives CA_FAULT_NONE, or CA_FAULT_STATES, CA_FAULT_WIDTH, CA_FAULT_NODES, CA_FAULT_KIND or
- * CA_FAULT_NUMBER, the first that holds; the bytes are then as they were. Without bytes it gives
- * CA_FAULT_NONE.
+ * It returns CA_FAULT_NONE. Otherwise it returns the first of CA_FAULT_STATES, CA_FAULT_WIDTH, CA_FAULT_NODES, CA_FAULT_KIND
+ * and CA_FAULT_NUMBER that applies, and the bytes don't change. If bytes_length is 0, it returns CA_FAULT_NONE.
  */
 uint8_t ca_verdict_bytes(uint8_t states, uint8_t width, uint64_t first_high, uint64_t first_low,
                          uint8_t *bytes, size_t bytes_length);
 
 /*
- * Writes the order of the windows in which ca_next_rule soon finds the rules of a shape that have a property, and takes no
- * memory.
+ * Writes a good order of the windows for ca_next_rule, in which it finds rules with this property soon. Needs no memory.
  *
- * The property is an enum ca_bit. order has room for one byte for each window, states to the power of width of them, and
- * the windows are written by their values. The order is the same in every call, and that of docs/LISTS.md.
+ * The property is an enum ca_bit. order has room for one byte for each window; there are states to the power of width windows.
+ * The call writes the values of the windows. The order is the same in every call; docs/LISTS.md describes it.
  *
- * It gives CA_FAULT_NONE, or CA_FAULT_STATES, CA_FAULT_WIDTH, CA_FAULT_NODES, CA_FAULT_PROPERTY or CA_FAULT_LENGTH, the
- * first that holds; the bytes are then as they were.
+ * It returns CA_FAULT_NONE. Otherwise it returns the first of CA_FAULT_STATES, CA_FAULT_WIDTH, CA_FAULT_NODES,
+ * CA_FAULT_PROPERTY and CA_FAULT_LENGTH that applies, and the bytes don't change.
  */
 uint8_t ca_window_order(uint8_t property, uint8_t states, uint8_t width, uint8_t *order,
                         size_t order_length);
 
 /*
- * Finds the next rule of a shape that has a property, and takes no memory.
+ * Finds the next rule of a shape that has a property, and needs no memory.
  *
- * Rules ascend by the letters of their tables, read in the order of the windows that the caller gives: that of
- * ca_window_order or any other that has each window once. Where after is 0 it finds the first rule, and else the first
- * one behind the table that is handed in; that table need not have the property. So each rule is found once by
+ * Rules are in dictionary order of their tables, read in the order of the windows that the caller passes: the order of
+ * ca_window_order, or any other order that has each window once. If after is 0, the call finds the first rule. Otherwise it
+ * finds the first rule after the given table, which needn't have the property. So this loop finds each rule once:
  *
  *     uint8_t order[27], table[27] = {0};
  *     ca_window_order(CA_BIT_INJECTIVE, 3, 3, order, 27);
@@ -492,32 +494,33 @@ uint8_t ca_window_order(uint8_t property, uint8_t states, uint8_t width, uint8_t
  *                         == CA_FAULT_NONE; after = 1)
  *         print(table);
  *
- * after is a flag: don't pass a count, which is 0 again at 256, and then the first rule comes again.
+ * after is a flag. Don't pass a count: as a uint8_t, 256 becomes 0, and the first rule comes again.
  *
- * Only rules are found that have the first begin_length letters of begin at the windows of the same places; a byte that is
- * not below states leaves its window open. So a shape can be asked for in parts, side by side.
+ * begin fixes the first begin_length letters of the table. Only rules with these letters are found. A byte that isn't below
+ * states leaves its letter free. So you can ask for parts of a shape in parallel.
  *
- * table has a letter for each window, each below states, before the call too, whatever they are for the first rule. It
- * gives CA_FAULT_NONE, and then table has the rule's; or CA_FAULT_STATES, CA_FAULT_WIDTH, CA_FAULT_NODES,
- * CA_FAULT_LENGTH, CA_FAULT_LETTER, CA_FAULT_PROPERTY, CA_FAULT_ORDER, CA_FAULT_BEGIN or CA_FAULT_NO_RULE, the first that
- * holds; table is then as it was. docs/LISTS.md says how long a call takes. For many shapes it takes longer than anyone can
- * wait, and it can't be interrupted.
+ * table must have a letter below states for each window before the call too; for the first rule any letters will do. The call
+ * returns CA_FAULT_NONE, and then table has the table of the rule. Otherwise it returns the first of CA_FAULT_STATES,
+ * CA_FAULT_WIDTH, CA_FAULT_NODES, CA_FAULT_LENGTH, CA_FAULT_LETTER, CA_FAULT_PROPERTY, CA_FAULT_ORDER, CA_FAULT_BEGIN and
+ * CA_FAULT_NO_RULE that applies, and table doesn't change. docs/LISTS.md says how long a call takes. For many shapes it takes
+ * longer than anyone can wait, and it can't be interrupted.
  */
 uint8_t ca_next_rule(uint8_t property, uint8_t states, uint8_t width, const uint8_t *order,
                      size_t order_length, const uint8_t *begin, size_t begin_length, uint8_t after,
                      uint8_t *table, size_t table_length);
 
 /*
- * Finds all sums that a rule keeps, and takes no memory. The rule is that of ca_verdicts.
+ * Finds all sums that a rule keeps, and needs no memory. The rule is given as for ca_verdicts.
  *
- * A sum weighs each word of range letters by an integer, and adds up on a ring the weights of the words that begin
- * at each place. It is kept where each ring, however long, has the sum of its image. A multiple of each sum that
- * is kept is a sum of integer multiples of the rows and of a trivial one, which every rule keeps: it weighs a
- * word c + phi(its first range - 1 letters) - phi(its last range - 1 letters), for a number c and a function phi, and
- * comes to c times the number of letters. The rings show that there are no more: that is so of each sum that they keep.
+ * Each word of range letters has an integer as its weight. The sum on a ring adds up the weights of the words that begin at
+ * each place of the ring. A rule keeps the sum if each ring, however long, has the same sum as its image. Every rule keeps the
+ * trivial sums: a word weighs c + phi(its first range - 1 letters) - phi(its last range - 1 letters), for a number c and a
+ * function phi, so the sum on a ring is c times its number of letters. For each sum that the rule keeps, some multiple is an
+ * integer combination of the rows and of a trivial sum. The rings prove that there are no other sums: each sum that all of
+ * these rings keep is of this kind.
  *
- * It gives CA_FAULT_NONE, or CA_FAULT_STATES to CA_FAULT_NODES, CA_FAULT_LENGTH, CA_FAULT_LETTER, CA_FAULT_RANGE or
- * CA_FAULT_WORDS, the first that holds; *sums is then as it was.
+ * It returns CA_FAULT_NONE. Otherwise it returns the first of CA_FAULT_STATES to CA_FAULT_NODES, CA_FAULT_LENGTH,
+ * CA_FAULT_LETTER, CA_FAULT_RANGE and CA_FAULT_WORDS that applies, and *sums doesn't change.
  */
 #ifdef __cplusplus
 namespace ca {
@@ -529,17 +532,17 @@ uint8_t ca_kept_sums(uint8_t states, uint8_t width, const uint8_t *table, size_t
 #endif
 
 /*
- * Finds the flux of a sum that a rule keeps, which shows that it is kept, and takes no memory. The rule is that of
- * ca_verdicts, and weights has the weight of each word of range letters at its value: a row of struct ca_kept_sums will do.
- * What stands behind the weight of the last word isn't looked at.
+ * Finds the flux of a sum, which proves that the rule keeps the sum, and needs no memory. The rule is given as for ca_verdicts.
+ * weights has the weight of each word of range letters, at the place of the word's value; for example, pass a row of struct
+ * ca_kept_sums. The call doesn't look at weights after the last word.
  *
- * A flux is a number for each word of width + range - 2 letters, so that for each word of one letter more what its image
- * weighs more than its first range letters is the number of its first letters but for the last less that of its last
- * letters but for the first. There is one with 0 for the word of letters 0: numbers has it, the number of each word at
- * its value, and behind the last one zeros.
+ * A flux is a number for each word of width + range - 2 letters. It meets one condition for each word w of width + range - 1
+ * letters: the weight of the image of w, minus the weight of the first range letters of w, is the number of w without its last
+ * letter, minus the number of w without its first letter. Exactly one flux has 0 for the word of zeros. The call writes this
+ * flux into numbers, the number of each word at the place of its value, and then zeros.
  *
- * It gives CA_FAULT_NONE; or CA_FAULT_STATES to CA_FAULT_NODES, CA_FAULT_LENGTH, CA_FAULT_LETTER, CA_FAULT_RANGE,
- * CA_FAULT_WORDS, CA_FAULT_WEIGHT or CA_FAULT_LOST, the first that holds; numbers is then as it was.
+ * It returns CA_FAULT_NONE. Otherwise it returns the first of CA_FAULT_STATES to CA_FAULT_NODES, CA_FAULT_LENGTH,
+ * CA_FAULT_LETTER, CA_FAULT_RANGE, CA_FAULT_WORDS, CA_FAULT_WEIGHT and CA_FAULT_LOST that applies, and numbers doesn't change.
  */
 uint8_t ca_flux(uint8_t states, uint8_t width, const uint8_t *table, size_t table_length, uint8_t range,
                 const int64_t weights[CA_MOST_WORDS], int64_t numbers[CA_MOST_FLUX]);
