@@ -1,9 +1,9 @@
--- What a source in memory has left, and what its next call does.
+-- The state of a source in memory, and its next call.
 use Rattle.std.specs.Prelude.{ℕ, ◌==◌, min, Bool, List, length, drop}
 use Rattle.std.specs.List.{list_any}
 use Rattle.ca_io.specs.Faults.{count_up}
 
--- what a source in memory was made with, and what came of its calls so far
+-- the parts of a source in memory, and the results of its calls so far
 pub record Feed : Type 0 where
   -- how many bytes one call gives at most
   pub piece : ℕ
@@ -24,7 +24,7 @@ whole_feed bytes piece failing = record { piece = piece; failing = failing; call
 abbrev pub next_read_fails : Feed → Bool
 next_read_fails f = list_any (λ n. n == f.calls) f.failing
 
--- how many bytes the next call gives into a buffer of this length if it doesn't fail: the most that the longest piece and the bytes left allow
+-- the number of bytes that the next call gives into a buffer of this length if it doesn't fail: at most the greatest length of a piece and the number of bytes left
 abbrev pub count_to_give : Feed → ℕ → ℕ
 count_to_give f len = min len (min f.piece (length f.left))
 

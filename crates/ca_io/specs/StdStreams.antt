@@ -1,9 +1,9 @@
--- What a clause reads of a source or sink over a reader or writer of std.
+-- The parts of a source or sink over a reader or writer of std that clauses name.
 use Rattle.std.specs.Prelude.{ℕ}
 use Rattle.ca_io.specs.declared.standard.StdSource.{StdSource}
 use Rattle.ca_io.specs.declared.standard.StdSink.{StdSink}
 
--- the reader that a source stands over
+-- the reader of a source
 abbrev pub source_reader : {R : Type 0} → StdSource R → R
 source_reader s = s.inner
 
@@ -11,7 +11,7 @@ source_reader s = s.inner
 abbrev pub source_faults : {R : Type 0} → StdSource R → ℕ
 source_faults s = s.faults
 
--- the writer that a sink stands over
+-- the writer of a sink
 abbrev pub sink_writer : {W : Type 0} → StdSink W → W
 sink_writer s = s.inner
 

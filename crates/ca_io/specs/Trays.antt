@@ -1,9 +1,9 @@
--- What a sink in memory holds, and what its next call does.
+-- The state of a sink in memory, and its next call.
 use Rattle.std.specs.Prelude.{ℕ, ◌-◌, ◌==◌, nat_le, min, Bool, ◌||◌, List, [], ◌++◌, length}
 use Rattle.std.specs.List.{list_any}
 use Rattle.ca_io.specs.Faults.{count_up}
 
--- what a sink in memory was made with, and what came of its calls so far
+-- the parts of a sink in memory, and the results of its calls so far
 pub record Tray : Type 0 where
   -- how many bytes it takes in all
   pub room : ℕ
@@ -27,7 +27,7 @@ empty_tray room piece failing =
 abbrev pub next_write_fails : Tray → Bool
 next_write_fails t = list_any (λ n. n == t.calls) t.failing || nat_le t.room (length t.taken)
 
--- how many bytes of this length the next call takes if it doesn't fail: the most that the longest piece and the rest of the room allow
+-- the number of bytes of a piece of this length that the next call takes if it doesn't fail: at most the greatest length of a piece and the rest of the room
 abbrev pub count_to_take : Tray → ℕ → ℕ
 count_to_take t len = min len (min t.piece (t.room - length t.taken))
 

@@ -1,23 +1,22 @@
-//! Where bytes come from and where they go: a [`Source`] and a [`Sink`].
+//! Sources of bytes and sinks for bytes: [`Source`] and [`Sink`].
 //!
-//! A source or a sink in memory *tells* its bytes: a contract can name those that a [`PlainSource`] or
-//! a [`MemSource`] has left, and those that a [`MemSink`] has taken. A [`StdSource`] and a [`StdSink`]
-//! stand over a reader and a writer of std and tell none. Nor does a [`NullSink`], which drops its
-//! bytes.
+//! Some sources and sinks *tell* their bytes: contracts can name the bytes that a [`PlainSource`] or a [`MemSource`]
+//! has left, and the bytes that a [`MemSink`] has taken. A [`StdSource`] reads from a reader of std, and a
+//! [`StdSink`] writes to a writer of std; these tell no bytes. A [`NullSink`] drops its bytes and tells none.
 //!
-//! Each counts its faults, the calls that failed. A call answers [`Failed`] only where it has raised
-//! this count, or the count stands at its greatest, `2^64 - 1`. So a caller that has both a source and
-//! a sink knows which of them failed. One that tells its bytes has then moved none.
+//! Each counts its faults, which are the calls that failed. A call returns [`Failed`] only if it has raised this
+//! count, or if the count is at its greatest value, `2^64 - 1`. So a caller with both a source and a sink knows which
+//! of them failed. If a call of a source or a sink that tells its bytes fails, it moves no byte.
 //!
-//! [`write_all`] writes a whole output to a sink. Where it answers `Failed`, a sink that tells its bytes
-//! has taken a part of the output and not the whole. [`read_up_to`] reads a whole input, up to a limit.
+//! [`write_all`] writes a whole output to a sink. If it returns `Failed`, a sink that tells its bytes has taken a
+//! part of the output, but not all of it. [`read_up_to`] reads a whole input, up to a limit.
 //!
-//! Worked by hand: a `MemSink` with room for 3 bytes, 1 in a call, whose call 1 fails, is handed `ab`,
-//! `cd`, `ef`, `g` and `h`. It answers 1, `Failed`, 1, 1 and `Failed`, since the room is used up. It
-//! has then taken `aeg` and counted two faults.
+//! For example, let a `MemSink` have room for 3 bytes, 1 in each call, and let its call 1 fail. It gets `ab`, `cd`,
+//! `ef`, `g` and `h`. It returns 1, `Failed`, 1, 1 and `Failed`, since its room is full then. It has taken `aeg` and
+//! counted two faults.
 //!
-//! A call takes **O(n)** time for the n bytes that it moves, and one of a `MemSink` or a `MemSource`
-//! **O(f)** more for its f listed calls. Only [`MemSink::with_room`] and [`read_up_to`] take memory.
+//! A call takes **O(n)** time for the n bytes that it moves. A call of a `MemSink` or a `MemSource` takes **O(f)**
+//! more for its list of f failing calls. Only [`MemSink::with_room`] and [`read_up_to`] need memory.
 #![tactic(auto)]
 
 mod input;

@@ -1,4 +1,4 @@
-//! A sink in memory that fails at calls that its maker names.
+//! A sink in memory that fails at given calls.
 ghost use Rattle.std.specs.Prelude.{◌≡◌, ◌<◌, ◌≤◌, ◌↔◌, Some, length, take, IsErr, IsTrue, IfOk, IfErr, OnErr};
 ghost use Rattle.ca_io.specs.Faults.{CountsFaults};
 ghost use Rattle.ca_io.specs.Trays.{empty_tray, next_write_fails, count_to_take, after_taking, after_fault};
@@ -8,12 +8,12 @@ use crate::sources::Failed;
 use std::alloc::{AllocError, Global};
 use std::marker::Model;
 
-/// A sink in memory. Its calls are numbered from 0, and from the number `2^64 - 1` on every call has
-/// that number. A call fails exactly where its number is listed or the room is used up, and else takes
-/// the most bytes that its slice, the longest piece and the rest of the room allow.
+/// A sink in memory. Its calls have the numbers 0, 1, 2 and so on; after the number `2^64 - 1` all calls have this
+/// number. A call fails if and only if its number is listed or the room is full. Otherwise it takes as many bytes as
+/// the piece, the greatest length of a piece and the rest of the room allow.
 #[derive(Drop)]
 pub struct MemSink {
-    // How many bytes it takes in all.
+    // How many bytes it takes in total.
     room: usize,
     // How many bytes one call takes at most.
     piece: usize,
@@ -23,7 +23,7 @@ pub struct MemSink {
     calls: u64,
     // How many calls have failed.
     faults: u64,
-    // The bytes taken so far, with places for the whole room.
+    // The bytes taken so far. The list has capacity for the whole room.
     taken: Vec<u8>,
 }
 
@@ -46,19 +46,18 @@ impl Model for MemSink {
         × (s.room ≤ vec_capacity s.taken) };
 }
 
-/// Want of memory for the room of a [`MemSink`], with the list of failing calls handed back.
+/// There was no memory for the room of a [`MemSink`]. The list of failing calls is returned.
 #[derive(Debug, Drop)]
 pub struct RoomRefusal {
     /// The allocation that failed.
     pub fault: AllocError,
-    /// The list as it was passed.
+    /// The list of failing calls.
     pub failing: Vec<u64>,
 }
 
 impl MemSink {
-    /// A sink that takes `room` bytes in all and at most `piece` of them, one or more, in a call, and
-    /// whose calls with the numbers in `failing` fail. It makes its room here, and no write takes
-    /// memory.
+    /// Makes a sink that takes `room` bytes in total and at most `piece` of them, at least one, in a call. The calls
+    /// with the numbers in `failing` fail. It allocates its room here, and no write needs memory.
     pub fn with_room(
         alloc: Global,
         room: usize,
@@ -82,7 +81,7 @@ impl MemSink {
         }
     }
 
-    /// The bytes taken so far.
+    /// Returns the bytes taken so far.
     pub fn bytes(&self) -> &[u8]
         ensures { result.now ≡ self.now.taken }
     {
@@ -100,7 +99,7 @@ impl Sink for MemSink {
         ensures some { IfOk result (λ n. 1 ≤ n) }
         ensures counted { CountsFaults self.old.faults self.new.faults result }
 
-        // What this sink adds to the trait.
+        // Besides the clauses of the trait.
         ensures fails { IsErr result ↔ IsTrue (next_write_fails self.old) }
         ensures count { IfOk result (λ n. n ≡ count_to_take self.old (length piece.now)) }
         ensures took { IfOk result (λ n. self.new ≡ after_taking self.old (take n piece.now)) }

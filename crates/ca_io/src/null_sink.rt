@@ -1,15 +1,15 @@
-//! A sink that drops what it takes.
+//! A sink that drops its bytes.
 ghost use Rattle.std.specs.Prelude.{◌≡◌, ◌<◌, None, Ok, length};
 
 use crate::sinks::Sink;
 use crate::sources::Failed;
 
-/// Takes each piece whole, never fails, and tells no bytes.
+/// Takes each piece as a whole, never fails, and tells no bytes.
 #[derive(Clone, Copy, Debug, Default)]
 pub struct NullSink;
 
 impl NullSink {
-    /// A sink that drops what it takes.
+    /// Makes a sink that drops its bytes.
     pub fn new() -> NullSink {
         NullSink
     }

@@ -1,10 +1,10 @@
-//! A source over bytes in memory that never fails.
+//! A source of bytes in memory that never fails.
 ghost use Rattle.std.specs.Prelude.{◌≡◌, min, ◌++◌, Some, length, take, drop};
 
 use crate::sources::{Failed, Source};
 use std::marker::Model;
 
-/// Bytes in memory, read from the first one on. No read fails, and a contract sees the bytes that are
+/// Bytes in memory, read from the first to the last. No read fails. In contracts it is the list of the bytes that are
 /// left.
 #[derive(Drop)]
 pub struct PlainSource {
@@ -24,7 +24,7 @@ impl Model for PlainSource {
 }
 
 impl PlainSource {
-    /// A source that gives these bytes.
+    /// Makes a source of these bytes.
     pub fn new(bytes: Vec<u8>) -> PlainSource
         ensures { result ≡ bytes.items }
     {
@@ -37,7 +37,7 @@ impl Source for PlainSource {
 
     ghost faults = { λ _. 0 };
 
-    /// Gives the most bytes that `buf` has places for and that are left.
+    /// Gives as many bytes as `buf` has places and as are left.
     fn read(&mut self, buf: &mut [u8]) -> Result<usize, Failed>
         ensures count { result ≡ Ok (min (length buf.old) (length self.old)) }
         ensures first { let n = min (length buf.old) (length self.old) in

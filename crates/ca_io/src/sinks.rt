@@ -1,4 +1,4 @@
-//! What takes bytes, and the loop that writes a whole output.
+//! The trait of sinks, and the loop that writes a whole output.
 ghost use Rattle.std.specs.Prelude.{◌≡◌, ℕ, ◌<◌, ◌≤◌, List, Option, length, take, is_some, IfOk, OnOk, OnErr};
 ghost use Rattle.std.specs.Io.{WritesAtMost};
 ghost use Rattle.std.specs.Io.KnownBytes.{Appends, WriteAppends};
@@ -8,15 +8,14 @@ use crate::sources::Failed;
 
 /// Takes bytes.
 pub trait Sink {
-    // The bytes taken so far, where the sink tells them.
+    // The bytes taken so far, if the sink tells them.
     ghost taken: { Self → Option (List ℕ) };
 
     // How many writes have failed. The count stops at 2^64 - 1.
     ghost faults: { Self → ℕ };
 
-    /// Takes the first bytes of `piece`, which isn't empty, at least one of them, and answers how many.
-    /// `Failed` comes only where this call was counted as a fault. A sink that tells its bytes has then
-    /// taken none.
+    /// Takes some of the first bytes of `piece`, which isn't empty, and returns how many. Returns `Failed` only if
+    /// this call was counted as a fault. Then a sink that tells its bytes has taken none.
     fn write(&mut self, piece: &[u8]) -> Result<usize, Failed>
         requires { 0 < length piece.now }
         ensures bound { WritesAtMost result piece.now }
@@ -26,8 +25,8 @@ pub trait Sink {
         ensures counted { CountsFaults (faults self.old) (faults self.new) result };
 }
 
-/// Writes all of `bytes`, in as many calls as the sink needs; an empty output needs none. After
-/// `Failed` the sink has counted the fault, and has taken a part of `bytes` and not the whole.
+/// Writes all of `bytes` in as many calls as the sink needs. An empty output needs none. If it returns `Failed`, the
+/// sink has counted the fault, and has taken a part of `bytes`, but not all.
 #[tactic(auto, using(crate::proofs::laws::Pieces::piece_steps))]
 pub fn write_all<T: Sink>(sink: &mut T, bytes: &[u8]) -> Result<(), Failed>
     ensures written { OnOk result (Appends (T.taken sink.old) (T.taken sink.new) bytes.now) }

@@ -1,25 +1,25 @@
-//! What gives bytes.
+//! The trait of sources.
 ghost use Rattle.std.specs.Prelude.{◌≡◌, ◌↔◌, ℕ, ◌<◌, List, [], Option, length, is_some, IfOk, IfSome};
 ghost use Rattle.std.specs.Io.{ReadsAtMost};
 ghost use Rattle.std.specs.Io.KnownBytes.{ReadConsumes};
 ghost use Rattle.ca_io.specs.Faults.{CountsFaults};
 
-/// The answer of a call that failed and was counted as a fault. A source or a sink that tells its
-/// bytes has moved none in it.
+/// The error of a call that failed and was counted as a fault. A source or a sink that tells its bytes has moved none
+/// in this call.
 #[derive(Clone, Copy, Debug, PartialEq, Eq)]
 pub struct Failed;
 
 /// Gives bytes.
 pub trait Source {
-    // The bytes that are still to come, where the source tells them.
+    // The bytes that are still to come, if the source tells them.
     ghost left: { Self → Option (List ℕ) };
 
     // How many reads have failed. The count stops at 2^64 - 1.
     ghost faults: { Self → ℕ };
 
-    /// Reads the next bytes into the first places of `buf`, which isn't empty, and answers how many
-    /// they are: `Ok(0)` at the end of the input. `Failed` comes only where this call was counted as a
-    /// fault. A source that tells its bytes has then lost none.
+    /// Reads the next bytes into the first places of `buf`, which isn't empty, and returns how many they are: `Ok(0)`
+    /// at the end of the input. Returns `Failed` only if this call was counted as a fault. Then a source that tells
+    /// its bytes has lost none.
     fn read(&mut self, buf: &mut [u8]) -> Result<usize, Failed>
         requires { 0 < length buf.old }
         ensures bound { ReadsAtMost result buf.new }

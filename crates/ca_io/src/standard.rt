@@ -1,5 +1,5 @@
-//! A source over a reader of std, and a sink over a writer. No contract can say which bytes came from
-//! outside and which got there, so they tell none.
+//! A source over a reader of std, and a sink over a writer of std. They tell no bytes, since no contract can say
+//! which bytes came from outside and which arrived there.
 ghost use Rattle.std.specs.Prelude.{◌≡◌, ℕ, ◌≤◌, None, length, take, IfOk, OnErr};
 ghost use Rattle.std.specs.Io.{ReadsAtMost, WritesAtMost};
 ghost use Rattle.std.specs.Io.KnownBytes.{Appends, ReadConsumes, WriteAppends};
@@ -10,7 +10,7 @@ use crate::sources::{Failed, Source};
 use std::io;
 use std::io::{ErrorKind, Read, Write};
 
-/// A source over a reader, whose every error is a fault.
+/// A source over a reader. Each error of the reader is a fault.
 #[derive(Drop)]
 pub struct StdSource<R> {
     inner: R,
@@ -21,7 +21,7 @@ pub struct StdSource<R> {
 impl<R: Read> StdSource<R> {
     ghost use Rattle.ca_io.specs.StdStreams.{source_reader, source_faults};
 
-    /// A source over this reader, with no fault so far.
+    /// Makes a source over this reader, with no fault so far.
     pub fn new(inner: R) -> StdSource<R>
         ensures reader { source_reader result ≡ inner }
         ensures faultless { source_faults result ≡ 0 }
@@ -42,7 +42,7 @@ impl<R: Read> Source for StdSource<R> {
         ensures bytes { ReadConsumes None None result buf.new }
         ensures counted { CountsFaults (source_faults self.old) (source_faults self.new) result }
 
-        // What this source adds to the trait.
+        // Besides the clauses of the trait.
         ensures passed_on { ReadConsumes (R.remaining (source_reader self.old))
             (R.remaining (source_reader self.new)) result buf.new }
         ensures one_more { OnErr result (source_faults self.new ≡ count_up (source_faults self.old)) }
@@ -57,8 +57,8 @@ impl<R: Read> Source for StdSource<R> {
     }
 }
 
-/// A sink over a writer, which flushes each piece. Every error of the writer is a fault, and so is a
-/// write that takes no byte. Where the flush fails, a part of the piece has reached the writer.
+/// A sink over a writer that flushes each piece. Each error of the writer is a fault, and so is a write of no byte.
+/// If the flush fails, a part of the piece has reached the writer.
 #[derive(Drop)]
 pub struct StdSink<W> {
     inner: W,
@@ -69,7 +69,7 @@ pub struct StdSink<W> {
 impl<W: Write> StdSink<W> {
     ghost use Rattle.ca_io.specs.StdStreams.{sink_writer, sink_faults};
 
-    /// A sink over this writer, with no fault so far.
+    /// Makes a sink over this writer, with no fault so far.
     pub fn new(inner: W) -> StdSink<W>
         ensures writer { sink_writer result ≡ inner }
         ensures faultless { sink_faults result ≡ 0 }
@@ -91,7 +91,7 @@ impl<W: Write> Sink for StdSink<W> {
         ensures bytes { WriteAppends None None result piece.now }
         ensures counted { CountsFaults (sink_faults self.old) (sink_faults self.new) result }
 
-        // What this sink adds to the trait.
+        // Besides the clauses of the trait.
         ensures passed_on { IfOk result (λ n. Appends (W.contents (sink_writer self.old))
             (W.contents (sink_writer self.new)) (take n piece.now)) }
         ensures part { OnErr result ((n : ℕ) × (n ≤ length piece.now)
@@ -109,7 +109,7 @@ impl<W: Write> Sink for StdSink<W> {
     }
 }
 
-/// Writes at least one byte of the piece and flushes, and answers how many bytes it wrote.
+/// Writes at least one byte of the piece and flushes. Returns how many bytes it wrote.
 fn write_and_flush<W: Write>(writer: &mut W, piece: &[u8]) -> io::Result<usize>
     ensures bound { WritesAtMost result piece.now }
     ensures some { IfOk result (λ n. 1 ≤ n) }

@@ -1,5 +1,5 @@
-//! The program: hands the words of the command line and the standard output to `list_run::run`, and ends
-//! with the code of the status that it answers.
+//! The program. It passes the words of the command line and the standard output to `list_run::run`, and exits with
+//! the code of the status that `run` returns.
 #![tactic(auto)]
 
 use ca_io::StdSink;
@@ -9,7 +9,7 @@ use std::process::ExitCode;
 use std::rt::Env;
 use std::{env, io};
 
-/// The exit status where the system doesn't give the words, as where one isn't UTF-8.
+/// The exit status if the system can't pass the words, for example if one isn't UTF-8.
 const NO_WORDS: u8 = 9;
 
 fn main(rt: HostRuntime) -> ExitCode {
@@ -26,7 +26,7 @@ fn main(rt: HostRuntime) -> ExitCode {
     }
 }
 
-/// The words of the command line without the program's name.
+/// Returns the words of the command line without the program's name.
 fn words(rt: &(impl Env + AllocGlobal)) -> io::Result<Vec<String>> {
     Ok(env::args(rt)?.skip(1).collect(rt.alloc())?)
 }
