@@ -56,13 +56,7 @@ fn unit(place: u8) -> Row
 
 /// Narrows the sums by a ring. Most rings change nothing, so it writes in place: a copy of the sums would cost
 /// more than the ring.
-fn narrow_by_ring(
-    rule: &Rule,
-    range: u8,
-    sums: &mut KeptSums,
-    letters: &[u8; LONGEST],
-    count: u8,
-)
+fn narrow_by_ring(rule: &Rule, range: u8, sums: &mut KeptSums, letters: &[u8; LONGEST], count: u8)
     requires few { rule.now.states ^ range ≤ 16 }
     requires stage { IsStage rule.now range sums.old.rows sums.old.counts sums.old.rings }
     requires ring { IsRing rule.now.states (take count letters.now) }
