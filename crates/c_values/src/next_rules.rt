@@ -5,7 +5,7 @@ ghost use Rattle.rule_lists.specs.Ranks.{IsOrder};
 ghost use Rattle.rule_lists.specs.Listed.{IsFirst, NoneIs};
 ghost use Rattle.c_values.specs.NextRules.{IsNoProperty, IsToCome, fixed_letters, property_number};
 
-use rule_lists::{Hints, Letters, Property, first_rule, rule_after};
+use rule_lists::{Asked, Letters, Property, Search};
 use word_image::{MOST_ENTRIES, Rule};
 
 /// The property that a number stands for, that of its bit in a byte of verdicts.
@@ -57,12 +57,18 @@ pub fn next_rule(
         (NoneIs property rule.now.states rule.now.width letters.now (IsToCome after rule.now.states order.now rule.now.table))
         (IsFirst property rule.now.states rule.now.width letters.now order.now (IsToCome after rule.now.states order.now rule.now.table)) }
 {
-    let mut hints = Hints::of(property, rule, letters);
-    if after {
-        rule_after(property, letters, order, rule, &mut hints)
+    let asked = Asked {
+        property,
+        shape: rule,
+        begin: letters,
+        order,
+    };
+    let mut search = if after {
+        Search::after(asked, rule)
     } else {
-        first_rule(property, rule, letters, order, &mut hints)
-    }
+        Search::new(asked)
+    };
+    search.next()
 }
 
 /// Writes the letters of a rule.

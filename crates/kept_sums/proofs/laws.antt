@@ -6,6 +6,7 @@ pub mod Parts
 pub mod Turns
 pub mod Locals
 pub mod Densities
+pub mod Flows
 pub mod Narrowed
 pub mod Stages
 pub mod AfterRings
@@ -14,10 +15,8 @@ pub mod Ranges
 pub mod Trivials
 pub mod Unique
 pub mod Siegel
-pub mod Bounds
 pub mod Limits
-pub mod Fits
-pub mod Flows
+pub mod Bounds
 pub mod Windows
 pub mod Independence
 pub mod MadeRules

@@ -3,6 +3,7 @@ use Rattle.std.specs.Prelude.{◌≢◌, ℕ, zero, suc, ◌+◌, ◌<◌, ◌�
 use Rattle.word_image.specs.LocalRules.{LocalRule}
 use Rattle.word_image.specs.Rings.{ring_image}
 use Rattle.kept_sums.specs.Sums.{blocks, KeepsSumOf}
+use Rattle.kept_sums.specs.Rows.{most_words}
 use Rattle.kept_sums.specs.Spans.{gain_at}
 use Rattle.kept_sums.specs.Stages.{IsNormal, ring_at}
 
@@ -14,7 +15,7 @@ ring_gain r range counts rings weight i = gain_at weight (blocks r.states range 
 pub record IsNeeded (r : LocalRule) (range : ℕ) (counts : List ℕ) (rings : List (List ℕ)) (i : ℕ) : Type 0 where
   pub weight : ℕ → ℤ
   pub normal : IsNormal r.states range weight
-  pub others : (l : ℕ) → l < 16 → 1 ≤ slice_index counts l → l ≢ i → KeepsSumOf range weight r (ring_at counts rings l)
+  pub others : (l : ℕ) → l < most_words → 1 ≤ slice_index counts l → l ≢ i → KeepsSumOf range weight r (ring_at counts rings l)
   pub changed : ¬ KeepsSumOf range weight r (ring_at counts rings i)
 
 -- at how many of the first n places there is a number other than 0

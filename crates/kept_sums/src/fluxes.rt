@@ -106,7 +106,7 @@ fn numbers(k: u16, letters: u8, gains: &Gains) -> Flux
     requires few { k ^ (letters + 1) ≤ 256 }
     requires short { letters ≤ 7 }
     requires bounds { (v : ℕ) → v < 256 → unsigned_abs (at gains.now v) ≤ 2 ^ 57 }
-    ensures numbers { (phi : ℕ → ℤ) → IsFlowBy k letters gains.now phi → (v : ℕ) → v < k ^ letters → at result v ≡ phi v -ℤ phi 0 }
+    ensures numbers { (phi : ℕ → ℤ) → IsFlowBy k letters (at gains.now) phi → (v : ℕ) → v < k ^ letters → at result v ≡ phi v -ℤ phi 0 }
     ensures bounds { (v : ℕ) → v < 128 → unsigned_abs (at result v) ≤ 7 * 2 ^ 57 }
     ensures first { at result 0 ≡ pos 0 }
     ensures ends { (v : ℕ) → k ^ letters ≤ v → v < 128 → at result v ≡ pos 0 }
@@ -125,7 +125,7 @@ fn flow_by(k: u16, letters: u8, gains: &Gains, flux: &Flux) -> bool
     requires few { k ^ (letters + 1) ≤ 256 }
     requires gains { (v : ℕ) → v < 256 → unsigned_abs (at gains.now v) ≤ 2 ^ 57 }
     requires flux { (v : ℕ) → v < 128 → unsigned_abs (at flux.now v) ≤ 7 * 2 ^ 57 }
-    ensures { IsTrue result ↔ IsFlowBy k letters gains.now (at flux.now) }
+    ensures { IsTrue result ↔ IsFlowBy k letters (at gains.now) (at flux.now) }
 {
     let words = k.pow(u32::from(letters));
     for window in 0..words * k {

@@ -1,18 +1,33 @@
 //! Rings of few letters: one by one, their images, and the words round them.
 ghost use Rattle.std.specs.Prelude.{◌≡◌, ◌^◌, ◌<◌, ◌≤◌, length, take, pos};
 ghost use Rattle.std.specs.Int.{int_rem_euclid};
-ghost use Rattle.word_image.specs.LocalRules.{value, word_of};
+ghost use Rattle.word_image.specs.LocalRules.{IsRule, value, word_of};
 ghost use Rattle.word_image.specs.Rings.{IsRing, ring_letters, ring_image};
 ghost use Rattle.kept_sums.specs.Sums.{blocks};
+ghost use Rattle.kept_sums.specs.Stages.{IsCondition};
 
 use word_image::{Rule, ring_apply};
 
 /// The most letters of a ring that is looked at: 2 (m + range) - 3 at width 5 and range 4.
 pub const LONGEST: usize = 15;
 
+/// The values of the words of so many letters round the image of a ring, and round the ring, and others after them.
+pub(crate) fn words(rule: &Rule, range: u8, ring: &[u8]) -> ([u8; LONGEST], [u8; LONGEST])
+    requires ring { IsRing rule.now.states ring.now }
+    requires short { length ring.now ≤ 15 }
+    requires few { rule.now.states ^ range ≤ 16 }
+    ensures rule { IsRule rule.now }
+    ensures condition { IsCondition rule.now range ring.now (take (length ring.now) result.0) (take (length ring.now) result.1) }
+{
+    let image = image_letters(rule, ring);
+    let before = blocks(rule.k(), range, ring);
+    let after = blocks(rule.k(), range, &image[..ring.len()]);
+    (after, before)
+}
+
 /// The values of the words of so many letters round a ring, one from each place on, and zeros after
 /// them.
-pub(crate) fn blocks(k: u8, range: u8, ring: &[u8]) -> [u8; LONGEST]
+fn blocks(k: u8, range: u8, ring: &[u8]) -> [u8; LONGEST]
     requires ring { IsRing k ring.now }
     requires short { length ring.now ≤ 15 }
     requires some { 2 ≤ k }
@@ -43,7 +58,7 @@ fn block(k: u8, range: u8, ring: &[u8], place: usize) -> u8
 }
 
 /// The image of a ring, and zeros after it.
-pub(crate) fn image_letters(rule: &Rule, ring: &[u8]) -> [u8; LONGEST]
+fn image_letters(rule: &Rule, ring: &[u8]) -> [u8; LONGEST]
     requires ring { IsRing rule.now.states ring.now }
     requires short { length ring.now ≤ 15 }
     ensures { take (length ring.now) result ≡ ring_image rule.now ring.now }

@@ -10,7 +10,7 @@ ghost use Rattle.list_run.specs.Lists.{AreGiven, IsList, IsListSoFar};
 use crate::cut::Cut;
 use crate::lines::{first_line, last_line, set_table};
 use ca_io::{Failed, Sink, write_all};
-use rule_lists::{Hints, Letters, Property, first_rule, order_for, rule_after};
+use rule_lists::{Asked, Letters, Property, Search, order_for};
 use rule_text::Beginning;
 use std::alloc::{AllocError, Global};
 use word_image::MOST_ENTRIES;
@@ -62,14 +62,17 @@ fn write_rules<T: Sink>(
     ensures telling { is_some (T.taken sink.new) ≡ is_some (T.taken sink.old) }
     ensures counted { CountsFaults (T.faults sink.old) (T.faults sink.new) result }
 {
+    let asked = Asked {
+        property,
+        shape: &beginning.rule,
+        begin: letters,
+        order,
+    };
     let mut count = 0u64;
-    let mut hints = Hints::of(property, &beginning.rule, letters);
-    let mut next = first_rule(property, &beginning.rule, letters, order, &mut hints);
-    while let Some(rule) = next {
+    for rule in Search::new(asked) {
         set_table(line, &beginning.rule, &rule);
         write_all(sink, line)?;
         count = count.saturating_add(1);
-        next = rule_after(property, letters, order, &rule, &mut hints);
     }
     Ok(count)
 }

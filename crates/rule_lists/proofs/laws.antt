@@ -6,3 +6,4 @@ pub mod Going
 pub mod Calls
 pub mod Parts
 pub mod Offsets
+pub mod Searches

@@ -10,3 +10,4 @@ pub mod FixedWalks
 pub mod Bars
 pub mod Calls
 pub mod Forests
+pub mod Searches

@@ -1,13 +1,13 @@
 //! Whether letters that stand forbid a property, whatever the others are.
 ghost use Rattle.std.specs.Prelude.{◌≡◌, ◌≢◌, ◌^◌, ◌<◌, ◌≤◌, ℕ, IsTrue, ◌-◌, length, slice_index};
-ghost use Rattle.word_image.specs.LocalRules.{most_windows};
-ghost use Rattle.rule_lists.specs.Ranks.{IsOrder};
-ghost use Rattle.rule_lists.specs.Tables.{IsTable};
-ghost use Rattle.rule_lists.specs.Listed.{Forbids, IsStanding};
+ghost use Rattle.word_image.specs.LocalRules.{IsRule, most_windows};
+ghost use Rattle.rule_lists.specs.Searches.{AreEntries, AreForbidden, IsOrdered, size_of};
+ghost use Rattle.rule_lists.specs.Listed.{IsStanding};
 ghost use Rattle.rule_lists.specs.Bars.{Bars, BarsClosing};
 ghost use Rattle.rule_lists.specs.Completions.{IsLost};
 ghost use Rattle.rule_lists.specs.declared.properties.Property.TheVariants.{Open, Injective};
 
+use crate::asked::Asked;
 use crate::hints::{Hint, Hints};
 use crate::letters::Letters;
 use crate::properties::Property;
@@ -18,42 +18,37 @@ use word_image::{Rule, Side};
 
 /// Whether the letters at the first n windows forbid the property. Those at all but the last are the ones
 /// of which hints were asked before.
-pub(crate) fn forbids(
-    property: Property,
-    shape: &Rule,
-    begin: &Letters,
-    order: &[u8],
-    entries: &Entries,
-    n: u16,
-    hints: &mut Hints,
-) -> bool
-    requires order { IsOrder (shape.now.states ^ shape.now.width) order.now }
-    requires table { IsTable shape.now.states (shape.now.states ^ shape.now.width) entries.now }
-    requires within { n ≤ shape.now.states ^ shape.now.width }
-    ensures { IsTrue result → Forbids property shape.now.states shape.now.width begin.now order.now entries.now n }
+pub(crate) fn forbids(asked: &Asked, entries: &Entries, n: u16, hints: &mut Hints) -> bool
+    requires order { IsOrdered asked.now }
+    requires table { AreEntries asked.now entries.now }
+    requires within { n ≤ size_of asked.now }
+    ensures { IsTrue result → AreForbidden asked.now entries.now n }
 {
-    if has_other(shape.k(), begin, order, entries, n) {
+    if has_other(asked, entries, n) {
         return true;
     }
-    if !hints.see(begin, order, entries, n, true) {
+    if !hints.see(asked, entries, n, true) {
         return false;
     }
-    let letters = standing(begin, order, entries, n);
-    bars(property, shape, &letters, hints.last())
+    let letters = standing(asked.begin, asked.order, entries, n);
+    bars(asked.property, asked.shape, &letters, hints.last())
 }
 
 /// Whether another letter was fixed from the beginning at the last of the first n windows.
-fn has_other(k: u8, begin: &Letters, order: &[u8], entries: &Entries, n: u16) -> bool
-    requires within { n ≤ length order.now }
+fn has_other(asked: &Asked, entries: &Entries, n: u16) -> bool
+    requires within { n ≤ length asked.now.order.now }
+    ensures rule { IsRule asked.now.shape.now }
     ensures some { IsTrue result → 0 < n }
-    ensures fixed { IsTrue result → slice_index begin.now (slice_index order.now (n - 1)) < k }
-    ensures other { IsTrue result → slice_index begin.now (slice_index order.now (n - 1)) ≢ slice_index entries.now (slice_index order.now (n - 1)) }
+    ensures fixed { IsTrue result → slice_index asked.now.begin.now (slice_index asked.now.order.now (n - 1)) < asked.now.shape.now.states }
+    ensures other { IsTrue result → slice_index asked.now.begin.now (slice_index asked.now.order.now (n - 1)) ≢ slice_index entries.now (slice_index asked.now.order.now (n - 1)) }
 {
+    let k = asked.shape.k();
     if n == 0 {
         return false;
     }
-    let window = usize::from(order[usize::from(n - 1)]);
-    begin[window] < k && begin[window] != entries[window]
+    let window = usize::from(asked.order[usize::from(n - 1)]);
+    let letter = asked.begin[window];
+    letter < k && letter != entries[window]
 }
 
 /// The letters at the first n windows, and those that are fixed from the beginning elsewhere.

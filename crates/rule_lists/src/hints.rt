@@ -2,6 +2,7 @@
 ghost use Rattle.std.specs.Prelude.{◌≤◌, length};
 ghost use Rattle.word_image.specs.LocalRules.{most_windows};
 
+use crate::asked::Asked;
 use crate::letters::Letters;
 use crate::properties::Property;
 use crate::reach::{Links, Reach};
@@ -33,10 +34,11 @@ pub(crate) struct Hint {
 }
 
 impl Hint {
-    /// With the letters alone that are fixed from the beginning.
-    fn of(property: Property, side: Side, shape: &Rule, begin: &Letters) -> Hint {
+    /// Only with the letters that are fixed from the beginning.
+    fn of(side: Side, asked: &Asked) -> Hint {
+        let shape = asked.shape;
         let mut hint = Hint {
-            property,
+            property: asked.property,
             side,
             letters: [u8::MAX; MOST_ENTRIES],
             placed: 0,
@@ -46,7 +48,7 @@ impl Hint {
             pair: 0,
         };
         for window in 0..shape.size() {
-            let letter = begin[usize::from(window)];
+            let letter = asked.begin[usize::from(window)];
             if letter < shape.k() && !hint.begun {
                 hint.begun = hint.set(window as u8, letter, true);
             }
@@ -72,36 +74,29 @@ impl Hint {
 
     /// Whether there is a hint that the letters at the first n windows forbid the property, if it is looked
     /// for. Those at all but the last are the ones that were seen before.
-    fn see(
-        &mut self,
-        begin: &Letters,
-        order: &[u8],
-        entries: &Entries,
-        n: u16,
-        looking: bool,
-    ) -> bool
-        requires within { n ≤ length order.now }
-        requires few { length order.now ≤ most_windows }
+    fn see(&mut self, asked: &Asked, entries: &Entries, n: u16, looking: bool) -> bool
+        requires within { n ≤ length asked.now.order.now }
+        requires few { length asked.now.order.now ≤ most_windows }
     {
         if n == 0 {
             return self.begun;
         }
-        self.forget(begin, order, n - 1);
+        self.forget(asked, n - 1);
         self.placed = n;
         self.reach.go_back(n - 1);
-        let window = order[usize::from(n - 1)];
-        let stood = begin[usize::from(window)] < self.reach.edges.k();
+        let window = asked.order[usize::from(n - 1)];
+        let stood = asked.begin[usize::from(window)] < self.reach.edges.k();
         let hint = !stood && self.set(window, entries[usize::from(window)], looking);
         self.reach.settle(n);
         hint
     }
 
     /// Takes the letters away that stand behind the first n windows.
-    fn forget(&mut self, begin: &Letters, order: &[u8], n: u16) {
-        for place in usize::from(n)..usize::from(self.placed).min(order.len()) {
-            let window = order[place];
+    fn forget(&mut self, asked: &Asked, n: u16) {
+        for place in usize::from(n)..usize::from(self.placed).min(asked.order.len()) {
+            let window = asked.order[place];
             let letter = self.letters[usize::from(window)];
-            if begin[usize::from(window)] >= self.reach.edges.k() {
+            if asked.begin[usize::from(window)] >= self.reach.edges.k() {
                 self.letters[usize::from(window)] = u8::MAX;
                 self.reach.edges.take(window, letter);
             }
@@ -139,8 +134,8 @@ impl Hint {
     }
 }
 
-/// What a search keeps from step to step, and from one rule to the next: the hints that belong to a
-/// property, on its side or on both. It has no part in which rule is found, only in how soon.
+/// What a search keeps from step to step, and from one rule to the next: the hints for a property, on its
+/// side or on both. They change only how soon a rule is found, not which one.
 #[derive(Drop)]
 pub struct Hints {
     /// On the right, or on the one side that the property has.
@@ -152,19 +147,18 @@ pub struct Hints {
 }
 
 impl Hints {
-    /// With the letters alone that are fixed from the beginning, for a search among the rules of the states
-    /// and the width of this one.
-    pub fn of(property: Property, shape: &Rule, begin: &Letters) -> Hints {
-        let side = match property {
+    /// Only with the letters that are fixed from the beginning.
+    pub(crate) fn of(asked: &Asked) -> Hints {
+        let side = match asked.property {
             Property::LeftClosing => Side::Left,
             _ => Side::Right,
         };
-        let second = match property {
-            Property::Open => Some(Hint::of(property, Side::Left, shape, begin)),
+        let second = match asked.property {
+            Property::Open => Some(Hint::of(Side::Left, asked)),
             _ => None,
         };
         Hints {
-            first: Hint::of(property, side, shape, begin),
+            first: Hint::of(side, asked),
             second,
             turned: false,
         }
@@ -172,39 +166,32 @@ impl Hints {
 
     /// Sees the letters at the first n windows but the last one, one after another, from those on that
     /// weren't seen.
-    pub(crate) fn catch_up(&mut self, begin: &Letters, order: &[u8], entries: &Entries, n: u16)
-        requires within { n ≤ length order.now }
-        requires few { length order.now ≤ most_windows }
+    pub(crate) fn catch_up(&mut self, asked: &Asked, entries: &Entries, n: u16)
+        requires within { n ≤ length asked.now.order.now }
+        requires few { length asked.now.order.now ≤ most_windows }
     {
         for place in self.first.placed.saturating_add(1).max(1)..n {
-            let _ = self.see(begin, order, entries, place, false);
+            let _ = self.see(asked, entries, place, false);
         }
     }
 
     /// Whether there is a hint that the letters at the first n windows forbid the property, if it is looked
     /// for. Those at all but the last are the ones that were seen before. Conserving rules are always looked at:
     /// they have no hints.
-    pub(crate) fn see(
-        &mut self,
-        begin: &Letters,
-        order: &[u8],
-        entries: &Entries,
-        n: u16,
-        looking: bool,
-    ) -> bool
-        requires within { n ≤ length order.now }
-        requires few { length order.now ≤ most_windows }
+    pub(crate) fn see(&mut self, asked: &Asked, entries: &Entries, n: u16, looking: bool) -> bool
+        requires within { n ≤ length asked.now.order.now }
+        requires few { length asked.now.order.now ≤ most_windows }
     {
         if let Property::Conserving = self.first.property {
             return true;
         }
         self.turned = false;
-        if self.first.see(begin, order, entries, n, looking) {
+        if self.first.see(asked, entries, n, looking) {
             return true;
         }
         if let Some(second) = &mut self.second {
             self.turned = true;
-            return second.see(begin, order, entries, n, looking);
+            return second.see(asked, entries, n, looking);
         }
         false
     }

@@ -5,14 +5,15 @@
 //! what stands so far may forbid the property for whatever else is filled in: then none of these tables
 //! is tried.
 //!
-//! The rank of a rule is the number of its letters in the order of the windows. [`first_rule`] gives the
-//! rule of least rank that has the property and [`rule_after`] the next one, so between them each rule
-//! that has it is given exactly once.
+//! The rank of a rule is the number of its letters in the order of the windows. A [`Search`] is an iterator:
+//! it gives the rule of least rank that has the property, then the next one, and so on. So it gives each
+//! rule that has the property exactly once.
 //!
 //! With the windows in the order 111, 110, .., 000 the rank is the Wolfram number. The surjective rules of
 //! two states and width 3 are then those with the numbers 15, 30, 45, 51, 60, .., 240: 30 rules.
 #![tactic(auto)]
 
+mod asked;
 mod classes;
 mod cuts;
 mod edges;
@@ -29,11 +30,11 @@ mod tables;
 mod theorems;
 mod walks;
 
-pub use hints::Hints;
+pub use asked::Asked;
 pub use letters::Letters;
 pub use orders::{is_order, order_for, write_order};
 pub use properties::{Property, has};
-pub use search::{first_rule, rule_after};
+pub use search::Search;
 pub use theorems::{
     calls_list_each_rule_once, fixed_endless_first_pair_forbids_closing,
     fixed_endless_nodes_forbid_injective, fixed_erasable_pair_forbids_surjective,

@@ -1,60 +1,115 @@
 //! The search for the next rule.
-ghost use Rattle.std.specs.Prelude.{◌≡◌, ◌^◌, ◌<◌, ◌≤◌, ℕ, MatchOption, IfSome, IsNone, length, slice_index, pos, IsTrue, ⊤};
+ghost use Rattle.std.specs.Prelude.{◌≡◌, ◌^◌, ◌<◌, ◌≤◌, ℕ, None, Some, IfSome, IsNone, slice_index, pos};
 ghost use Rattle.word_image.specs.LocalRules.{IsShape, IsRule};
-ghost use Rattle.rule_lists.specs.Ranks.{IsOrder, rank};
 ghost use Rattle.rule_lists.specs.Tables.{IsTable, IsPast};
-ghost use Rattle.rule_lists.specs.Listed.{IsFirst, IsFilled, NoneIs, IsOn, Forbids};
+ghost use Rattle.rule_lists.specs.Listed.{IsFilled, IsOn};
+ghost use Rattle.rule_lists.specs.Searches.{AreEntries, AreForbidden, HasShape, IsFirstListed, IsNextListed, IsOrdered, size_of};
 
+use crate::asked::Asked;
 use crate::cuts::forbids;
 use crate::hints::Hints;
-use crate::letters::Letters;
-use crate::properties::{Property, has};
+use crate::properties::has;
 use crate::tables::{Entries, advance, has_letters};
 use word_image::{MOST_ENTRIES, Rule};
 
-/// The rule of least rank that has the property and each letter that is fixed from the beginning, of the
-/// states and the width of this rule and at offset 0; `None` exactly where there is none. Hints change no
-/// answer: what is kept in them makes the next call on the same list shorter.
-pub fn first_rule(
-    property: Property,
-    shape: &Rule,
-    begin: &Letters,
-    order: &[u8],
-    hints: &mut Hints,
-) -> Option<Rule>
-    requires { IsOrder (shape.now.states ^ shape.now.width) order.now }
-    ensures { MatchOption result
-        (NoneIs property shape.now.states shape.now.width begin.now (λ q. ⊤))
-        (IsFirst property shape.now.states shape.now.width begin.now order.now (λ q. ⊤)) }
-{
-    from(
-        property,
-        shape,
-        begin,
-        order,
-        entries_of(shape),
-        Some(0),
-        hints,
-    )
+/// Gives the listed rules one after another, by ascending rank. It takes no memory.
+///
+/// A search fills a table letter by letter, in the order of the windows. If the letters so far forbid the
+/// property, it doesn't fill the rest and goes on to the next letters. Hints only make it faster, since each
+/// is tested before letters are given up. At worst all `k^(k^m)` tables are filled.
+#[derive(Drop)]
+pub struct Search<'a> {
+    /// What it is asked for.
+    asked: Asked<'a>,
+    /// What the letters of the last table lead to.
+    hints: Hints,
+    /// The rule behind which it goes on. `None`: it begins.
+    last: Option<Rule>,
 }
 
-/// The rule of least rank greater than that of this rule, of its shape at offset 0, that has the
-/// property; `None` exactly where there is none. Hints as in [`first_rule`].
-pub fn rule_after(
-    property: Property,
-    begin: &Letters,
-    order: &[u8],
-    rule: &Rule,
-    hints: &mut Hints,
-) -> Option<Rule>
-    requires { IsOrder (rule.now.states ^ rule.now.width) order.now }
-    ensures { MatchOption result
-        (NoneIs property rule.now.states rule.now.width begin.now (λ q. rank rule.now.states order.now rule.now.table < rank rule.now.states order.now q.table))
-        (IsFirst property rule.now.states rule.now.width begin.now order.now (λ q. rank rule.now.states order.now rule.now.table < rank rule.now.states order.now q.table)) }
+impl<'a> Search<'a> {
+    ghost use Rattle.rule_lists.specs.Searches.{IsBehind};
+
+    /// Begins at the listed rule of least rank.
+    pub fn new(asked: Asked<'a>) -> Search<'a>
+        requires { IsOrdered asked }
+        ensures { IsBehind asked.entry None result }
+    {
+        let hints = Hints::of(&asked);
+        Search {
+            asked,
+            hints,
+            last: None,
+        }
+    }
+
+    /// Begins behind a rule of the shape: every rule that comes has a greater rank. This rule needn't have the
+    /// property.
+    pub fn after(asked: Asked<'a>, rule: &Rule) -> Search<'a>
+        requires order { IsOrdered asked }
+        requires shape { HasShape asked rule.now }
+        ensures { IsBehind asked.entry (Some rule.now) result }
+    {
+        let hints = Hints::of(&asked);
+        Search {
+            asked,
+            hints,
+            last: Some(*rule),
+        }
+    }
+}
+
+impl<'a> Iterator for Search<'a> {
+    ghost use Rattle.std.specs.Iterator.{at_most};
+    ghost use Rattle.rule_lists.specs.Searches.{CanGoOn, GivesNext, ranks_left};
+
+    type Item = Rule;
+
+    ghost can_next = { CanGoOn };
+
+    ghost next_gives = { GivesNext };
+
+    ghost remaining = { λ s. at_most (ranks_left s.asked s.last) };
+
+    fn next(&mut self) -> Option<Rule> {
+        let Some(rule) = next_listed(&self.asked, &self.last, &mut self.hints) else {
+            return None;
+        };
+        self.last = Some(rule);
+        Some(rule)
+    }
+}
+
+/// The first listed rule after the last one.
+fn next_listed(asked: &Asked, last: &Option<Rule>, hints: &mut Hints) -> Option<Rule>
+    requires order { IsOrdered asked.now }
+    requires shape { IfSome last.now (HasShape asked.now) }
+    ensures { IsNextListed asked.now last.now result }
+{
+    match last {
+        None => first_rule(asked, hints),
+        Some(rule) => rule_after(asked, rule, hints),
+    }
+}
+
+/// The listed rule of least rank.
+fn first_rule(asked: &Asked, hints: &mut Hints) -> Option<Rule>
+    requires { IsOrdered asked.now }
+    ensures { IsNextListed asked.now None result }
+{
+    rule_from(asked, entries_of(asked.shape), Some(0), hints)
+}
+
+/// The listed rule of the least rank that is greater than that of this rule.
+fn rule_after(asked: &Asked, rule: &Rule, hints: &mut Hints) -> Option<Rule>
+    requires order { IsOrdered asked.now }
+    requires shape { HasShape asked.now rule.now }
+    ensures { IsNextListed asked.now (Some rule.now) result }
 {
     let mut entries = entries_of(rule);
-    let next = advance(rule.k(), order, &mut entries, rule.size());
-    from(property, rule, begin, order, entries, next, hints)
+    let next = advance(rule.k(), asked.order, &mut entries, rule.size());
+    hints.catch_up(asked, &entries, next.unwrap_or(0));
+    rule_from(asked, entries, next, hints)
 }
 
 /// The letters of a rule, and anything after them.
@@ -69,58 +124,40 @@ fn entries_of(rule: &Rule) -> Entries
     entries
 }
 
-/// The rule of least rank among those of a shape from what stands on.
-fn from(
-    property: Property,
-    shape: &Rule,
-    begin: &Letters,
-    order: &[u8],
-    start: Entries,
-    first: Option<u16>,
-    hints: &mut Hints,
-) -> Option<Rule>
-    requires order { IsOrder (shape.now.states ^ shape.now.width) order.now }
-    requires table { IsTable shape.now.states (shape.now.states ^ shape.now.width) start }
-    requires within { IfSome first (λ n. n ≤ shape.now.states ^ shape.now.width) }
-    ensures { MatchOption result
-        (NoneIs property shape.now.states shape.now.width begin.now (λ q. IsPast shape.now.states order.now start first q.table))
-        (IsFirst property shape.now.states shape.now.width begin.now order.now (λ q. IsPast shape.now.states order.now start first q.table)) }
+/// The listed rule of least rank among those whose tables are these letters or come after them.
+fn rule_from(asked: &Asked, start: Entries, first: Option<u16>, hints: &mut Hints) -> Option<Rule>
+    requires order { IsOrdered asked.now }
+    requires table { AreEntries asked.now start }
+    requires within { IfSome first (λ n. n ≤ size_of asked.now) }
+    ensures { IsFirstListed asked.now (λ q. IsPast asked.now.shape.now.states asked.now.order.now start first q.table) result }
 {
     let mut entries = start;
-    hints.catch_up(begin, order, &entries, first.unwrap_or(0));
     let mut next = first;
     while let Some(n) = next {
-        if let Some(rule) = found(property, shape, begin, order, &entries, n) {
+        if let Some(rule) = found(asked, &entries, n) {
             return Some(rule);
         }
-        next = step(property, shape, begin, order, &mut entries, n, hints);
+        next = step(asked, &mut entries, n, hints);
     }
     None
 }
 
 /// The rule of a table whose letters all stand, if it has the property.
-fn found(
-    property: Property,
-    shape: &Rule,
-    begin: &Letters,
-    order: &[u8],
-    entries: &Entries,
-    n: u16,
-) -> Option<Rule>
-    requires order { IsOrder (shape.now.states ^ shape.now.width) order.now }
-    requires table { IsTable shape.now.states (shape.now.states ^ shape.now.width) entries.now }
-    requires within { n ≤ shape.now.states ^ shape.now.width }
-    ensures some { IfSome result (IsFilled property shape.now.states shape.now.width begin.now entries.now n) }
-    ensures none { IsNone result → n ≡ shape.now.states ^ shape.now.width → Forbids property shape.now.states shape.now.width begin.now order.now entries.now n }
+fn found(asked: &Asked, entries: &Entries, n: u16) -> Option<Rule>
+    requires order { IsOrdered asked.now }
+    requires table { AreEntries asked.now entries.now }
+    requires within { n ≤ size_of asked.now }
+    ensures some { IfSome result (IsFilled asked.now.property asked.now.shape.now.states asked.now.shape.now.width asked.now.begin.now entries.now n) }
+    ensures none { IsNone result → n ≡ size_of asked.now → AreForbidden asked.now entries.now n }
 {
-    if n < shape.size() {
+    if n < asked.shape.size() {
         return None;
     }
-    if !has_letters(shape.k(), begin, entries, n) {
+    if !has_letters(asked.shape.k(), asked.begin, entries, n) {
         return None;
     }
-    let rule = filled(shape.k(), shape.m(), entries);
-    if !has(property, &rule) {
+    let rule = filled(asked.shape.k(), asked.shape.m(), entries);
+    if !has(asked.property, &rule) {
         return None;
     }
     Some(rule)
@@ -139,27 +176,19 @@ fn filled(k: u8, m: u8, entries: &Entries) -> Rule
 
 /// Adds a letter at the next window of the order, or goes on to the next letters where all stand, or
 /// where those that stand forbid the property.
-fn step(
-    property: Property,
-    shape: &Rule,
-    begin: &Letters,
-    order: &[u8],
-    entries: &mut Entries,
-    n: u16,
-    hints: &mut Hints,
-) -> Option<u16>
-    requires order { IsOrder (shape.now.states ^ shape.now.width) order.now }
-    requires table { IsTable shape.now.states (shape.now.states ^ shape.now.width) entries.old }
-    requires within { n ≤ shape.now.states ^ shape.now.width }
-    requires full { n ≡ shape.now.states ^ shape.now.width → Forbids property shape.now.states shape.now.width begin.now order.now entries.old n }
-    ensures { IsOn property shape.now.states shape.now.width begin.now order.now entries.old n entries.new result }
+fn step(asked: &Asked, entries: &mut Entries, n: u16, hints: &mut Hints) -> Option<u16>
+    requires order { IsOrdered asked.now }
+    requires table { AreEntries asked.now entries.old }
+    requires within { n ≤ size_of asked.now }
+    requires full { n ≡ size_of asked.now → AreForbidden asked.now entries.old n }
+    ensures { IsOn asked.now.property asked.now.shape.now.states asked.now.shape.now.width asked.now.begin.now asked.now.order.now entries.old n entries.new result }
 {
-    if n == shape.size() {
-        return advance(shape.k(), order, entries, n);
+    if n == asked.shape.size() {
+        return advance(asked.shape.k(), asked.order, entries, n);
     }
-    if forbids(property, shape, begin, order, entries, n, hints) {
-        return advance(shape.k(), order, entries, n);
+    if forbids(asked, entries, n, hints) {
+        return advance(asked.shape.k(), asked.order, entries, n);
     }
-    entries[usize::from(order[usize::from(n)])] = 0;
+    entries[usize::from(asked.order[usize::from(n)])] = 0;
     Some(n + 1)
 }

@@ -1,10 +1,10 @@
 -- A ring and the words round it and its image; the stage after it.
-use Rattle.std.proofs.Common.{◌≡◌, ℕ, ◌+◌, ◌*◌, ◌^◌, ◌<◌, ◌≤◌, List, length, take, set, ℤ, pos, subst, ⊎_elim, ◌⊎◌, arith}
+use Rattle.std.proofs.Common.{◌≡◌, ℕ, ◌+◌, ◌*◌, ◌^◌, ◌<◌, ◌≤◌, List, length, take, set, ℤ, pos, subst, arith}
 use Rattle.word_image.proofs.Common.{range_with_len, All-map, length-map-range_with_len, LocalRule, IsRule, IsWord, value, IsRing, ring_letters, ring_image, IsWord-ring_letters, value-below}
 use Rattle.ring_laws.proofs.Rings.{IsWord-ring_image, length-ring_letters}
-use Rattle.kept_sums.specs.Sums.{blocks, KeepsSumOf}
-use Rattle.kept_sums.specs.Spans.{entry, gain_at, IsNarrowed, IsLastGain, GainNothing, AreSmall}
-use Rattle.kept_sums.specs.Stages.{IsStage, IsAfterRing}
+use Rattle.kept_sums.specs.Sums.{blocks}
+use Rattle.kept_sums.specs.Spans.{entry, gain_at, IsNarrowed, AreSmall}
+use Rattle.kept_sums.specs.Stages.{IsStage, IsAfterRing, IsCondition}
 use Rattle.kept_sums.proofs.laws.Sums.{gain_at-swap}
 use Rattle.kept_sums.proofs.laws.Spans.{gain_at-narrowed, gain_at-narrowed_here}
 use Rattle.kept_sums.proofs.laws.Densities.{length-ring_image, KeepsSumOf-gain, gain-KeepsSumOf}
@@ -36,56 +36,42 @@ after_of r range p = blocks r.states range (ring_image r p)
 abbrev pub before_of : LocalRule → ℕ → List ℕ → List ℕ
 before_of r range p = blocks r.states range p
 
--- rows of which none gains by a ring are themselves the stage after the ring
-pub IsAfterRing-same : {r : LocalRule} {range : ℕ} {rows : List (List ℤ)} {counts : List ℕ} {rings : List (List ℕ)} → IsStage r range rows counts rings → (p : List ℕ)
-    → GainNothing rows (after_of r range p) (before_of r range p) → IsAfterRing r range rows p rows counts rings
-IsAfterRing-same {r} {range} {rows} stage p none = record {
-  stage = stage;
-  keep = λ i l. gain-KeepsSumOf range (entry rows i) r p (none i l);
-  others = λ q ring keep. keep;
+-- the words round the image of a ring and those round the ring weigh the same exactly where the ring keeps the sum
+pub IsCondition-ring : {r : LocalRule} → IsRule r → (range : ℕ) (p : List ℕ) → r.states ^ range ≤ 16 → length p ≤ 16 → IsRing r.states p → IsCondition r range p (after_of r range p) (before_of r range p)
+IsCondition-ring {r} rule range p few short ring =
+    let after = IsWord-blocks range (IsRing-ring_image rule ring) in
+    let before = IsWord-blocks range ring in
+    record {
+      x_word = after;
+      y_word = before;
+      short = record {
+        after_word = within few _ after;
+        before_word = within few _ before;
+        few_after = omega (arith, short, length-blocks r.states range (ring_image r p), length-ring_image r p);
+        few_before = omega (arith, short, length-blocks r.states range p);
+      };
+      keeps = λ weight. (KeepsSumOf-gain range weight r p, gain-KeepsSumOf range weight r p);
+    }
+
+-- the same of the two words in the other order
+pub IsCondition-swap : {r : LocalRule} {range : ℕ} {p x y : List ℕ} → IsCondition r range p x y → IsCondition r range p y x
+IsCondition-swap {x = x} {y} c = record {
+  x_word = c.y_word;
+  y_word = c.x_word;
+  short = let s = c.short in record { after_word = s.before_word; before_word = s.after_word; few_after = s.few_before; few_before = s.few_after };
+  keeps = λ weight. (λ kept. gain_at-swap weight x y ((c.keeps weight).0 kept), λ none. (c.keeps weight).1 (gain_at-swap weight y x none));
 }
 
--- the rows are narrowed by the words in this order
-narrowed_here : {r : LocalRule} {range j : ℕ} {rows news : List (List ℤ)} {counts : List ℕ} {rings : List (List ℕ)} → IsRule r → (n : ℕ) (letters x y : List ℕ)
-    → IsStage r range rows counts rings → r.states ^ range ≤ 16 → IsWord (r.states ^ range) x → IsWord (r.states ^ range) y
-    → IsLastGain rows x y j → IsNarrowed rows x y j news → AreSmall news → 1 ≤ n → n + 3 ≤ 2 * (r.width + range) → IsRing r.states (take n letters)
-    → ((weight : ℕ → ℤ) → KeepsSumOf range weight r (take n letters) → gain_at weight x y ≡ pos 0)
-    → ((weight : ℕ → ℤ) → gain_at weight x y ≡ pos 0 → KeepsSumOf range weight r (take n letters))
-    → IsAfterRing r range rows (take n letters) news (set counts j n) (set rings j letters)
-narrowed_here {r} {range} {j} {rows} {news} rule n letters x y stage few one two lost narrowed small some fits ring gain_of kept_by = record {
-  stage = IsStage-narrowed n letters stage few one two (within few x one) (within few y two) lost narrowed small some fits ring gain_of;
-  keep = λ i l. kept_by (entry news i) (gain_at-narrowed_here narrowed (within few x one) (within few y two) i l);
+-- rows narrowed by a ring are a stage after it
+pub IsAfterRing-narrowed : {r : LocalRule} {range j : ℕ} {rows news : List (List ℤ)} {counts : List ℕ} {rings : List (List ℕ)} {x y : List ℕ} → IsRule r → (n : ℕ) (letters : List ℕ)
+    → IsStage r range rows counts rings → r.states ^ range ≤ 16 → IsCondition r range (take n letters) x y → j < 16 → ((i : ℕ) → j < i → i < 16 → gain_at (entry rows i) x y ≡ pos 0)
+    → IsNarrowed rows x y j news → AreSmall news → 1 ≤ n → n + 3 ≤ 2 * (r.width + range) → IsRing r.states (take n letters) → IsAfterRing r range rows (take n letters) news (set counts j n) (set rings j letters)
+IsAfterRing-narrowed {r} {range} {j} {rows} {news} rule n letters stage few condition lies last narrowed small some fits ring = record {
+  stage = IsStage-narrowed n letters stage few condition lies last narrowed small some fits ring;
+  keep = λ i l. (condition.keeps (entry news i)).1 (gain_at-narrowed_here narrowed condition.short.after_word condition.short.before_word i l);
   others = λ q other keep i l.
       gain-KeepsSumOf range (entry news i) r q
-      (gain_at-narrowed lost.within narrowed (after_of r range q) (before_of r range q)
+      (gain_at-narrowed lies narrowed (after_of r range q) (before_of r range q)
       (within few _ (IsWord-blocks range (IsRing-ring_image rule other))) (within few _ (IsWord-blocks range other))
       (λ m h. KeepsSumOf-gain range (entry rows m) r q (keep m h)) i l);
 }
-
--- the last gain the other way round
-IsLastGain-swap : {rows : List (List ℤ)} {x y : List ℕ} {j : ℕ} → IsLastGain rows x y j → IsLastGain rows y x j
-IsLastGain-swap {rows} {x} {y} {j} lost = record {
-  within = lost.within;
-  gains = λ none. lost.gains (gain_at-swap (entry rows j) y x none);
-  last = λ i l h. gain_at-swap (entry rows i) x y (lost.last i l h);
-}
-
--- rows narrowed by a ring are a stage after it, in whichever order its words and those of its image are
-pub IsAfterRing-narrowed : {r : LocalRule} {range j : ℕ} {rows news : List (List ℤ)} {counts : List ℕ} {rings : List (List ℕ)} → IsRule r → (n : ℕ) (letters : List ℕ)
-    → IsStage r range rows counts rings → r.states ^ range ≤ 16 → 1 ≤ n → n + 3 ≤ 2 * (r.width + range) → IsRing r.states (take n letters)
-    → IsLastGain rows (after_of r range (take n letters)) (before_of r range (take n letters)) j
-    → IsNarrowed rows (after_of r range (take n letters)) (before_of r range (take n letters)) j news ⊎ IsNarrowed rows (before_of r range (take n letters)) (after_of r range (take n letters)) j news
-    → AreSmall news → IsAfterRing r range rows (take n letters) news (set counts j n) (set rings j letters)
-IsAfterRing-narrowed {r} {range} {j} {rows} {news} rule n letters stage few some fits ring lost either small =
-    let p : List ℕ = take n letters in
-    let one = IsWord-blocks range (IsRing-ring_image rule ring) in
-    let two = IsWord-blocks range ring in
-    let gain_of = λ (weight : ℕ → ℤ) (keeps : KeepsSumOf range weight r p). KeepsSumOf-gain range weight r p keeps in
-    let kept_by = λ (weight : ℕ → ℤ) (none : gain_at weight (after_of r range p) (before_of r range p) ≡ pos 0). gain-KeepsSumOf range weight r p none in
-    ⊎_elim
-    (λ (straight : IsNarrowed rows (after_of r range p) (before_of r range p) j news).
-    narrowed_here rule n letters _ _ stage few one two lost straight small some fits ring gain_of kept_by)
-    (λ (turned : IsNarrowed rows (before_of r range p) (after_of r range p) j news).
-    narrowed_here rule n letters _ _ stage few two one (IsLastGain-swap lost) turned small some fits ring
-    (λ weight keeps. gain_at-swap weight _ _ (gain_of weight keeps)) (λ weight none. kept_by weight (gain_at-swap weight _ _ none)))
-    either

@@ -1,34 +1,11 @@
--- Greatest common divisors are integer combinations.
-use Rattle.std.proofs.Common.{◌≡◌, ℕ, suc, ◌+◌, ◌<◌, ◌≤◌, List, ℤ, pos, ◌+ℤ◌, ◌*ℤ◌, refl, sym, ap, ap₂, ◌∙◌, ⊎_elim, ◌⊎◌, inl, inr, arith, unsigned_abs}
-use Rattle.word_image.proofs.Common.{cases_lt}
+-- Greatest common divisors are integer combinations, and what that says of multiples of rows.
+use Rattle.std.proofs.Common.{◌≡◌, ℕ, zero, suc, ◌+◌, ◌*◌, ◌/◌, ◌<◌, ◌≤◌, List, ℤ, pos, negsuc, ◌+ℤ◌, ◌-ℤ◌, ◌*ℤ◌, refl, sym, ap, ap₂, ◌∙◌, arith, ◌==◌, if◌then◌else◌, eq-eqb, ne_eqb, unsigned_abs}
+use Rattle.std.proofs.Math.IntN.{pos-*ℤ-pos}
+use Rattle.word_image.proofs.Common.{cond-true, cond-false, mul-div_cancel', ints, unsigned_abs-mul}
 use Rattle.kept_sums.specs.Sums.{sum_to}
-use Rattle.kept_sums.specs.Rows.{at, IsCombined, IsCombinedOf}
-use Rattle.kept_sums.proofs.laws.Integers.{mul-assoc}
+use Rattle.kept_sums.specs.Rows.{at, DividesRow, IsCombined, IsCombinedOf}
+use Rattle.kept_sums.proofs.laws.Integers.{mul-sub, mul-assoc, mul-swap, zero-of_times}
 use Rattle.kept_sums.proofs.laws.Spans.{sum_to-agree, sum_to-scaled}
-
--- a function with another value from n on
-below_or : ℕ → (ℕ → ℤ) → ℤ → ℕ → ℤ
-below_or n f y a = ⊎_elim (λ (l : a < n). f a) (λ (l : n ≤ a). y) (cases_lt a n)
-
--- a function with another value from n on is itself below n, however the cases fall
-either_below : (n : ℕ) (f : ℕ → ℤ) (y : ℤ) (a : ℕ) → a < n → (c : (a < n) ⊎ (n ≤ a)) → ⊎_elim (λ (l : a < n). f a) (λ (l : n ≤ a). y) c ≡ f a
-either_below n f y a l (inl h) = refl
-either_below n f y a l (inr h) = absurd (omega arith)
-
--- a function with another value from n on has that value from n on, however the cases fall
-either_from : (n : ℕ) (f : ℕ → ℤ) (y : ℤ) (a : ℕ) → n ≤ a → (c : (a < n) ⊎ (n ≤ a)) → ⊎_elim (λ (l : a < n). f a) (λ (l : n ≤ a). y) c ≡ y
-either_from n f y a l (inl h) = absurd (omega arith)
-either_from n f y a l (inr h) = refl
-
--- a function with another value from n on is itself below n
-below_or-below : (n : ℕ) (f : ℕ → ℤ) (y : ℤ) (a : ℕ) → a < n → below_or n f y a ≡ f a
-unfolding below_or
-below_or-below n f y a l = either_below n f y a l (cases_lt a n)
-
--- a function with another value from n on has that value from n on
-below_or-from : (n : ℕ) (f : ℕ → ℤ) (y : ℤ) (a : ℕ) → n ≤ a → below_or n f y a ≡ y
-unfolding below_or
-below_or-from n f y a l = either_from n f y a l (cases_lt a n)
 
 -- no number has the combination 0
 pub IsCombined-none : (row : List ℤ) → IsCombined 0 row 0
@@ -39,16 +16,54 @@ IsCombined-none row = record { parts = λ a. pos 0; is = refl }
 pub IsCombined-more : (n : ℕ) (row : List ℤ) (old entry g : ℕ) → entry ≡ unsigned_abs (at row n) → IsCombined n row old → IsCombinedOf old entry g → IsCombined (n + 1) row g
 unfolding sum_to
 IsCombined-more n row old entry g size combined both =
-    let f : ℕ → ℤ = λ a. both.first *ℤ combined.parts a in
-    let parts : ℕ → ℤ = below_or n f both.second in
+    let parts : ℕ → ℤ = λ a. if a == n then both.second else (both.first *ℤ combined.parts a) in
     let value : ℕ → ℤ = λ a. pos (unsigned_abs (at row a)) in
     let next : n + 1 ≡ suc n = omega arith in
     let front : sum_to n (λ a. parts a *ℤ value a) ≡ both.first *ℤ pos old =
-    sum_to-agree n (λ a l. ap (λ (x : ℤ). x *ℤ value a) (below_or-below n f both.second a l) ∙ mul-assoc both.first (combined.parts a) (value a))
+    sum_to-agree n (λ a l. ap (λ (x : ℤ). x *ℤ value a) (cond-false (a == n) _ _ (ne_eqb a n (λ e. omega arith))) ∙ mul-assoc both.first (combined.parts a) (value a))
     ∙ sum_to-scaled n both.first (λ a. combined.parts a *ℤ value a)
     ∙ ap (λ (x : ℤ). both.first *ℤ x) combined.is in
-    let last : parts n *ℤ value n ≡ both.second *ℤ pos entry = ap₂ (λ (x : ℤ) (y : ℕ). x *ℤ pos y) (below_or-from n f both.second n (omega arith)) (sym size) in
-    record {
-      parts = parts;
-      is = ap (λ m. sum_to m (λ a. parts a *ℤ value a)) next ∙ ap₂ (λ (x y : ℤ). x +ℤ y) front last ∙ both.is;
-    }
+    let last : parts n *ℤ value n ≡ both.second *ℤ pos entry = ap₂ (λ (x : ℤ) (y : ℕ). x *ℤ pos y) (cond-true (n == n) _ _ (eq-eqb n n refl)) (sym size) in
+    record { parts = parts; is = ap (λ m. sum_to m (λ a. parts a *ℤ value a)) next ∙ ap₂ (λ (x y : ℤ). x +ℤ y) front last ∙ both.is }
+
+-- where multiples of numbers are multiples of others, so are their combinations
+multiple_sum : (u : ℕ → ℤ) (f g : ℕ → ℕ) (t s : ℕ) → ((a : ℕ) → a < 16 → t * f a ≡ s * g a) → pos t *ℤ sum_to 16 (λ a. u a *ℤ pos (f a)) ≡ pos s *ℤ sum_to 16 (λ a. u a *ℤ pos (g a))
+multiple_sum u f g t s same =
+    sym (sum_to-scaled 16 (pos t) (λ a. u a *ℤ pos (f a)))
+    ∙ sum_to-agree 16 (λ a l. mul-swap (pos t) (u a) (pos (f a)) ∙ ap (λ (z : ℤ). u a *ℤ z) (pos-*ℤ-pos t (f a) ∙ ap pos (same a l) ∙ sym (pos-*ℤ-pos s (g a))) ∙ mul-swap (u a) (pos s) (pos (g a)))
+    ∙ sum_to-scaled 16 (pos s) (λ a. u a *ℤ pos (g a))
+
+-- the quotient of a positive number that is a multiple
+quotient_is : (t s : ℕ) (y : ℤ) → 1 ≤ t → pos t ≡ pos s *ℤ y → (q : ℕ) × (1 ≤ q) × (t ≡ s * q)
+quotient_is t s (pos zero) some e = absurd (omega (arith, ints, e))
+quotient_is t s (pos (suc q)) some e = (suc q, omega arith, omega (arith, ints, e))
+quotient_is t s (negsuc q) some e = absurd (omega (arith, ints, e))
+
+-- where multiples of a row's sizes are multiples of other numbers, so is what is combined of the row
+pub multiple_of : (row : List ℤ) (c t s : ℕ) (g : ℕ → ℕ) → IsCombined 16 row c → 1 ≤ t * c → ((a : ℕ) → a < 16 → t * unsigned_abs (at row a) ≡ s * g a) → (q : ℕ) × (1 ≤ q) × (t * c ≡ s * q)
+multiple_of row c t s g combined some same =
+    quotient_is (t * c) s (sum_to 16 (λ a. combined.parts a *ℤ pos (g a))) some
+    (sym (pos-*ℤ-pos t c) ∙ ap (λ (z : ℤ). pos t *ℤ z) (sym combined.is) ∙ multiple_sum combined.parts (λ a. unsigned_abs (at row a)) g t s same)
+
+-- both factors of 1 are 1
+one_factor : (d q : ℕ) → d * q ≡ 1 → d ≡ 1
+one_factor zero q e = absurd (omega (arith, e))
+one_factor (suc zero) q e = refl
+one_factor (suc (suc d)) zero e = absurd (omega (arith, e))
+one_factor (suc (suc d)) (suc q) e = absurd (omega (arith, e))
+
+-- where 1 is combined of a row no other number divides it
+pub IsCombined-primitive : (row : List ℤ) → IsCombined 16 row 1 → (d : ℕ) → DividesRow d row → d ≡ 1
+IsCombined-primitive row combined d divides =
+    let part = multiple_of row 1 1 d (λ a. unsigned_abs (at row a) / d) combined (omega arith) (λ a l. omega (arith, mul-div_cancel' d (divides a l))) in
+    one_factor d part.0 (omega (arith, part.2))
+
+-- what is combined of the whole is combined of the parts
+pub IsCombined-divided : (cross row : List ℤ) (g : ℕ) → 1 ≤ g → ((a : ℕ) → a < 16 → pos g *ℤ at row a ≡ at cross a) → IsCombined 16 cross g → IsCombined 16 row 1
+IsCombined-divided cross row g some multiple combined =
+    let u : ℕ → ℤ = combined.parts in
+    let total : ℤ = sum_to 16 (λ a. u a *ℤ pos (unsigned_abs (at row a))) in
+    let same = multiple_sum u (λ a. unsigned_abs (at cross a)) (λ a. unsigned_abs (at row a)) 1 g (λ a l. omega (arith, ap unsigned_abs (multiple a l), unsigned_abs-mul (pos g) (at row a))) in
+    let is = combined.is in
+    let none : total -ℤ pos 1 ≡ pos 0 = zero-of_times g (total -ℤ pos 1) some (omega (arith, ints, mul-sub (pos g) total (pos 1), same, is)) in
+    record { parts = u; is = omega (arith, ints, none) }

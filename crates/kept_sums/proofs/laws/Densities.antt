@@ -1,14 +1,14 @@
 -- Weights of words: how a ring's sum changes is a sum over its windows, so short rings tell whether every ring keeps it.
-use Rattle.std.proofs.Common.{◌≡◌, ℕ, ◌+◌, ◌-◌, ◌*◌, ◌%◌, ◌<◌, ◌≤◌, List, length, map, take, slice_index, ℤ, pos, negsuc, ◌+ℤ◌, ◌-ℤ◌, refl, sym, ap, ap₂, ◌∙◌, arith, mod-lt}
+use Rattle.std.proofs.Common.{◌≡◌, ℕ, ◌+◌, ◌-◌, ◌%◌, ◌<◌, List, length, map, take, slice_index, ℤ, pos, negsuc, ◌+ℤ◌, ◌-ℤ◌, refl, sym, ap, ap₂, ◌∙◌, arith, mod-lt}
 use mathlib.Core.Path.{fun_ext}
-use Rattle.word_image.proofs.Common.{range_with_len, int_rem_euclid, mod-add-mod, ints, length-map-range_with_len, get_or-map-range_with_len, LocalRule, IsRule, local_map, value, image, IsRing, ring_letter, ring_letters, ring_image, ring_letters-rem, ring_letters-turn}
+use Rattle.word_image.proofs.Common.{range_with_len, int_rem_euclid, mod-add-mod, ints, length-map-range_with_len, get_or-map-range_with_len, LocalRule, IsRule, local_map, value, image, ring_letter, ring_letters, ring_image, ring_letters-rem, ring_letters-turn}
 use Rattle.ring_laws.proofs.Rings.{image-ring_letters, take-ring_letters}
-use Rattle.kept_sums.specs.Sums.{sum_at, blocks, KeepsSumOf, IsKept, sum_to}
+use Rattle.kept_sums.specs.Sums.{sum_at, blocks, KeepsSumOf, sum_to}
 use Rattle.kept_sums.specs.Spans.{gain_at}
 use Rattle.kept_sums.specs.Fluxes.{window_gain}
-use Rattle.kept_sums.proofs.laws.Spans.{sum_to-agree}
-use Rattle.kept_sums.proofs.laws.Turns.{sum_at-map, sum_to-sub, sum_to-turn}
-use Rattle.kept_sums.proofs.laws.Locals.{turn_sum, turn_sum-vanishes}
+use Rattle.kept_sums.proofs.laws.Spans.{sum_to-agree, sum_to-sub}
+use Rattle.kept_sums.proofs.laws.Turns.{sum_at-map, sum_to-turn}
+use Rattle.kept_sums.proofs.laws.Locals.{turn_sum}
 
 -- a ring's image has as many letters as the ring
 pub length-ring_image : (r : LocalRule) (p : List ℕ) → length (ring_image r p) ≡ length p
@@ -55,7 +55,6 @@ pub gain-windows : {r : LocalRule} → IsRule r → (range d : ℕ) (weight : �
 gain-windows {r} rule range d weight p span some =
     let n : ℕ = length p in
     let k : ℕ = r.states in
-    let wide = rule.shape.least_width in
     let gives : ℤ → ℤ = λ o. weight (value k (image r (ring_letters p o (d + 1)))) in
     let again : (o : ℤ) → gives (o +ℤ pos n) ≡ gives o = λ o. ap (λ x. weight (value k (image r x))) (ring_letters-turn p o (d + 1) some) in
     let after : sum_at weight (blocks k range (ring_image r p)) ≡ sum_to n (λ i. gives (pos i)) =
@@ -76,16 +75,3 @@ KeepsSumOf-gain range weight r p keeps = omega (arith, ints)
 -- a ring keeps a sum of which nothing is gained
 pub gain-KeepsSumOf : (range : ℕ) (weight : ℕ → ℤ) (r : LocalRule) (p : List ℕ) → gain_at weight (blocks r.states range (ring_image r p)) (blocks r.states range p) ≡ pos 0 → KeepsSumOf range weight r p
 gain-KeepsSumOf range weight r p none = omega (arith, ints)
-
--- where each ring of at most 2 (m + range - 1) - 1 letters keeps the sum, each ring does
-pub IsKept-short_rings : {r : LocalRule} → IsRule r → (range : ℕ) (weight : ℕ → ℤ) → 1 ≤ range
-    → ((p : List ℕ) → IsRing r.states p → length p + 3 ≤ 2 * (r.width + range) → KeepsSumOf range weight r p) → IsKept range weight r
-IsKept-short_rings {r} rule range weight some keep p ring =
-    let states = rule.shape.least_states in
-    let wide = rule.shape.least_width in
-    let d : ℕ = range + (r.width - 1) - 1 in
-    let span : d + 1 ≡ range + (r.width - 1) = omega arith in
-    gain-KeepsSumOf range weight r p
-    (gain-windows rule range d weight p span ring.some
-    ∙ turn_sum-vanishes r.states (window_gain r range weight) d (omega arith)
-    (λ q other short. sym (gain-windows rule range d weight q span other.some) ∙ KeepsSumOf-gain range weight r q (keep q other (omega arith))) p ring)

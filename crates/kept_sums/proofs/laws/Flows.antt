@@ -1,59 +1,48 @@
 -- Weights are kept exactly where they have a flux; and weights of letters from 0 on exactly where the rule conserves them.
-use Rattle.std.proofs.Common.{◌≡◌, ℕ, ◌+◌, ◌-◌, ◌*◌, ◌%◌, ◌<◌, ◌≤◌, ◌↔◌, List, [], ◌∷◌, length, take, drop, sum_by, slice_index, ℤ, pos, ◌+ℤ◌, ◌-ℤ◌, refl, sym, ap, ap₂, ◌∙◌, arith, length-drop}
+use Rattle.std.proofs.Common.{◌≡◌, ℕ, ◌+◌, ◌-◌, ◌*◌, ◌%◌, ◌<◌, ◌≤◌, ◌↔◌, List, [], ◌∷◌, length, take, drop, sum_by, slice_index, ℤ, pos, ◌-ℤ◌, refl, sym, ap, ap₂, ◌∙◌, arith, length-drop}
 use Rattle.std.proofs.Math.Nat.{mod-eq_of_lt}
-use Rattle.word_image.proofs.Common.{pow-zero, ints, All-take, All-drop, fill_by_all, LocalRule, IsRule, IsWord, value, word_of, ring_letters, ring_image, IsConserving, IsWord-ring_letters, ring_letters-turn, word_of-value}
+use Rattle.word_image.proofs.Common.{pow-zero, ints, All-take, All-drop, fill_by_all, LocalRule, IsRule, IsWord, IsRing, value, word_of, ring_letters, ring_image, IsConserving, word_of-value}
 use Rattle.std.proofs.lemmas.List.{length-take-le}
-use Rattle.ring_laws.proofs.Rings.{length-ring_letters, take-ring_letters, drop-ring_letters}
-use Rattle.kept_sums.specs.Sums.{sum_at, blocks, IsKept}
+use Rattle.kept_sums.specs.Sums.{sum_at, blocks, KeepsSumOf, IsKept}
 use Rattle.kept_sums.specs.Fluxes.{IsFluxOf, window_gain}
 use Rattle.kept_sums.proofs.laws.Sums.{sum_at-pos}
-use Rattle.kept_sums.proofs.laws.Spans.{sum_to-agree}
-use Rattle.kept_sums.proofs.laws.Turns.{sum_to-steps}
-use Rattle.kept_sums.proofs.laws.Locals.{potential, window-potential}
+use Rattle.kept_sums.proofs.laws.Locals.{potential, window-potential, turn_sum-steps}
 use Rattle.kept_sums.proofs.laws.Densities.{gain-windows, KeepsSumOf-gain, gain-KeepsSumOf}
 
--- kept weights have a flux
-pub IsFluxOf-kept : {r : LocalRule} → IsRule r → (range : ℕ) (weight : ℕ → ℤ) → 1 ≤ range → IsKept range weight r → (phi : ℕ → ℤ) × IsFluxOf range weight r phi
-IsFluxOf-kept {r} rule range weight some kept =
+-- weights whose sum each ring of at most 2 (m + range - 1) - 1 letters keeps have a flux
+pub IsFluxOf-short_rings : {r : LocalRule} → IsRule r → (range : ℕ) (weight : ℕ → ℤ) → 1 ≤ range → ((p : List ℕ) → IsRing r.states p → length p + 3 ≤ 2 * (r.width + range) → KeepsSumOf range weight r p)
+    → (phi : ℕ → ℤ) × IsFluxOf range weight r phi
+IsFluxOf-short_rings {r} rule range weight some keep =
     let states = rule.shape.least_states in
-    let wide = rule.shape.least_width in
     let k : ℕ = r.states in
     let d : ℕ = range + (r.width - 1) - 1 in
     let h : List ℕ → ℤ = window_gain r range weight in
     let phi : ℕ → ℤ = λ v. potential h d (word_of k d v) in
-    let back : (u : List ℕ) → IsWord k u → length u ≡ d → phi (value k u) ≡ potential h d u = λ u word long.
-    ap (potential h d) (ap (λ n. word_of k n (value k u)) (sym long) ∙ word_of-value k u word) in (
+    let back : (u : List ℕ) → IsWord k u → length u ≡ d → phi (value k u) ≡ potential h d u = λ u word long. ap (potential h d) (ap (λ n. word_of k n (value k u)) (sym long) ∙ word_of-value k u word) in
+    let vanish = λ (p : List ℕ) (ring : IsRing k p) (short : length p ≤ 2 * d + 1). sym (gain-windows rule range d weight p (omega arith) ring.some) ∙ KeepsSumOf-gain range weight r p (keep p ring (omega arith)) in (
       phi,
       record {
         flows = λ w word long.
             let one : length w - 1 ≡ d = omega arith in
             let first = back (take (length w - 1) w) (All-take (λ a. a < k) (length w - 1) w word) (length-take-le (length w - 1) w (omega arith) ∙ one) in
             let last = back (drop 1 w) (All-drop (λ a. a < k) 1 w word) (omega (arith, length-drop 1 w)) in
-            window-potential k h d (omega arith) (λ p ring short. sym (gain-windows rule range d weight p (omega arith) ring.some) ∙ KeepsSumOf-gain range weight r p (kept p ring)) w word (omega arith)
-            ∙ ap₂ (λ (x y : ℤ). x -ℤ y) (ap (λ n. potential h d (take n w)) (sym one) ∙ sym first) (sym last);
+            window-potential k h d (omega arith) (omega arith) vanish w word (omega arith) ∙ ap₂ (λ (x y : ℤ). x -ℤ y) (ap (λ n. potential h d (take n w)) (sym one) ∙ sym first) (sym last);
       },
     )
 
 -- weights that have a flux are kept
 pub IsKept-flux : {r : LocalRule} → IsRule r → (range : ℕ) (weight : ℕ → ℤ) (phi : ℕ → ℤ) → 1 ≤ range → IsFluxOf range weight r phi → IsKept range weight r
 IsKept-flux {r} rule range weight phi some flux p ring =
-    let wide = rule.shape.least_width in
-    let k : ℕ = r.states in
     let d : ℕ = range + (r.width - 1) - 1 in
-    let at_place : ℕ → ℤ = λ i. phi (value k (ring_letters p (pos i) d)) in
-    let step : (i : ℕ) → i < length p → window_gain r range weight (ring_letters p (pos i) (d + 1)) ≡ at_place i -ℤ at_place (i + 1) = λ i l.
-    let w : List ℕ = ring_letters p (pos i) (d + 1) in
-    let long : length w ≡ d + 1 = length-ring_letters p (pos i) (d + 1) in
+    let steps = turn_sum-steps (window_gain r range weight) (λ w. phi (value r.states w)) (pos 0) d p ring (λ w word long.
     let less : length w - 1 ≡ d = omega arith in
-    let next : 1 + d ≡ d + 1 = omega arith in
-    let first : take (length w - 1) w ≡ ring_letters p (pos i) d = ap (λ n. take n w) less ∙ take-ring_letters p (pos i) (d + 1) d (omega arith) in
-    let last : drop 1 w ≡ ring_letters p (pos i +ℤ pos 1) d = ap (λ n. drop 1 (ring_letters p (pos i) n)) (sym next) ∙ drop-ring_letters p (pos i) 1 d in
-    flux.flows w (IsWord-ring_letters ring (pos i) (d + 1)) (omega arith) ∙ ap₂ (λ (x y : List ℕ). phi (value k x) -ℤ phi (value k y)) first last in
-    let whole : pos (length p) ≡ pos 0 +ℤ pos (length p) = omega (arith, ints) in
-    let again : at_place (length p) ≡ at_place 0 = ap (λ o. phi (value k (ring_letters p o d))) whole ∙ ap (λ x. phi (value k x)) (ring_letters-turn p (pos 0) d ring.some) in
-    gain-KeepsSumOf range weight r p
-    (gain-windows rule range d weight p (omega arith) ring.some
-    ∙ sum_to-agree (length p) step ∙ sum_to-steps (length p) at_place ∙ ap (λ (x : ℤ). at_place 0 -ℤ x) again ∙ omega (arith, ints))
+    omega (arith, ints, flux.flows w word (omega arith), ap (λ n. phi (value r.states (take n w))) less)) in
+    gain-KeepsSumOf range weight r p (gain-windows rule range d weight p (omega arith) ring.some ∙ steps ∙ omega (arith, ints))
+
+-- where each ring of at most 2 (m + range - 1) - 1 letters keeps the sum, each ring does
+pub IsKept-short_rings : {r : LocalRule} → IsRule r → (range : ℕ) (weight : ℕ → ℤ) → 1 ≤ range
+    → ((p : List ℕ) → IsRing r.states p → length p + 3 ≤ 2 * (r.width + range) → KeepsSumOf range weight r p) → IsKept range weight r
+IsKept-short_rings rule range weight some keep = let flux = IsFluxOf-short_rings rule range weight some keep in IsKept-flux rule range weight flux.0 some flux.1
 
 -- the words of one letter round a ring are its letters
 blocks-one : (k : ℕ) (p : List ℕ) → blocks k 1 p ≡ p
@@ -75,5 +64,5 @@ IsKept-conserving weight r =
 pub IsKept-at_offset : (r : LocalRule) (range : ℕ) (weight : ℕ → ℤ) (o : ℤ) → IsRule r → IsRule (record { states = r.states; width = r.width; offset = o; table = r.table }) → 1 ≤ range
     → IsKept range weight r → IsKept range weight (record { states = r.states; width = r.width; offset = o; table = r.table })
 IsKept-at_offset r range weight o rule moved some kept =
-    let found = IsFluxOf-kept rule range weight some kept in
+    let found = IsFluxOf-short_rings rule range weight some (λ p ring _. kept p ring) in
     IsKept-flux moved range weight found.0 some (record { flows = found.1.flows })

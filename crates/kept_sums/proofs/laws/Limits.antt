@@ -1,9 +1,12 @@
 -- The limits of the shapes: no small solution has a number above 2^56.
 use Rattle.std.proofs.Common.{◌≡◌, ℕ, suc, ◌+◌, ◌-◌, ◌*◌, ◌^◌, ◌<◌, ◌≤◌, ap, ◌∙◌, ⊎_elim, arith}
-use Rattle.std.proofs.Math.Nat.{pow-suc}
+use Rattle.std.proofs.Math.Nat.{pow-suc, mul-le-mul_left}
 use Rattle.word_image.proofs.Common.{pow-le-pow_left, pow-le-pow_right, cases_lt, LocalRule, IsRule}
 use Rattle.kept_sums.proofs.laws.Ranges.{power-positive}
-use Rattle.kept_sums.proofs.laws.Bounds.{free_count}
+
+-- how many places are free, at most
+abbrev pub free_count : LocalRule → ℕ → ℕ
+free_count r range = r.states ^ range - r.states ^ (range - 1)
 
 -- a power that is at most 16 has a small exponent
 exponent : (b c k n : ℕ) → 1 ≤ b → b ≤ k → 16 < b ^ c → k ^ n ≤ 16 → n < c
@@ -23,18 +26,6 @@ power b e base top one two some within =
     let second : base ^ e ≤ base ^ top = pow-le-pow_right some {i = e} {j = top} two in
     omega arith
 
--- the free places of two, three, four, and more states
-free_two : (k p : ℕ) → k ≡ 2 → p * k ≤ 16 → p * k - p ≤ 8
-free_two k p e l = let here = ap (λ j. p * j) e in omega arith
-
--- at most 12 places of three states are free
-free_three : (k p : ℕ) → k ≡ 3 → p * k ≤ 16 → p * k - p ≤ 12
-free_three k p e l = let here = ap (λ j. p * j) e in omega arith
-
--- at most 12 places of four states are free
-free_four : (k p : ℕ) → k ≡ 4 → p * k ≤ 16 → p * k - p ≤ 12
-free_four k p e l = let here = ap (λ j. p * j) e in omega arith
-
 -- in no shape is the bound of a small solution above 2^56
 pub limits : {r : LocalRule} → IsRule r → (range h e : ℕ) → 1 ≤ range → r.states ^ range ≤ 16 → h + 3 ≡ 2 * (r.width + range) → e ≤ free_count r range + 1 → (2 * h) ^ e ≤ 2 ^ 56
 limits {r} rule range h e some few long most =
@@ -42,20 +33,20 @@ limits {r} rule range h e some few long most =
     let p : ℕ = k ^ (range - 1) in
     let states = rule.shape.least_states in
     let nodes = rule.shape.most_nodes in
-    let wide = rule.shape.most_width in
-    let least = rule.shape.least_width in
     let split : k ^ range ≡ p * k = let next : range ≡ suc (range - 1) = omega arith in ap (λ n. k ^ n) next ∙ pow-suc k (range - 1) in
     let positive : 1 ≤ p = power-positive k (range - 1) (omega arith) in
     ⊎_elim
     (λ (two : k < 3).
     let short = exponent 2 5 k range (omega arith) states (omega arith) few in
-    let free = free_two k p (omega arith) (omega arith) in
+    let small : k ≤ 2 = omega arith in
+    let free = mul-le-mul_left p small in
     power (2 * h) e 30 9 (omega arith) (omega arith) (omega arith) (omega arith))
     (λ (more : 3 ≤ k). ⊎_elim
     (λ (middle : k < 5).
     let short = exponent 3 3 k range (omega arith) more (omega arith) few in
     let narrow = exponent 3 3 k (r.width - 1) (omega arith) more (omega arith) nodes in
-    let free : p * k - p ≤ 12 = ⊎_elim (λ (three : k < 4). free_three k p (omega arith) (omega arith)) (λ (four : 4 ≤ k). free_four k p (omega arith) (omega arith)) (cases_lt k 4) in
+    let small : k ≤ 4 = omega arith in
+    let free : p * k - p ≤ 12 = omega (arith, mul-le-mul_left p small, mul-le-mul_left p more) in
     power (2 * h) e 14 13 (omega arith) (omega arith) (omega arith) (omega arith))
     (λ (many : 5 ≤ k).
     let short = exponent 5 2 k range (omega arith) many (omega arith) few in

@@ -1,11 +1,11 @@
 -- A number for each window of d + 1 letters: where its sum is 0 round each ring of at most 2 d + 1 letters, it is 0 round every ring (Hattori and Takesue 1991).
-use Rattle.std.proofs.Common.{◌≡◌, ℕ, zero, suc, ◌+◌, ◌-◌, ◌*◌, ◌<◌, ◌≤◌, List, ◌++◌, length, take, drop, replicate, ℤ, pos, ◌+ℤ◌, ◌-ℤ◌, sym, ap, ap₂, ◌∙◌, arith, length-append, length-drop, append_assoc}
+use Rattle.std.proofs.Common.{◌≡◌, ℕ, ◌+◌, ◌-◌, ◌*◌, ◌<◌, ◌≤◌, List, ◌++◌, length, take, drop, replicate, ℤ, pos, ◌+ℤ◌, ◌-ℤ◌, ◌*ℤ◌, sym, ap, ap₂, ◌∙◌, arith, length-append, length-drop, append_assoc}
 use Rattle.word_image.proofs.Common.{drop-append-add, ints, length-replicate, take-append-le, drop-append-le, All-append, All-take, All-replicate, IsWord, IsRing, ring_letters, IsWord-ring_letters, ring_letters-turn}
 use Rattle.std.proofs.lemmas.List.{length-take-le, take-append-drop, take_all}
 use Rattle.ring_laws.proofs.Rings.{ring_letters-closed, length-ring_letters, take-ring_letters, drop-ring_letters, slice_range-ring_letters}
 use Rattle.kept_sums.specs.Sums.{sum_to}
-use Rattle.kept_sums.proofs.laws.Spans.{sum_to-agree}
-use Rattle.kept_sums.proofs.laws.Turns.{sum_to-split, sum_to-steps}
+use Rattle.kept_sums.proofs.laws.Spans.{sum_to-agree, sum_to-add}
+use Rattle.kept_sums.proofs.laws.Turns.{sum_to-split, sum_to-steps, sum_to-constant}
 
 -- the sum of the numbers of the first n windows of a word
 abbrev pub run : (List ℕ → ℤ) → ℕ → List ℕ → ℕ → ℤ
@@ -17,8 +17,7 @@ turn_sum h d p = sum_to (length p) (λ i. h (ring_letters p (pos i) (d + 1)))
 
 -- a window at the front of a longer word
 window-front : (m i : ℕ) (a b : List ℕ) → i + m ≤ length a → take m (drop i (a ++ b)) ≡ take m (drop i a)
-window-front m i a b l =
-    ap (take m) (drop-append-le i a b (omega arith)) ∙ take-append-le m (drop i a) b (omega (arith, length-drop i a))
+window-front m i a b l = ap (take m) (drop-append-le i a b (omega arith)) ∙ take-append-le m (drop i a) b (omega (arith, length-drop i a))
 
 -- two words that share d letters: their windows are those of the whole
 run-append : (h : List ℕ → ℤ) (d : ℕ) (a b c : List ℕ) → length b ≡ d → run h d (a ++ (b ++ c)) (length a + length c) ≡ run h d (a ++ b) (length a) +ℤ run h d (b ++ c) (length c)
@@ -64,36 +63,24 @@ closed k h d some vanish y word one short =
     ∙ sym (turn_sum-cut h d (z ++ y) (omega arith))
     ∙ vanish (z ++ y) ring (omega arith)
 
--- no window at all
-nothing : (h : List ℕ → ℤ) (x y : List ℕ) → run h 0 x 0 +ℤ run h 0 y 0 ≡ pos 0
-unfolding sum_to
-nothing h x y = omega (arith, ints)
-
 -- a word of one window
 one-window : (h : List ℕ → ℤ) (d : ℕ) (w : List ℕ) → length w ≡ d + 1 → run h d w 1 ≡ h w
 unfolding sum_to
 one-window h d w e = ap (λ (x : ℤ). pos 0 +ℤ x) (ap h (take_all (d + 1) w (omega arith))) ∙ omega (arith, ints)
 
 -- the walk from node 0 to a node and back meets nothing
-node_potential : (k : ℕ) (h : List ℕ → ℤ) (d : ℕ) → 1 ≤ k → ShortRingsVanish k h d → (u : List ℕ) → IsWord k u → length u ≡ d
-    → run h d (zeros d ++ u) d +ℤ potential h d u ≡ pos 0
-node_potential k h zero some vanish u word e = nothing h (zeros zero ++ u) (u ++ zeros zero)
-node_potential k h (suc n) some vanish u word e =
-    let d : ℕ = suc n in
+node_potential : (k : ℕ) (h : List ℕ → ℤ) (d : ℕ) → 1 ≤ k → 1 ≤ d → ShortRingsVanish k h d → (u : List ℕ) → IsWord k u → length u ≡ d → run h d (zeros d ++ u) d +ℤ potential h d u ≡ pos 0
+node_potential k h d some wide vanish u word e =
     let z : List ℕ = zeros d in
     let long : length z ≡ d = length-replicate d 0 in
-    let parts = run-append h d z u z e in
     let both : run h d (z ++ (u ++ z)) (length z + length z) ≡ pos 0 =
-    ap₂ (λ (i j : ℕ). run h d (z ++ (u ++ z)) (i + j)) long (long ∙ sym e)
-    ∙ closed k h d some vanish u word (omega (arith, length-append z u)) (omega arith) in
-    let first = ap (run h d (z ++ u)) long in
-    let second = ap (run h d (u ++ z)) long in
-    omega (arith, ints)
+    ap₂ (λ (i j : ℕ). run h d (z ++ (u ++ z)) (i + j)) long (long ∙ sym e) ∙ closed k h d some vanish u word (omega (arith, length-append z u)) (omega arith) in
+    omega (arith, ints, run-append h d z u z e, both, ap (run h d (z ++ u)) long, ap (run h d (u ++ z)) long)
 
 -- the number of a window is the difference of the potentials of its two ends
-pub window-potential : (k : ℕ) (h : List ℕ → ℤ) (d : ℕ) → 1 ≤ k → ShortRingsVanish k h d → (w : List ℕ) → IsWord k w → length w ≡ d + 1
+pub window-potential : (k : ℕ) (h : List ℕ → ℤ) (d : ℕ) → 1 ≤ k → 1 ≤ d → ShortRingsVanish k h d → (w : List ℕ) → IsWord k w → length w ≡ d + 1
     → h w ≡ potential h d (take d w) -ℤ potential h d (drop 1 w)
-window-potential k h d some vanish w word e =
+window-potential k h d some wide vanish w word e =
     let z : List ℕ = zeros d in
     let u : List ℕ = take d w in
     let v : List ℕ = drop 1 w in
@@ -116,21 +103,23 @@ window-potential k h d some vanish w word e =
     ap₂ (λ (x : List ℕ) (n : ℕ). run h d x n) by_front turned
     ∙ run-append h d (take 1 w) v z v_long
     ∙ ap₂ (λ (x y : ℤ). x +ℤ y) (ap₂ (λ (x : List ℕ) (n : ℕ). run h d x n) (take-append-drop 1 w) one_long) (ap (run h d (v ++ z)) z_long) in
-    let home = node_potential k h d some vanish u (All-take (λ a. a < k) d w word) u_long in
+    let home = node_potential k h d some wide vanish u (All-take (λ a. a < k) d w word) u_long in
     let here : run h d w 1 ≡ h w = one-window h d w e in
     omega (arith, ints)
 
--- where the sums over short rings are 0, so is the sum over the windows round each ring
-pub turn_sum-vanishes : (k : ℕ) (h : List ℕ → ℤ) (d : ℕ) → 1 ≤ k → ShortRingsVanish k h d → (p : List ℕ) → IsRing k p → turn_sum h d p ≡ pos 0
-turn_sum-vanishes k h d some vanish p ring =
-    let at_place : ℕ → ℤ = λ i. potential h d (ring_letters p (pos i) d) in
-    let step : (i : ℕ) → i < length p → h (ring_letters p (pos i) (d + 1)) ≡ at_place i -ℤ at_place (i + 1) = λ i l.
+-- where the number of each window is one number and the difference of two words within it, their sum round a ring says only how many letters it has
+pub turn_sum-steps : {k : ℕ} (h phi : List ℕ → ℤ) (constant : ℤ) (d : ℕ) (p : List ℕ) → IsRing k p → ((w : List ℕ) → IsWord k w → length w ≡ d + 1 → h w ≡ constant +ℤ (phi (take d w) -ℤ phi (drop 1 w)))
+    → turn_sum h d p ≡ pos (length p) *ℤ constant
+turn_sum-steps h phi constant d p ring differences =
+    let n : ℕ = length p in
+    let at_place : ℕ → ℤ = λ i. phi (ring_letters p (pos i) d) in
+    let step : (i : ℕ) → i < n → h (ring_letters p (pos i) (d + 1)) ≡ constant +ℤ (at_place i -ℤ at_place (i + 1)) = λ i l.
     let window : List ℕ = ring_letters p (pos i) (d + 1) in
-    let next : 1 + d ≡ d + 1 = omega arith in
-    let first : take d window ≡ ring_letters p (pos i) d = take-ring_letters p (pos i) (d + 1) d (omega arith) in
-    let last : drop 1 window ≡ ring_letters p (pos i +ℤ pos 1) d = ap (λ n. drop 1 (ring_letters p (pos i) n)) (sym next) ∙ drop-ring_letters p (pos i) 1 d in
-    window-potential k h d some vanish window (IsWord-ring_letters ring (pos i) (d + 1)) (length-ring_letters p (pos i) (d + 1))
-    ∙ ap₂ (λ (x y : List ℕ). potential h d x -ℤ potential h d y) first last in
-    let whole : pos (length p) ≡ pos 0 +ℤ pos (length p) = omega (arith, ints) in
-    let again : at_place (length p) ≡ at_place 0 = ap (λ o. potential h d (ring_letters p o d)) whole ∙ ap (potential h d) (ring_letters-turn p (pos 0) d ring.some) in
-    sum_to-agree (length p) step ∙ sum_to-steps (length p) at_place ∙ ap (λ (x : ℤ). at_place 0 -ℤ x) again ∙ omega (arith, ints)
+    let next : d + 1 ≡ 1 + d = omega arith in
+    differences window (IsWord-ring_letters ring (pos i) (d + 1)) (length-ring_letters p (pos i) (d + 1))
+    ∙ ap₂ (λ (x y : List ℕ). constant +ℤ (phi x -ℤ phi y)) (take-ring_letters p (pos i) (d + 1) d (omega arith)) (ap (λ m. drop 1 (ring_letters p (pos i) m)) next ∙ drop-ring_letters p (pos i) 1 d) in
+    let whole : pos n ≡ pos 0 +ℤ pos n = omega (arith, ints) in
+    let again : at_place n ≡ at_place 0 = ap (λ o. phi (ring_letters p o d)) whole ∙ ap phi (ring_letters-turn p (pos 0) d ring.some) in
+    sum_to-agree n step
+    ∙ sum_to-add n (λ i. constant) (λ i. at_place i -ℤ at_place (i + 1))
+    ∙ omega (arith, ints, sum_to-constant n constant, sum_to-steps n at_place, again)

@@ -1,5 +1,7 @@
 -- What a step leaves of rows that stand, and of rows of zeros.
 use Rattle.std.proofs.Common.{◌≡◌, ◌≢◌, ℕ, zero, suc, ◌<◌, ◌≤◌, List, ℤ, pos, negsuc, ◌-ℤ◌, ◌*ℤ◌, sym, ap, ap₂, subst, ◌∙◌, ⊎_elim, arith, ◌<ℤ◌}
+use Rattle.std.proofs.Math.Nat.{mul-le-mul_left}
+use borrow.Author.Differences.{up, down}
 use Rattle.word_image.proofs.Common.{ints, cases_lt, IsWord}
 use Rattle.kept_sums.specs.Spans.{entry, gain_at, IsNarrowed}
 use Rattle.kept_sums.specs.Stages.{IsStanding, IsZero}
@@ -10,12 +12,14 @@ use Rattle.kept_sums.proofs.laws.Sums.{gain_at-agree, gain_at-none}
 pub gain_at-zero : (rows : List (List ℤ)) (i : ℕ) (x y : List ℕ) → IsWord 16 x → IsWord 16 y → IsZero rows i → gain_at (entry rows i) x y ≡ pos 0
 gain_at-zero rows i x y one two none = gain_at-agree none x y one two ∙ gain_at-none x y
 
--- a number is 0 where both parts of its cross are
-crossed-zero : (share lead : ℕ) (new old gain other : ℤ) → 1 ≤ share → pos share *ℤ new ≡ (pos lead *ℤ old) -ℤ (gain *ℤ other) → old ≡ pos 0 → gain *ℤ other ≡ pos 0 → new ≡ pos 0
-crossed-zero share lead new old gain other some cross none nothing =
-    zero-of_times share new some (cross ∙ ap₂ (λ (u v : ℤ). (pos lead *ℤ u) -ℤ v) none nothing ∙ omega (arith, ints))
+-- a number of a narrowed row is 0 where both parts of its cross are
+pub entry-narrowed : {rows news : List (List ℤ)} {x y : List ℕ} {j : ℕ} → IsNarrowed rows x y j news → (i a : ℕ) → i < 16 → a < 16
+    → entry rows i a ≡ pos 0 → gain_at (entry rows i) x y *ℤ entry rows j a ≡ pos 0 → entry news i a ≡ pos 0
+entry-narrowed narrowed i a l h none nothing =
+    let row = narrowed.each i l in
+    zero-of_times row.share _ row.positive (row.cross a h ∙ ap₂ (λ (u v : ℤ). (pos narrowed.lead *ℤ u) -ℤ v) none nothing ∙ omega (arith, ints))
 
--- a number is positive where the first part of its cross is, and the second is 0
+-- a number of which a multiple is positive is positive
 positive-of_times : (n : ℕ) (x : ℤ) → pos 0 <ℤ (pos n *ℤ x) → pos 0 <ℤ x
 positive-of_times n (pos zero) h = absurd (omega (arith, ints))
 positive-of_times n (pos (suc a)) h = omega (arith, ints)
@@ -23,23 +27,11 @@ positive-of_times n (negsuc a) h = absurd (omega (arith, ints))
 
 -- a positive multiple of a positive number is positive
 pub times-positive : (n : ℕ) (x : ℤ) → 1 ≤ n → pos 0 <ℤ x → pos 0 <ℤ (pos n *ℤ x)
-times-positive zero x some h = absurd (omega arith)
-times-positive (suc n) (pos zero) some h = absurd (omega (arith, ints))
-times-positive (suc n) (pos (suc a)) some h = omega (arith, ints)
-times-positive (suc n) (negsuc a) some h = absurd (omega (arith, ints))
-
--- a number is positive where the first part of its cross is, and the second is 0
-crossed-positive : (share lead : ℕ) (new old gain other : ℤ) → 1 ≤ lead → pos share *ℤ new ≡ (pos lead *ℤ old) -ℤ (gain *ℤ other) → pos 0 <ℤ old → gain *ℤ other ≡ pos 0 → pos 0 <ℤ new
-crossed-positive share lead new old gain other some cross above nothing =
-    let whole : pos share *ℤ new ≡ pos lead *ℤ old = cross ∙ ap (λ (v : ℤ). (pos lead *ℤ old) -ℤ v) nothing ∙ omega (arith, ints) in
-    positive-of_times share new (subst (λ (x : ℤ). pos 0 <ℤ x) (sym whole) (times-positive lead old some above))
+times-positive n x some above = let more : down x < up x = omega (arith, ints) in omega (arith, ints, mul-le-mul_left n more)
 
 -- rows of zeros stay so when rows are narrowed
 pub IsZero-narrowed : {rows news : List (List ℤ)} {x y : List ℕ} {j : ℕ} → IsNarrowed rows x y j news → IsWord 16 x → IsWord 16 y → (i : ℕ) → i < 16 → IsZero rows i → IsZero news i
-IsZero-narrowed {rows} {news} {x} {y} {j} narrowed one two i l none a h =
-    let row = narrowed.each i l in
-    crossed-zero row.share narrowed.lead _ (entry rows i a) (gain_at (entry rows i) x y) (entry rows j a) row.positive (row.cross a h) (none a h)
-    (zero-factor _ (entry rows j a) (gain_at-zero rows i x y one two none))
+IsZero-narrowed {rows} {news} {x} {y} {j} narrowed one two i l none a h = entry-narrowed narrowed i a l h (none a h) (zero-factor _ (entry rows j a) (gain_at-zero rows i x y one two none))
 
 -- the row by which the others are crossed becomes a row of zeros
 pub IsZero-pivot : {rows news : List (List ℤ)} {x y : List ℕ} {j : ℕ} → IsNarrowed rows x y j news → j < 16 → IsZero news j
@@ -47,13 +39,6 @@ IsZero-pivot {rows} {news} {x} {y} {j} narrowed l a h =
     let row = narrowed.each j l in
     zero-of_times row.share _ row.positive
     (row.cross a h ∙ ap (λ (g : ℤ). (pos narrowed.lead *ℤ entry rows j a) -ℤ (g *ℤ entry rows j a)) narrowed.gains ∙ omega (arith, ints))
-
--- numbers that are 0 in both rows stay 0 in the narrowed row
-pub entry-narrowed : {rows news : List (List ℤ)} {x y : List ℕ} {j : ℕ} → IsNarrowed rows x y j news → (i a : ℕ) → i < 16 → a < 16
-    → entry rows i a ≡ pos 0 → entry rows j a ≡ pos 0 → entry news i a ≡ pos 0
-entry-narrowed {rows} {news} {x} {y} {j} narrowed i a l h none nothing =
-    let row = narrowed.each i l in
-    crossed-zero row.share narrowed.lead _ (entry rows i a) (gain_at (entry rows i) x y) (entry rows j a) row.positive (row.cross a h) none (factor-none _ _ nothing)
 
 -- of two different places one that isn't before the other is a later one
 later : (i j : ℕ) → i ≢ j → j ≤ i → j < i
@@ -66,8 +51,9 @@ IsStanding-narrowed {rows} {news} {x} {y} {j} narrowed within last pivot i l oth
     let row = narrowed.each i l in
     let gain = gain_at (entry rows i) x y in
     let beside : entry rows j i ≡ pos 0 = stands.alone j within (λ e. other (sym e)) in
-    let above : pos 0 <ℤ entry news i i =
-    crossed-positive row.share narrowed.lead _ (entry rows i i) gain (entry rows j i) narrowed.some (row.cross i l) stands.leads (factor-none gain _ beside) in
+    let whole : pos row.share *ℤ entry news i i ≡ pos narrowed.lead *ℤ entry rows i i =
+    row.cross i l ∙ ap (λ (v : ℤ). (pos narrowed.lead *ℤ entry rows i i) -ℤ v) (factor-none gain _ beside) ∙ omega (arith, ints) in
+    let above = positive-of_times row.share (entry news i i) (subst (λ (x : ℤ). pos 0 <ℤ x) (sym whole) (times-positive narrowed.lead (entry rows i i) narrowed.some stands.leads)) in
     record {
       leads = above;
       begins = λ a h.
@@ -77,8 +63,7 @@ IsStanding-narrowed {rows} {news} {x} {y} {j} narrowed within last pivot i l oth
           (λ (before : i < j). factor-none gain _ (pivot.begins a (omega arith)))
           (λ (after : j ≤ i). zero-factor _ (entry rows j a) (last i (omega (arith, later i j other after)) l))
           (cases_lt i j) in
-          crossed-zero row.share narrowed.lead _ (entry rows i a) gain (entry rows j a) row.positive (row.cross a within_row) (stands.begins a h) nothing;
-      alone = λ m h apart. entry-narrowed narrowed m i h l (stands.alone m h apart) beside;
-      primitive = λ d divides. row.primitive i d l (λ none. absurd (omega (arith, ints))) divides;
+          entry-narrowed narrowed i a l within_row (stands.begins a h) nothing;
+      alone = λ m h apart. entry-narrowed narrowed m i h l (stands.alone m h apart) (factor-none _ _ beside);
       combined = row.combined i l (λ none. absurd (omega (arith, ints)));
     }

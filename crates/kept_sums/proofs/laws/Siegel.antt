@@ -1,207 +1,175 @@
 -- Fewer conditions on integers than there are integers have a small solution that isn't 0 (Siegel 1929, after Thue).
-use Rattle.std.proofs.Common.{◌≡◌, ◌≢◌, ℕ, suc, ◌+◌, ◌-◌, ◌*◌, ◌^◌, ◌<◌, ◌≤◌, List, [], ◌∷◌, length, map, sum_by, ℤ, pos, ◌-ℤ◌, refl, sym, ap, ap₂, subst, ◌∙◌, ⊎_elim, ◌⊎◌, inl, inr, arith, unsigned_abs}
-use Rattle.std.proofs.Math.Nat.{pow-suc, mul-le-mul_right}
-use Rattle.word_image.proofs.Common.{pow-le-pow_left, cases_eq, mul-pow, All-tail, All-cons, ints, sum_by-cons, length-map, IsWord, value, word_of, twice_below, value-below, value-injective, length-word_of, IsWord-word_of, value-word_of}
+use Rattle.std.proofs.Common.{◌≡◌, ◌≢◌, ℕ, zero, suc, ◌+◌, ◌-◌, ◌*◌, ◌/◌, ◌%◌, ◌<◌, ◌≤◌, List, length, sum_by, ℤ, pos, ◌-ℤ◌, refl, sym, ap, ap₂, ◌∙◌, ⊎_elim, arith, unsigned_abs}
+use Rattle.std.proofs.Math.Nat.{mul-le-mul, mul-le-mul_right, div-add-mod}
+use Rattle.std.proofs.Math.Arith.{mod-mul}
+use Rattle.std.proofs.lemmas.Nat.{same_from_place, div_below, mod_below}
+use Rattle.word_image.proofs.Common.{but, but_there, but_else, but_cases, cases_eq, cases_lt, ints, sum_by-le, twice_below}
 use Rattle.kept_sums.specs.Spans.{gain_at}
-use Rattle.kept_sums.proofs.laws.Ranges.{power-positive}
 use Rattle.kept_sums.proofs.laws.Sums.{gain_at-sub, sum_at-pos}
 
--- a number of a list
-abbrev pub In : ℕ → List ℕ → Type 0
-In a [] = ⊥
-In a (p ∷ ps) = (a ≡ p) ⊎ In a ps
+-- the first number at 0, and the second elsewhere
+abbrev pub pick : ℕ → ℕ → ℕ → ℕ
+pick zero one other = one
+pick (suc n) one other = other
 
--- no number is listed twice
-abbrev pub Apart : List ℕ → Type 0
-Apart [] = Unit {0}
-Apart (p ∷ ps) = (¬ In p ps) × Apart ps
+-- the product of the first n numbers
+unfoldable pub product : ℕ → (ℕ → ℕ) → ℕ
+product zero f = 1
+product (suc n) f = f n * product n f
 
--- each number of a word stands at its place, and 0 elsewhere
-chosen : {A : Type 0} {B : Type 0} → A ⊎ B → ℕ → ℕ → ℕ
-chosen (inl a) d e = d
-chosen (inr b) d e = e
+-- a product of positive numbers is positive
+product-positive : (n : ℕ) (f : ℕ → ℕ) → ((a : ℕ) → 1 ≤ f a) → 1 ≤ product n f
+unfolding product
+product-positive zero f some = omega arith
+product-positive (suc n) f some = mul-le-mul (some n) (product-positive n f some)
 
--- the numbers of a word, each at its place
-pub spread : List ℕ → List ℕ → ℕ → ℕ
-spread [] ds a = 0
-spread (p ∷ ps) [] a = 0
-spread (p ∷ ps) (d ∷ ds) a = chosen (cases_eq a p) d (spread ps ds a)
+-- numbers that are at most products of two have at most the product of both products
+product-le : (n : ℕ) (f g h : ℕ → ℕ) → ((a : ℕ) → f a ≤ g a * h a) → product n f ≤ product n g * product n h
+unfolding product
+product-le zero f g h most = omega arith
+product-le (suc n) f g h most = omega (arith, mul-le-mul (most n) (product-le n f g h most))
 
--- at a number's own place it is chosen
-chosen-here : (a p d e : ℕ) (c : (a ≡ p) ⊎ (a ≢ p)) → a ≡ p → chosen c d e ≡ d
-unfolding chosen
-chosen-here a p d e (inl s) same = refl
-chosen-here a p d e (inr n) same = absurd (n same)
+-- the number with these digits, each below its own base
+number : ℕ → (ℕ → ℕ) → (ℕ → ℕ) → ℕ
+number zero base digits = 0
+number (suc n) base digits = digits n * product n base + number n base digits
 
--- at another place than a number's own the number isn't chosen
-chosen-there : (a p d e : ℕ) (c : (a ≡ p) ⊎ (a ≢ p)) → a ≢ p → chosen c d e ≡ e
-unfolding chosen
-chosen-there a p d e (inl s) other = absurd (other s)
-chosen-there a p d e (inr n) other = refl
+-- it is below the product of the bases
+number-below : (n : ℕ) (base digits : ℕ → ℕ) → ((a : ℕ) → a < n → digits a < base a) → number n base digits < product n base
+unfolding number product
+number-below zero base digits below = omega arith
+number-below (suc n) base digits below = omega (arith, number-below n base digits (λ a l. below a (omega arith)), mul-le-mul_right (product n base) (below n (omega arith)))
 
--- what is chosen is no greater than both
-chosen-most : (x a p d e : ℕ) (c : (a ≡ p) ⊎ (a ≢ p)) → d ≤ x → e ≤ x → chosen c d e ≤ x
-unfolding chosen
-chosen-most x a p d e (inl s) l m = l
-chosen-most x a p d e (inr n) l m = m
+-- one number, one digit at each place
+number-digits : (n : ℕ) (base one other : ℕ → ℕ) → ((a : ℕ) → a < n → one a < base a) → ((a : ℕ) → a < n → other a < base a) → number n base one ≡ number n base other → (a : ℕ) → a < n → one a ≡ other a
+unfolding number
+number-digits zero base one other below less same a l = absurd (omega arith)
+number-digits (suc n) base one other below less same a l =
+    let first = λ (b : ℕ) (h : b < n). below b (omega arith) in
+    let second = λ (b : ℕ) (h : b < n). less b (omega arith) in
+    let parts = same_from_place (one n) _ (other n) _ (product n base) (number-below n base one first) (number-below n base other second) same in
+    ⊎_elim (λ (before : a < n). number-digits n base one other first second parts.1 a before) (λ (most : n ≤ a). let e : a ≡ n = omega arith in rw e parts.0) (cases_lt a n)
 
--- there is 0 at a place that isn't listed
-spread-outside : (ps ds : List ℕ) (a : ℕ) → ¬ In a ps → spread ps ds a ≡ 0
-unfolding spread
-spread-outside [] ds a outside = refl
-spread-outside (p ∷ ps) [] a outside = refl
-spread-outside (p ∷ ps) (d ∷ ds) a outside =
-    chosen-there a p d (spread ps ds a) (cases_eq a p) (λ e. outside (inl e)) ∙ spread-outside ps ds a (λ h. outside (inr h))
+-- a digit of a number
+abbrev digit : (ℕ → ℕ) → ℕ → ℕ → ℕ
+digit base v a = v / product a base % base a
 
--- no number is greater than the letters
-spread-most : (x : ℕ) (ps ds : List ℕ) (a : ℕ) → IsWord (x + 1) ds → spread ps ds a ≤ x
-unfolding spread
-spread-most x [] ds a word = omega arith
-spread-most x (p ∷ ps) [] a word = omega arith
-spread-most x (p ∷ ps) (d ∷ ds) a word =
-    let head = word 0 0 (omega arith) in
-    chosen-most x a p d (spread ps ds a) (cases_eq a p) (omega (arith, head)) (spread-most x ps ds a (All-tail (λ b. b < x + 1) d ds word))
-
--- words that differ give numbers that differ at some place
-pub record Differ (ps ds es : List ℕ) : Type 0 where
-  pub place : ℕ
-  pub listed : In place ps
-  pub apart : spread ps ds place ≢ spread ps es place
-
--- two words of numbers differ at some place
-differ : (ps ds es : List ℕ) → Apart ps → length ds ≡ length ps → length es ≡ length ps → ds ≢ es → Differ ps ds es
-unfolding spread
-differ [] [] [] apart l m other = absurd (other refl)
-differ [] (d ∷ ds) es apart l m other = absurd (omega (arith, l))
-differ [] [] (e ∷ es) apart l m other = absurd (omega (arith, m))
-differ (p ∷ ps) [] es apart l m other = absurd (omega (arith, l))
-differ (p ∷ ps) (d ∷ ds) [] apart l m other = absurd (omega (arith, m))
-differ (p ∷ ps) (d ∷ ds) (e ∷ es) apart l m other =
+-- numbers that differ apart from multiples of the product differ in a digit
+differ : (n : ℕ) (base : ℕ → ℕ) → ((a : ℕ) → 1 ≤ base a) → (v u : ℕ) → v % product n base ≢ u % product n base → (a : ℕ) × (a < n) × (digit base v a ≢ digit base u a)
+unfolding product
+differ zero base some v u other = absurd (other (omega arith))
+differ (suc n) base some v u other =
     ⊎_elim
-    (λ (same : d ≡ e).
-    let rest = differ ps ds es apart.1 (omega (arith, l)) (omega (arith, m)) (λ equal. other (ap₂ (λ (x : ℕ) (xs : List ℕ). x ∷ xs) same equal)) in
-    let beside : rest.place ≢ p = λ here. apart.0 (subst (λ a. In a ps) here rest.listed) in
-    record {
-      place = rest.place;
-      listed = inr rest.listed;
-      apart = λ equal. rest.apart
-          (sym (chosen-there rest.place p d (spread ps ds rest.place) (cases_eq rest.place p) beside)
-          ∙ equal
-          ∙ chosen-there rest.place p e (spread ps es rest.place) (cases_eq rest.place p) beside);
-    })
-    (λ (differs : d ≢ e). record {
-      place = p;
-      listed = inl refl;
-      apart = λ equal. differs
-          (sym (chosen-here p p d (spread ps ds p) (cases_eq p p) refl) ∙ equal ∙ chosen-here p p e (spread ps es p) (cases_eq p p) refl);
-    })
-    (cases_eq d e)
-
--- a condition: two words that are to weigh the same
-abbrev pub Condition : Type 0
-Condition = List ℕ × List ℕ
-
--- what each condition says
-abbrev pub Each : (Condition → Type 0) → List Condition → Type 0
-Each P [] = Unit {0}
-Each P (c ∷ cs) = P c × Each P cs
-
--- the words of each condition have at most h letters
-abbrev pub AreShort : ℕ → List Condition → Type 0
-AreShort h = Each (λ c. (length c.0 ≤ h) × (length c.1 ≤ h))
-
--- a sum is at most as often the greatest number as there are terms
-sum_by-most : (w : ℕ → ℕ) (x : ℕ) → ((a : ℕ) → w a ≤ x) → (xs : List ℕ) → sum_by w xs ≤ length xs * x
-sum_by-most w x most [] = omega arith
-sum_by-most w x most (a ∷ xs) = let rest = sum_by-most w x most xs in let here = most a in let parts = sum_by-cons w a xs in omega (arith, rest, here, parts)
+    (λ (same : digit base v n ≡ digit base u n).
+    let positive = product-positive n base some in
+    let rest = differ n base some v u (λ e. other (mod-mul v (some n) positive ∙ ap₂ (λ (x y : ℕ). x * product n base + y) same e ∙ sym (mod-mul u (some n) positive))) in
+    (rest.0, omega (arith, rest.1), rest.2))
+    (λ (differs : digit base v n ≢ digit base u n). (n, omega arith, differs))
+    (cases_eq (digit base v n) (digit base u n))
 
 -- a number for what the first word weighs more
-abbrev pub code : ℕ → ℕ → (ℕ → ℕ) → Condition → ℕ
-code h x w c = sum_by w c.0 + (h * x - sum_by w c.1)
-
--- each condition's number is below a bound
-codes-below : (h x : ℕ) (w : ℕ → ℕ) → ((a : ℕ) → w a ≤ x) → (cs : List Condition) → AreShort h cs → IsWord (2 * h * x + 1) (map (code h x w) cs)
-codes-below h x w most [] short = λ i d l. absurd (omega (arith, l))
-codes-below h x w most (c ∷ cs) short =
-    let first = sum_by-most w x most c.0 in
-    let grows = mul-le-mul_right x short.0.0 in
-    let head : code h x w c < 2 * h * x + 1 = omega (arith, first, grows) in
-    All-cons (λ b. b < 2 * h * x + 1) (code h x w c) (map (code h x w) cs) head (codes-below h x w most cs short.1)
+abbrev code : ℕ → (ℕ → ℕ) → List ℕ → List ℕ → ℕ
+code top w x y = sum_by w x + (top - sum_by w y)
 
 -- one code, one gain
-gain-code : (h x : ℕ) (w v : ℕ → ℕ) → ((a : ℕ) → w a ≤ x) → ((a : ℕ) → v a ≤ x) → (c : Condition) → length c.1 ≤ h → code h x w c ≡ code h x v c
-    → gain_at (λ a. pos (w a) -ℤ pos (v a)) c.0 c.1 ≡ pos 0
-gain-code h x w v one two c short same =
-    let w_before = sum_by-most w x one c.1 in
-    let v_before = sum_by-most v x two c.1 in
-    let grows = mul-le-mul_right x short in
-    let a = sum_at-pos w c.0 in
-    let b = sum_at-pos w c.1 in
-    let d = sum_at-pos v c.0 in
-    let e = sum_at-pos v c.1 in
-    gain_at-sub (λ a. pos (w a)) (λ a. pos (v a)) c.0 c.1 ∙ omega (arith, ints, w_before, v_before, grows, a, b, d, e, same)
+gain-code : (h t : ℕ) (w v : ℕ → ℕ) → ((a : ℕ) → w a ≤ t) → ((a : ℕ) → v a ≤ t) → (x y : List ℕ) → length y ≤ h → code (h * t) w x y ≡ code (h * t) v x y
+    → gain_at (λ a. pos (w a) -ℤ pos (v a)) x y ≡ pos 0
+gain-code h t w v one two x y short same =
+    gain_at-sub (λ a. pos (w a)) (λ a. pos (v a)) x y
+    ∙ omega (arith, ints, sum_by-le w t y (λ i d l. one _), sum_by-le v t y (λ i d l. two _), mul-le-mul_right t short, sum_at-pos w x, sum_at-pos w y, sum_at-pos v x, sum_at-pos v y, same)
 
--- one number for each condition, one gain by each
-gains-codes : (h x : ℕ) (w v : ℕ → ℕ) → ((a : ℕ) → w a ≤ x) → ((a : ℕ) → v a ≤ x) → (cs : List Condition) → AreShort h cs → map (code h x w) cs ≡ map (code h x v) cs
-    → Each (λ c. gain_at (λ a. pos (w a) -ℤ pos (v a)) c.0 c.1 ≡ pos 0) cs
-gains-codes h x w v one two [] short same = tt
-gains-codes h x w v one two (c ∷ cs) short same =
-    let head : code h x w c ≡ code h x v c = cc in
-    let tail : map (code h x w) cs ≡ map (code h x v) cs = cc in
-    (gain-code h x w v one two c short.0.1 head, gains-codes h x w v one two cs short.1 tail)
+-- a code is below its base
+code-below : (g h t one other : ℕ) → (1 ≤ g → one ≤ h * t) → pick g 0 (one + (h * t - other)) < 2 * h * pick g 0 t + 1
+code-below zero h t one other most = omega arith
+code-below (suc g) h t one other most = omega (arith, most (omega arith))
 
--- a small solution that isn't 0, with 0 where no place is listed
-pub record SmallSolution (places : List ℕ) (conditions : List Condition) (most : ℕ) : Type 0 where
+-- a code's base is at most that of a number times 2 h
+base-le : (g h t : ℕ) → 1 ≤ h → 2 * h * pick g 0 t + 1 ≤ pick g 1 (2 * h) * (pick g 0 t + 1)
+base-le zero h t some = omega arith
+base-le (suc g) h t some = omega arith
+
+-- the numbers that stand at a place are at most t
+pick-most : (g t : ℕ) → pick g 0 t ≤ t
+pick-most zero t = omega arith
+pick-most (suc g) t = omega arith
+
+-- the difference of numbers that are at most t
+difference-most : (p q t : ℕ) → p ≤ t → q ≤ t → unsigned_abs (pos p -ℤ pos q) ≤ t
+difference-most p q t one two = omega (arith, ints)
+
+-- numbers whose difference is 0
+no-difference : (p q : ℕ) → pos p -ℤ pos q ≡ pos 0 → p ≡ q
+no-difference p q none = omega (arith, ints)
+
+-- one number picked, one number
+picked : (g one other : ℕ) → 1 ≤ g → pick g 0 one ≡ pick g 0 other → one ≡ other
+picked zero one other noted e = absurd (omega arith)
+picked (suc g) one other noted e = e
+
+-- a small solution that isn't 0 of the conditions of the places where g isn't 0: 0 but there and at place i
+pub record SmallSolution (n i : ℕ) (g : ℕ → ℕ) (x y : ℕ → List ℕ) (most : ℕ) : Type 0 where
   pub weight : ℕ → ℤ
   pub small : (a : ℕ) → unsigned_abs (weight a) ≤ most
-  pub outside : (a : ℕ) → ¬ In a places → weight a ≡ pos 0
+  pub outside : (a : ℕ) → a ≢ i → g a ≡ 0 → weight a ≡ pos 0
   pub place : ℕ
-  pub listed : In place places
+  pub within : place < n
   pub some : weight place ≢ pos 0
-  pub solves : Each (λ c. gain_at weight c.0 c.1 ≡ pos 0) conditions
+  pub solves : (a : ℕ) → a < n → 1 ≤ g a → gain_at weight (x a) (y a) ≡ pos 0
 
--- there are more words than codes
-more_words : (l e : ℕ) → 1 ≤ l → (l * l ^ e + 1) ^ e < (l ^ e + 1) ^ (e + 1)
-more_words l e some =
-    let x : ℕ = l ^ e in
-    let base : l * x + 1 ≤ l * (x + 1) = omega (arith, some) in
-    let whole : (l * x + 1) ^ e ≤ (l * (x + 1)) ^ e = pow-le-pow_left base e in
-    let split : (l * (x + 1)) ^ e ≡ x * (x + 1) ^ e = mul-pow l (x + 1) e in
-    let next : (x + 1) ^ (e + 1) ≡ (x + 1) ^ e * (x + 1) = let one : e + 1 ≡ suc e = omega arith in ap (λ n. (x + 1) ^ n) one ∙ pow-suc (x + 1) e in
-    let positive : 1 ≤ (x + 1) ^ e = power-positive (x + 1) e (omega arith) in
-    omega (arith, whole, split, next, positive)
+-- weights that are the digits of a number, and at place i what is left of it
+abbrev weights : ℕ → ℕ → (ℕ → ℕ) → ℕ → ℕ → ℕ
+weights n i base v = but (digit base v) i (v / product n base)
 
--- one condition fewer than places has a solution there that isn't 0, and no number of it is above (2 h)^e
-pub small_solution : (h : ℕ) (places : List ℕ) (cs : List Condition) → 1 ≤ h → Apart places → length places ≡ length cs + 1 → AreShort h cs → SmallSolution places cs ((2 * h) ^ length cs)
-small_solution h places cs some apart long short =
-    let e : ℕ = length cs in
-    let x : ℕ = (2 * h) ^ e in
-    let n : ℕ = length places in
-    let digits : ℕ → List ℕ = λ v. word_of (x + 1) n v in
-    let w : ℕ → ℕ → ℕ = λ v. spread places (digits v) in
-    let number : ℕ → ℕ = λ v. value (2 * h * x + 1) (map (code h x (w v)) cs) in
-    let most : (v : ℕ) → v < (x + 1) ^ n → (a : ℕ) → w v a ≤ x = λ v l a. spread-most x places (digits v) a (IsWord-word_of (x + 1) n v l) in
-    let coded : (v : ℕ) (l : v < (x + 1) ^ n) → IsWord (2 * h * x + 1) (map (code h x (w v)) cs) = λ v l. codes-below h x (w v) (most v l) cs short in
-    let few : (v : ℕ) → v < (x + 1) ^ n → number v < (2 * h * x + 1) ^ e = λ v l.
-    subst (λ j. number v < (2 * h * x + 1) ^ j) (length-map cs (code h x (w v))) (value-below (2 * h * x + 1) (map (code h x (w v)) cs) (coded v l)) in
-    let more : (2 * h * x + 1) ^ e < (x + 1) ^ n = subst (λ j. (2 * h * x + 1) ^ e < (x + 1) ^ j) (sym long) (more_words (2 * h) e (omega arith)) in
-    let pair = twice_below ((2 * h * x + 1) ^ e) number (λ v l. few v (omega (arith, more, l))) in
-    let i : ℕ = pair.0 in
-    let j : ℕ = pair.1 in
-    let j_within : j < (x + 1) ^ n = omega (arith, more, pair.3) in
-    let i_within : i < (x + 1) ^ n = omega (arith, j_within, pair.2) in
-    let codes : map (code h x (w j)) cs ≡ map (code h x (w i)) cs =
-    value-injective (2 * h * x + 1) _ _ (coded j j_within) (coded i i_within) (length-map cs (code h x (w j)) ∙ sym (length-map cs (code h x (w i)))) (sym pair.4) in
-    let words : digits j ≢ digits i = λ same.
-    let equal : j ≡ i = sym (value-word_of (x + 1) n j j_within) ∙ ap (value (x + 1)) same ∙ value-word_of (x + 1) n i i_within in
-    absurd (omega (arith, equal, pair.2)) in
-    let differs = differ places (digits j) (digits i) apart (length-word_of (x + 1) n j) (length-word_of (x + 1) n i) words in
+-- of numbers below t + 1 times the product the weights are at most t
+weights-most : (n i t v a : ℕ) (base : ℕ → ℕ) → ((b : ℕ) → 1 ≤ base b) → ((b : ℕ) → base b ≤ t + 1) → v < (t + 1) * product n base → weights n i base v a ≤ t
+weights-most n i t v a base some few less =
+    ⊎_elim
+    (λ here. let top_digit = div_below v (product n base) (t + 1) (product-positive n base some) less in omega (arith, here.1, top_digit))
+    (λ there. let below = mod_below (v / product a base) (base a) (some a) in omega (arith, there.1, below, few a))
+    (but_cases (digit base v) i (v / product n base) a)
+
+-- different numbers have different weights, where place i has no digit
+weights-differ : (n i : ℕ) (base : ℕ → ℕ) (v u : ℕ) → i < n → ((a : ℕ) → 1 ≤ base a) → base i ≡ 1 → u < v → (a : ℕ) × (a < n) × (weights n i base v a ≢ weights n i base u a)
+weights-differ n i base v u l some one order =
+    ⊎_elim
+    (λ (equal : v / product n base ≡ u / product n base).
+    let found = differ n base some v u (λ rest. absurd (omega (arith, order, ap (λ m. product n base * m) equal, rest, div-add-mod v (product n base), div-add-mod u (product n base)))) in
+    let single : (m : ℕ) → digit base m i ≡ 0 = λ m. rw one (omega arith) in
+    let apart : found.0 ≢ i = λ e. found.2 (rw e (single v ∙ sym (single u))) in
+    (found.0, found.1, λ e. found.2 (sym (but_else (digit base v) i _ found.0 apart) ∙ e ∙ but_else (digit base u) i _ found.0 apart)))
+    (λ (other : v / product n base ≢ u / product n base). (i, l, λ e. other (sym (but_there (digit base v) i _ i refl) ∙ e ∙ but_there (digit base u) i _ i refl)))
+    (cases_eq (v / product n base) (u / product n base))
+
+-- conditions of words of at most h letters, one for each place where g isn't 0, have a solution there and at one place more
+pub small_solution : (n h i : ℕ) (g : ℕ → ℕ) (x y : ℕ → List ℕ) → i < n → 1 ≤ h → g i ≡ 0 → ((a : ℕ) → a < n → 1 ≤ g a → (length (x a) ≤ h) × (length (y a) ≤ h))
+    → SmallSolution n i g x y (product n (λ a. pick (g a) 1 (2 * h)))
+small_solution n h i g x y l some none short =
+    let t : ℕ = product n (λ a. pick (g a) 1 (2 * h)) in
+    let base : ℕ → ℕ = λ a. pick (g a) 0 t + 1 in
+    let top : ℕ → ℕ = λ a. 2 * h * pick (g a) 0 t + 1 in
+    let all : ℕ = (t + 1) * product n base in
+    let w : ℕ → ℕ → ℕ = weights n i base in
+    let codes : ℕ → ℕ → ℕ = λ v a. pick (g a) 0 (code (h * t) (w v) (x a) (y a)) in
+    let some_base : (a : ℕ) → 1 ≤ base a = λ a. omega arith in
+    let no_digit : base i ≡ 1 = ap (λ m. pick m 0 t + 1) none in
+    let most : (v a : ℕ) → v < all → w v a ≤ t = λ v a. weights-most n i t v a base some_base (λ b. omega (arith, pick-most (g b) t)) in
+    let below : (v : ℕ) → v < all → (a : ℕ) → a < n → codes v a < top a = λ v less a k.
+    code-below (g a) h t _ _ (λ noted. omega (arith, sum_by-le (w v) t (x a) (λ m d j. most v _ less), mul-le-mul_right t (short a k noted).0)) in
+    let fewer : product n top < all = omega (arith, product-positive n base some_base, product-le n top (λ a. pick (g a) 1 (2 * h)) base (λ a. base-le (g a) h t some)) in
+    let (u, v, order, last, same) = twice_below (product n top) (λ m. number n top (codes m)) (λ m k. number-below n top (codes m) (below m (omega (arith, fewer)))) in
+    let v_within : v < all = omega (arith, fewer, last) in
+    let u_within : u < all = omega (arith, v_within, order) in
+    let differs = weights-differ n i base v u l some_base no_digit order in
     record {
-      weight = λ a. pos (w j a) -ℤ pos (w i a);
-      small = λ a. let one = most j j_within a in let two = most i i_within a in omega (arith, ints, one, two);
-      outside = λ a out. ap₂ (λ (u v : ℕ). pos u -ℤ pos v) (spread-outside places (digits j) a out) (spread-outside places (digits i) a out);
-      place = differs.place;
-      listed = differs.listed;
-      some = λ none. differs.apart (omega (arith, ints, none));
-      solves = gains-codes h x (w j) (w i) (most j j_within) (most i i_within) cs short codes;
+      weight = λ a. pos (w v a) -ℤ pos (w u a);
+      small = λ a. difference-most (w v a) (w u a) t (most v a v_within) (most u a u_within);
+      outside = λ a apart nothing.
+          let zeroth : (m : ℕ) → w m a ≡ 0 = λ m. but_else (digit base m) i _ a apart ∙ (let one : base a ≡ 1 = ap (λ k. pick k 0 t + 1) nothing in rw one (omega arith)) in
+          ap₂ (λ (p q : ℕ). pos p -ℤ pos q) (zeroth v) (zeroth u);
+      place = differs.0;
+      within = differs.1;
+      some = λ nothing. differs.2 (no-difference (w v differs.0) (w u differs.0) nothing);
+      solves = λ a k noted.
+          let digits = number-digits n top (codes u) (codes v) (below u u_within) (below v v_within) same a k in
+          gain-code h t (w v) (w u) (λ b. most v b v_within) (λ b. most u b u_within) (x a) (y a) (short a k noted).1 (picked (g a) _ _ noted (sym digits));
     }

@@ -1,17 +1,16 @@
 -- The first stage: each free place has the row that gives it the weight 1.
-use Rattle.std.proofs.Common.{◌≡◌, ◌≢◌, ℕ, ◌-◌, ◌^◌, ◌<◌, ◌≤◌, List, [], replicate, slice_index, slice_index_or, ℤ, pos, ◌*ℤ◌, sym, ap, subst, ◌∙◌, ⊎_elim, arith, unsigned_abs}
+use Rattle.std.proofs.Common.{◌≡◌, ◌≢◌, ℕ, ◌-◌, ◌^◌, ◌<◌, ◌≤◌, List, [], replicate, slice_index, slice_index_or, ℤ, pos, ◌*ℤ◌, sym, ap, subst, ◌∙◌, ⊎_elim, ◌⊎◌, inl, inr, arith, unsigned_abs}
 use Rattle.std.proofs.Math.ListN.{get_or-eq_default}
-use Rattle.word_image.proofs.Common.{eq-one_of_dvd-one, ints, cases_lt, cases_eq, get_or-replicate, length-replicate, LocalRule, IsRule, slice_index-zeros}
-use Prim.Native.Nat.{◌∣◌}
+use Rattle.word_image.proofs.Common.{ints, cases_lt, cases_eq, get_or-replicate, length-replicate, LocalRule, IsRule, slice_index-zeros}
 use Rattle.kept_sums.specs.Sums.{IsKept, sum_to}
 use Rattle.kept_sums.specs.Rows.{at, IsUnit, IsCombined}
 use Rattle.kept_sums.specs.Spans.{entry, IsSpanned}
-use Rattle.kept_sums.specs.Stages.{IsFree, IsZero, IsStage}
+use Rattle.kept_sums.specs.Stages.{IsZero, IsStage}
 use Rattle.kept_sums.proofs.laws.Parts.{at-replicate}
 use Rattle.kept_sums.proofs.laws.Spans.{sum_to-one}
 use Rattle.kept_sums.proofs.laws.Densities.{gain-KeepsSumOf}
 use Rattle.kept_sums.proofs.laws.Narrowed.{gain_at-zero}
-use Rattle.kept_sums.proofs.laws.Unique.{Stands, stands_or_zero, not_both}
+use Rattle.kept_sums.proofs.laws.Stages.{Stands, stands_or_zero, not_both}
 use Rattle.kept_sums.proofs.laws.AfterRings.{IsWord-blocks, within, IsRing-ring_image}
 
 -- rows of zeros have them everywhere
@@ -28,35 +27,24 @@ pub record AreUnits (first size : ℕ) (rows : List (List ℤ)) : Type 0 where
   pub before : (i : ℕ) → i < first → (a : ℕ) → entry rows i a ≡ pos 0
   pub after : (i : ℕ) → size ≤ i → (a : ℕ) → entry rows i a ≡ pos 0
 
--- beside the places of the rows there are zeros
-off : {first size : ℕ} {rows : List (List ℤ)} → AreUnits first size rows → (i a : ℕ) → a ≢ i → entry rows i a ≡ pos 0
-off {first} {size} {rows} units i a other =
+-- a row has one number that isn't 0, at its place, or none
+unit_or_zero : {first size : ℕ} {rows : List (List ℤ)} → AreUnits first size rows → (i : ℕ) → ((first ≤ i) × (i < size) × IsUnit i (slice_index_or rows i [])) ⊎ ((a : ℕ) → entry rows i a ≡ pos 0)
+unit_or_zero {first} {size} units i =
     ⊎_elim
-    (λ (l : i < first). units.before i l a)
-    (λ (l : first ≤ i). ⊎_elim (λ (h : i < size). (units.units i l h).others a other) (λ (h : size ≤ i). units.after i h a) (cases_lt i size))
+    (λ (l : i < first). inr (units.before i l))
+    (λ (l : first ≤ i). ⊎_elim (λ (h : i < size). inl (l, h, units.units i l h)) (λ (h : size ≤ i). inr (units.after i h)) (cases_lt i size))
     (cases_lt i first)
 
--- a row that isn't in a free place is one of zeros
-past : {k range : ℕ} {rows : List (List ℤ)} → AreUnits (k ^ (range - 1)) (k ^ range) rows → (i : ℕ) → ¬ IsFree k range i → IsZero rows i
-past {k} {range} {rows} units i outside a _ =
-    ⊎_elim
-    (λ (l : i < k ^ (range - 1)). units.before i l a)
-    (λ (l : k ^ (range - 1) ≤ i). ⊎_elim (λ (h : i < k ^ range). absurd (outside (record { least = l; most = h }))) (λ (h : k ^ range ≤ i). units.after i h a) (cases_lt i (k ^ range)))
-    (cases_lt i (k ^ (range - 1)))
+-- beside the places of the rows there are zeros
+off : {first size : ℕ} {rows : List (List ℤ)} → AreUnits first size rows → (i a : ℕ) → a ≢ i → entry rows i a ≡ pos 0
+off units i a other = ⊎_elim (λ one. one.2.others a other) (λ none. none a) (unit_or_zero units i)
 
 -- the entries of unit rows are small
 small_at : {first size : ℕ} {rows : List (List ℤ)} → AreUnits first size rows → (i a : ℕ) → unsigned_abs (entry rows i a) ≤ 2 ^ 56
-small_at {first} {size} {rows} units i a =
+small_at {rows = rows} units i a =
     let none = λ (e : entry rows i a ≡ pos 0). subst (λ (z : ℤ). unsigned_abs z ≤ 2 ^ 56) (sym e) (omega arith) in
     ⊎_elim
-    (λ (same : a ≡ i).
-    ⊎_elim
-    (λ (l : i < first). none (units.before i l a))
-    (λ (l : first ≤ i). ⊎_elim
-    (λ (h : i < size). subst (λ (b : ℕ). unsigned_abs (entry rows i b) ≤ 2 ^ 56) (sym same) (subst (λ (z : ℤ). unsigned_abs z ≤ 2 ^ 56) (sym (units.units i l h).one) (omega arith)))
-    (λ (h : size ≤ i). none (units.after i h a))
-    (cases_lt i size))
-    (cases_lt i first))
+    (λ (same : a ≡ i). ⊎_elim (λ one. let here = one.2.one in rw same (subst (λ (z : ℤ). unsigned_abs z ≤ 2 ^ 56) (sym here) (omega arith))) (λ zeros. none (zeros a)) (unit_or_zero units i))
     (λ (other : a ≢ i). none (off units i a other))
     (cases_eq a i)
 
@@ -70,7 +58,7 @@ spanned {first} {size} {rows} few units weight normal = record {
       let beside : (i : ℕ) → i ≢ a → weight i *ℤ entry rows i a ≡ pos 0 = λ i other.
       ap (λ (z : ℤ). weight i *ℤ z) (off units i a (λ e. other (sym e))) ∙ omega (arith, ints) in
       let whole : sum_to 16 (λ i. weight i *ℤ entry rows i a) ≡ weight a *ℤ entry rows a a =
-      sum_to-one 16 (λ i. weight i *ℤ entry rows i a) a (λ i h. beside i (λ e. omega arith)) (λ i h m. beside i (λ e. omega arith)) (omega arith) in
+      sum_to-one 16 (λ i. weight i *ℤ entry rows i a) a (omega arith) (λ i _. beside i) in
       let here : weight a *ℤ entry rows a a ≡ weight a =
       ⊎_elim
       (λ (h : a < first). ap (λ (z : ℤ). z *ℤ entry rows a a) (normal a h) ∙ ap (λ (z : ℤ). pos 0 *ℤ z) (units.before a h a) ∙ sym (normal a h))
@@ -84,9 +72,7 @@ combined_unit : (i : ℕ) (row : List ℤ) → i < 16 → IsUnit i row → IsCom
 combined_unit i row l unit = record {
   parts = λ a. pos 1;
   is =
-      sum_to-one 16 (λ a. pos 1 *ℤ pos (unsigned_abs (at row a))) i
-      (λ a h. ap (λ (z : ℤ). pos 1 *ℤ pos (unsigned_abs z)) (unit.others a (λ e. omega arith)))
-      (λ a h m. ap (λ (z : ℤ). pos 1 *ℤ pos (unsigned_abs z)) (unit.others a (λ e. omega arith))) l
+      sum_to-one 16 (λ a. pos 1 *ℤ pos (unsigned_abs (at row a))) i l (λ a _ other. ap (λ (z : ℤ). pos 1 *ℤ pos (unsigned_abs z)) (unit.others a other))
       ∙ ap (λ (z : ℤ). pos 1 *ℤ pos (unsigned_abs z)) unit.one;
 }
 
@@ -94,7 +80,6 @@ combined_unit i row l unit = record {
 pub IsStage-start : (r : LocalRule) (range : ℕ) (rows : List (List ℤ)) → IsRule r → 1 ≤ range → r.states ^ range ≤ 16 → AreUnits (r.states ^ (range - 1)) (r.states ^ range) rows
     → IsStage r range rows (replicate 16 0) (replicate 16 (replicate 15 0))
 IsStage-start r range rows rule letter few units =
-    let k : ℕ = r.states in
     let none : (i : ℕ) → ¬ (1 ≤ slice_index (replicate 16 0) i) = λ i some. let e = slice_index-zeros 16 i in absurd (omega arith) in
     record {
       places = λ i l. record {
@@ -104,18 +89,15 @@ IsStage-start r range rows rule letter few units =
               leads = let one : entry rows i i ≡ pos 1 = unit.one in omega (arith, ints);
               begins = λ a h. off units i a (λ e. omega arith);
               alone = λ m h other. off units m i (λ e. other (sym e));
-              primitive = λ d divides.
-                  let whole : d ∣ unsigned_abs (pos 1) = subst (λ (z : ℤ). d ∣ unsigned_abs z) unit.one (divides i l) in
-                  eq-one_of_dvd-one whole;
               combined = combined_unit i (slice_index_or rows i []) l unit;
             };
         dropped = λ some. absurd (none i some);
         ring = λ some. absurd (none i some);
         free = λ some. absurd (none i some);
-        past = λ no. past units i no;
+        past = λ outside a _. ⊎_elim (λ one. absurd (outside (record { least = one.0; most = one.1 }))) (λ none. none a) (unit_or_zero units i);
       };
       ends = λ i a l from h.
-          ⊎_elim (λ (m : i < k ^ range). off units i a (λ e. omega arith)) (λ (m : k ^ range ≤ i). units.after i m a) (cases_lt i (k ^ range));
+          ⊎_elim (λ one. let below = one.1 in one.2.others a (λ e. omega arith)) (λ none. none a) (unit_or_zero units i);
       complete = λ weight normal _. spanned few units weight normal;
       short = λ i l. let e = slice_index-zeros 16 i in let wide = rule.shape.least_width in omega arith;
       small = λ i l. record { small = λ a h. small_at units i a };

@@ -8,8 +8,7 @@ use Rattle.kept_sums.proofs.laws.Integers.{mul-add, mul-sub}
 -- weights that agree on the letters of a word give it one sum
 pub sum_at-agree : {k : ℕ} {f g : ℕ → ℤ} → ((a : ℕ) → a < k → f a ≡ g a) → (w : List ℕ) → IsWord k w → sum_at f w ≡ sum_at g w
 sum_at-agree agree [] word = refl
-sum_at-agree {k} {f} {g} agree (a ∷ w) word =
-    ap₂ (λ (x y : ℤ). x +ℤ y) (agree a (word 0 0 (omega arith))) (sum_at-agree agree w (All-tail (λ b. b < k) a w word))
+sum_at-agree {k} {f} {g} agree (a ∷ w) word = ap₂ (λ (x y : ℤ). x +ℤ y) (agree a (word 0 0 (omega arith))) (sum_at-agree agree w (All-tail (λ b. b < k) a w word))
 
 -- what multiples of weights come to
 pub sum_at-scaled : (x : ℤ) (f : ℕ → ℤ) (w : List ℕ) → sum_at (λ a. x *ℤ f a) w ≡ x *ℤ sum_at f w

@@ -1,46 +1,27 @@
 -- Trivial weights: each rule keeps their sums; each weight is a normal one and a trivial one; only 0 is both.
 use Rattle.std.proofs.Common.{◌≡◌, ℕ, zero, suc, ◌+◌, ◌-◌, ◌*◌, ◌/◌, ◌%◌, ◌^◌, ◌<◌, ◌≤◌, List, length, take, drop, ℤ, pos, ◌+ℤ◌, ◌-ℤ◌, ◌*ℤ◌, sym, ap, ap₂, ◌∙◌, arith, mod-lt}
-use Rattle.std.proofs.Math.Nat.{pow-suc, mod-eq_of_lt, div-one, div-lt_iff_lt-mul}
-use Rattle.word_image.proofs.Common.{pow-zero, div-div-eq-div-mul, div-eq_of_lt, zero-div, pow-le-pow_right, ints, LocalRule, IsRule, IsWord, value, word_of, IsRing, ring_letters, ring_image, IsWord-ring_letters, ring_letters-turn, value-take, value-drop, length-word_of, IsWord-word_of, value-word_of}
-use Rattle.ring_laws.proofs.Rings.{length-ring_letters, take-ring_letters, drop-ring_letters}
+use Rattle.std.proofs.Math.Nat.{pow-suc, mod-eq_of_lt, div-one}
+use Rattle.std.proofs.lemmas.Nat.{div_below}
+use Rattle.word_image.proofs.Common.{pow-zero, div-div-eq-div-mul, div-eq_of_lt, zero-div, pow-le-pow_right, ints, LocalRule, IsRule, IsWord, value, word_of, IsRing, ring_letters, ring_image, value-take, value-drop, length-word_of, IsWord-word_of, value-word_of}
 use Rattle.kept_sums.specs.Sums.{sum_at, blocks, KeepsSumOf, IsKept, sum_to}
 use Rattle.kept_sums.specs.Stages.{IsNormal, ring_at, NotedKeep, IsStage}
 use Rattle.kept_sums.specs.Trivials.{IsTrivial, IsSpannedUpToTrivial}
 use Rattle.kept_sums.proofs.laws.Integers.{mul-add, mul-sub}
 use Rattle.kept_sums.proofs.laws.Ranges.{power-positive}
 use Rattle.kept_sums.proofs.laws.Sums.{sum_at-sub}
-use Rattle.kept_sums.proofs.laws.Spans.{sum_to-agree, sum_to-add}
-use Rattle.kept_sums.proofs.laws.Turns.{sum_at-map, sum_to-steps, sum_to-ends}
+use Rattle.kept_sums.proofs.laws.Spans.{sum_to-agree}
+use Rattle.kept_sums.proofs.laws.Turns.{sum_at-map, sum_to-ends}
+use Rattle.kept_sums.proofs.laws.Locals.{turn_sum-steps}
 use Rattle.kept_sums.proofs.laws.Densities.{length-ring_image}
 use Rattle.kept_sums.proofs.laws.AfterRings.{IsRing-ring_image}
-
--- the sum of n times one number
-sum_to-constant : (n : ℕ) (c : ℤ) → sum_to n (λ i. c) ≡ pos n *ℤ c
-unfolding sum_to
-sum_to-constant zero c = omega (arith, ints)
-sum_to-constant (suc n) c = let rest = sum_to-constant n c in omega (arith, ints)
 
 -- on a ring trivial weights say how many letters it has
 trivial_sum : {k range : ℕ} {weight : ℕ → ℤ} → 1 ≤ range → (trivial : IsTrivial k range weight) → (p : List ℕ) → IsRing k p → sum_at weight (blocks k range p) ≡ pos (length p) *ℤ trivial.constant
 trivial_sum {k} {range} {weight} some trivial p ring =
-    let n : ℕ = length p in
-    let d : ℕ = range - 1 in
-    let next : 1 + d ≡ range = omega arith in
-    let at_place : ℕ → ℤ = λ i. trivial.phi (value k (ring_letters p (pos i) d)) in
-    let step : (i : ℕ) → i < n → weight (value k (ring_letters p (pos i) range)) ≡ trivial.constant +ℤ (at_place i -ℤ at_place (i + 1)) = λ i l.
-    let word : List ℕ = ring_letters p (pos i) range in
-    let first : take d word ≡ ring_letters p (pos i) d = take-ring_letters p (pos i) range d (omega arith) in
-    let last : drop 1 word ≡ ring_letters p (pos i +ℤ pos 1) d = ap (λ m. drop 1 (ring_letters p (pos i) m)) (sym next) ∙ drop-ring_letters p (pos i) 1 d in
-    trivial.is word (IsWord-ring_letters ring (pos i) range) (length-ring_letters p (pos i) range)
-    ∙ ap₂ (λ (x y : List ℕ). trivial.constant +ℤ (trivial.phi (value k x) -ℤ trivial.phi (value k y))) first last in
-    let whole : pos n ≡ pos 0 +ℤ pos n = omega (arith, ints) in
-    let again : at_place n ≡ at_place 0 = ap (λ o. trivial.phi (value k (ring_letters p o d))) whole ∙ ap (λ x. trivial.phi (value k x)) (ring_letters-turn p (pos 0) d ring.some) in
-    let steps = sum_to-steps n at_place in
-    sum_at-map weight (λ i. value k (ring_letters p (pos i) range)) n
-    ∙ sum_to-agree n step
-    ∙ sum_to-add n (λ i. trivial.constant) (λ i. at_place i -ℤ at_place (i + 1))
-    ∙ ap₂ (λ (x y : ℤ). x +ℤ y) (sum_to-constant n trivial.constant) steps
-    ∙ omega (arith, ints)
+    let next : range ≡ range - 1 + 1 = omega arith in
+    sum_at-map weight (λ i. value k (ring_letters p (pos i) range)) (length p)
+    ∙ ap (λ m. sum_to (length p) (λ i. weight (value k (ring_letters p (pos i) m)))) next
+    ∙ turn_sum-steps (λ w. weight (value k w)) (λ w. trivial.phi (value k w)) trivial.constant (range - 1) p ring (λ w word long. trivial.is w word (omega arith))
 
 -- each rule keeps the sums of trivial weights
 pub IsKept-trivial : {r : LocalRule} → IsRule r → (range : ℕ) (weight : ℕ → ℤ) → 1 ≤ range → IsTrivial r.states range weight → IsKept range weight r
@@ -96,24 +77,14 @@ IsTrivial-part k range weight some = record {
 
 -- what is left of weights without their trivial part is normal
 pub IsNormal-part : (k range : ℕ) (weight : ℕ → ℤ) → IsNormal k range (normal_part k range weight)
-IsNormal-part k range weight a l =
-    let step = potential-step k (range - 1) weight a l in
-    let here = ap (λ i. potential_of k (range - 1) weight i) (mod-eq_of_lt l) in
-    omega (arith, ints, step, here)
-
--- a power of 0 has nothing below it
-base_positive : (k n v : ℕ) → v < k ^ suc n → 0 < k
-base_positive zero n v l = absurd (omega (arith, pow-suc 0 n))
-base_positive (suc k) n v l = omega arith
+IsNormal-part k range weight a l = omega (arith, ints, potential-step k (range - 1) weight a l, ap (λ i. potential_of k (range - 1) weight i) (mod-eq_of_lt l))
 
 -- a function that doesn't see the last letter gives one number on all words
-pub same_of_step : (k : ℕ) (phi : ℕ → ℤ) (d n : ℕ) → n ≤ d → ((v : ℕ) → v < k ^ d → phi v ≡ phi (v / k)) → (v : ℕ) → v < k ^ n → phi v ≡ phi 0
-same_of_step k phi d zero few step v l = let none : v ≡ 0 = omega (arith, pow-zero k) in ap phi none
-same_of_step k phi d (suc n) few step v l =
-    let some : 0 < k = base_positive k n v l in
+pub same_of_step : (k : ℕ) (phi : ℕ → ℤ) (d n : ℕ) → 1 ≤ k → n ≤ d → ((v : ℕ) → v < k ^ d → phi v ≡ phi (v / k)) → (v : ℕ) → v < k ^ n → phi v ≡ phi 0
+same_of_step k phi d zero some few step v l = let none : v ≡ 0 = omega (arith, pow-zero k) in ap phi none
+same_of_step k phi d (suc n) some few step v l =
     let more : k ^ suc n ≤ k ^ d = pow-le-pow_right some {i = suc n} {j = d} few in
-    let below : v / k < k ^ n = (div-lt_iff_lt-mul some).1 (omega (arith, pow-suc k n)) in
-    step v (omega arith) ∙ same_of_step k phi d n (omega arith) step (v / k) below
+    step v (omega arith) ∙ same_of_step k phi d n some (omega arith) step (v / k) (div_below v k (k ^ n) some (omega (arith, l, pow-suc k n)))
 
 -- weights that are normal and trivial are 0
 pub IsNormal-trivial : (k range : ℕ) (weight : ℕ → ℤ) → 2 ≤ k → 1 ≤ range → IsNormal k range weight → IsTrivial k range weight → (a : ℕ) → a < k ^ range → weight a ≡ pos 0
@@ -138,11 +109,10 @@ IsNormal-trivial k range weight states some normal trivial a l =
     sym (normal x h) ∙ at_value x (omega arith) ∙ ap (λ n. c +ℤ (phi (x / k) -ℤ phi n)) (mod-eq_of_lt h) in
     let constant : c ≡ pos 0 = let zeroth = front 0 (omega arith) in let e = ap phi (zero-div k) in omega (arith, ints, zeroth, e) in
     let step : (v : ℕ) → v < k ^ d → phi v ≡ phi (v / k) = λ v h. let here = front v h in omega (arith, ints, here, constant) in
-    let same : (v : ℕ) → v < k ^ d → phi v ≡ phi 0 = same_of_step k phi d d (omega arith) step in
-    let first : phi (a / k) ≡ phi 0 = same (a / k) ((div-lt_iff_lt-mul positive).1 (omega arith)) in
+    let same : (v : ℕ) → v < k ^ d → phi v ≡ phi 0 = same_of_step k phi d d positive (omega arith) step in
+    let first : phi (a / k) ≡ phi 0 = same (a / k) (div_below a k (k ^ d) positive (omega arith)) in
     let last : phi (a % k ^ d) ≡ phi 0 = same (a % k ^ d) (mod-lt a one) in
-    let here = at_value a l in
-    omega (arith, ints, here, constant, first, last)
+    omega (arith, ints, at_value a l, constant, first, last)
 
 -- a ring keeps the sum of a difference where it keeps both
 KeepsSumOf-sub : (range : ℕ) (f g : ℕ → ℤ) (r : LocalRule) (p : List ℕ) → KeepsSumOf range f r p → KeepsSumOf range g r p → KeepsSumOf range (λ a. f a -ℤ g a) r p
@@ -159,9 +129,7 @@ IsTrivial-times {k} {range} {weight} n trivial = record {
   is = λ w word long.
       let first = trivial.phi (value k (take (range - 1) w)) in
       let last = trivial.phi (value k (drop 1 w)) in
-      ap (λ (x : ℤ). n *ℤ x) (trivial.is w word long)
-      ∙ mul-add n trivial.constant (first -ℤ last)
-      ∙ ap (λ (x : ℤ). (n *ℤ trivial.constant) +ℤ x) (mul-sub n first last);
+      omega (arith, ints, ap (λ (x : ℤ). n *ℤ x) (trivial.is w word long), mul-add n trivial.constant (first -ℤ last), mul-sub n first last);
 }
 
 -- each kept weight is a rational combination of the rows and trivial weights

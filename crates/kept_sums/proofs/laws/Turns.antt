@@ -1,9 +1,9 @@
 -- Sums of n integers, and of those round a ring: they are the same from any place on.
-use Rattle.std.proofs.Common.{◌≡◌, ℕ, zero, suc, ◌+◌, [], ◌∷◌, map, ℤ, pos, negsuc, ◌+ℤ◌, ◌-ℤ◌, refl, sym, ap, ◌∙◌, arith}
+use Rattle.std.proofs.Common.{◌≡◌, ℕ, zero, suc, ◌+◌, [], ◌∷◌, map, ℤ, pos, negsuc, ◌+ℤ◌, ◌-ℤ◌, ◌*ℤ◌, refl, sym, ap, ◌∙◌, arith}
 use Rattle.word_image.proofs.Common.{range_with_len, ints, range-more, map-append}
 use Rattle.kept_sums.specs.Sums.{sum_at, sum_to}
 use Rattle.kept_sums.proofs.laws.Sums.{sum_at-snoc}
-use Rattle.kept_sums.proofs.laws.Spans.{sum_to-agree}
+use Rattle.kept_sums.proofs.laws.Spans.{sum_to-agree, sum_to-sub}
 
 -- the sum over a list of n values
 pub sum_at-map : (weight : ℕ → ℤ) (f : ℕ → ℕ) (n : ℕ) → sum_at weight (map f (range_with_len 0 n)) ≡ sum_to n (λ i. weight (f i))
@@ -17,11 +17,11 @@ sum_at-map weight f (suc n) =
     ∙ sum_at-snoc weight (map f (range_with_len 0 n)) (f n)
     ∙ ap (λ (x : ℤ). x +ℤ weight (f n)) (sum_at-map weight f n)
 
--- the sum of differences
-pub sum_to-sub : (n : ℕ) (f g : ℕ → ℤ) → sum_to n (λ i. f i -ℤ g i) ≡ sum_to n f -ℤ sum_to n g
+-- the sum of n times one number
+pub sum_to-constant : (n : ℕ) (c : ℤ) → sum_to n (λ i. c) ≡ pos n *ℤ c
 unfolding sum_to
-sum_to-sub zero f g = omega (arith, ints)
-sum_to-sub (suc n) f g = let rest = sum_to-sub n f g in omega (arith, ints)
+sum_to-constant zero c = omega (arith, ints)
+sum_to-constant (suc n) c = omega (arith, ints, sum_to-constant n c)
 
 -- the first n numbers and those after them
 pub sum_to-split : (m n : ℕ) (f : ℕ → ℤ) → sum_to (m + n) f ≡ sum_to m f +ℤ sum_to n (λ i. f (m + i))
@@ -38,9 +38,7 @@ unfolding sum_to
 sum_to-steps zero f = omega (arith, ints)
 sum_to-steps (suc n) f =
     let e : n + 1 ≡ suc n = omega arith in
-    let last = ap f e in
-    let rest = sum_to-steps n f in
-    omega (arith, ints)
+    omega (arith, ints, ap f e, sum_to-steps n f)
 
 -- n + 1 terms are the others and the last, or the first and the others
 pub sum_to-ends : (n : ℕ) (f : ℕ → ℤ) → sum_to n f +ℤ f n ≡ f 0 +ℤ sum_to n (λ i. f (i + 1))

@@ -1,19 +1,19 @@
 -- Windows of m + range - 1 letters by their values, and the fluxes of what they add.
-use Rattle.std.proofs.Common.{◌≡◌, ℕ, zero, suc, ◌+◌, ◌-◌, ◌*◌, ◌/◌, ◌%◌, ◌^◌, ◌<◌, ◌≤◌, ◌≢◌, List, length, take, drop, get_or, get_or-set_other, set, replicate, slice_index, ℤ, pos, ◌-ℤ◌, sym, ap, ap₂, subst, ◌∙◌, arith, mod-lt, length-drop, unsigned_abs}
+use Rattle.std.proofs.Common.{◌≡◌, ℕ, zero, suc, ◌+◌, ◌-◌, ◌*◌, ◌/◌, ◌%◌, ◌^◌, ◌<◌, ◌≤◌, ◌≢◌, List, length, take, drop, get_or, get_or-set_other, set, replicate, slice_index, ℤ, pos, ◌-ℤ◌, refl, sym, ap, ap₂, subst, ◌∙◌, arith, mod-lt, length-drop, unsigned_abs}
 use Rattle.std.proofs.Math.Nat.{pow-suc, mul-le-mul, mul-le-mul_left, div-lt_iff_lt-mul, mod-eq_of_lt}
 use Rattle.word_image.proofs.Common.{pow-zero, div-lt_self, ints, length-replicate, All-take, All-drop, LocalRule, IsRule, IsWord, value, word_of, image, get_or-image, IsWord-image, length-image, value-below, value-take_more, value-take-below, value-take, value-drop, length-word_of, IsWord-word_of, value-word_of, word_of-value}
-use Rattle.std.proofs.lemmas.Nat.{pow-add}
+use Rattle.std.proofs.lemmas.Nat.{pow-add, div_below}
 use Rattle.std.proofs.lemmas.List.{length-take-le, length-set, take_all}
 use Rattle.kept_sums.specs.Rows.{at}
-use Rattle.kept_sums.specs.Fluxes.{IsFluxOf, window_gain, AreGains, IsFlowBy}
-use Rattle.kept_sums.proofs.laws.Ranges.{power-positive}
+use Rattle.kept_sums.specs.Fluxes.{IsFluxOf, window_gain, IsFlowBy}
+use Rattle.kept_sums.proofs.Casts.{abs-sub}
+use Rattle.kept_sums.proofs.laws.Ranges.{power-positive, pow-next}
 use Rattle.kept_sums.proofs.laws.Parts.{put, at-replicate}
 use Rattle.kept_sums.proofs.laws.Trivials.{ends_of_word, same_of_step}
 
 -- there are at most 256 windows
 pub windows-most : {r : LocalRule} → IsRule r → (range : ℕ) → 1 ≤ range → r.states ^ range ≤ 16 → r.states ^ (r.width + range - 1) ≤ 256
 windows-most {r} rule range some few =
-    let wide = rule.shape.least_width in
     let e : r.width + range - 1 ≡ r.width - 1 + range = omega arith in
     let split : r.states ^ (r.width + range - 1) ≡ r.states ^ (r.width - 1) * r.states ^ range = ap (λ n. r.states ^ n) e ∙ pow-add r.states (r.width - 1) range in
     let product : r.states ^ (r.width - 1) * r.states ^ range ≤ 16 * 16 = mul-le-mul rule.shape.most_nodes few in
@@ -21,11 +21,7 @@ windows-most {r} rule range some few =
 
 -- one letter fewer: half as many words at most
 pub words-half : (k n : ℕ) → 2 ≤ k → k ^ (n + 1) ≤ 256 → k ^ n ≤ 128
-words-half k n states few =
-    let e : n + 1 ≡ suc n = omega arith in
-    let split : k ^ (n + 1) ≡ k ^ n * k = ap (λ j. k ^ j) e ∙ pow-suc k n in
-    let twice : k ^ n * 2 ≤ k ^ n * k = mul-le-mul_left (k ^ n) states in
-    omega (arith, split, twice, few)
+words-half k n states few = omega (arith, pow-next k n, mul-le-mul_left (k ^ n) states, few)
 
 -- the first letters of a window
 pub value-front : (k m range v : ℕ) → 1 ≤ m → v < k ^ (m + range - 1) → value k (take range (word_of k (m + range - 1) v)) ≡ v / k ^ (m - 1)
@@ -108,58 +104,53 @@ image-whole r rule range i v e few =
     let below : value r.states w < r.states ^ range = subst (λ n. value r.states w < r.states ^ n) long (value-below r.states w (IsWord-image rule (word_of r.states (r.width + range - 1) v))) in
     (take_all i w (omega arith), omega arith)
 
+-- the values of the two ends of a window
+ends_of_window : {r : LocalRule} → IsRule r → (range : ℕ) → 1 ≤ range → (w : List ℕ) → IsWord r.states w → length w + 1 ≡ r.width + range
+    → (value r.states (take (length w - 1) w) ≡ value r.states w / r.states) × (value r.states (drop 1 w) ≡ value r.states w % r.states ^ (r.width + range - 2))
+ends_of_window {r} rule range some w word long =
+    let less : length w - 1 ≡ r.width + range - 2 = omega arith in
+    let ends = ends_of_word r.states (length w) w (omega arith) word refl in
+    (ends.0, ends.1 ∙ ap (λ n. value r.states w % r.states ^ n) less)
+
 -- a flux is one by the values of the windows
-pub IsFlowBy-flux : {r : LocalRule} {range : ℕ} {weight phi : ℕ → ℤ} {gains : List ℤ} → IsRule r → 1 ≤ range → AreGains r range weight gains → IsFluxOf range weight r phi
+pub IsFlowBy-flux : {r : LocalRule} {range : ℕ} {weight phi gains : ℕ → ℤ} → IsRule r → 1 ≤ range → ((v : ℕ) → v < r.states ^ (r.width + range - 1) → gains v ≡ window_gain r range weight (word_of r.states (r.width + range - 1) v)) → IsFluxOf range weight r phi
     → IsFlowBy r.states (r.width + range - 2) gains phi
-IsFlowBy-flux {r} {range} {weight} {phi} {gains} rule some are flux = record {
+IsFlowBy-flux {r} {range} {weight} {phi} rule some are flux = record {
   flows = λ v l.
-      let wide = rule.shape.least_width in
       let k : ℕ = r.states in
       let n : ℕ = r.width + range - 1 in
       let e : r.width + range - 2 + 1 ≡ n = omega arith in
-      let shorter : n - 1 ≡ r.width + range - 2 = omega arith in
       let below : v < k ^ n = subst (λ j. v < k ^ j) e l in
-      let w : List ℕ = word_of k n v in
-      let long : length w ≡ n = length-word_of k n v in
-      let cut : length w - 1 ≡ n - 1 = omega arith in
-      let word : IsWord k w = IsWord-word_of k n v below in
-      let is : value k w ≡ v = value-word_of k n v below in
-      let ends = ends_of_word k n w (omega arith) word long in
-      are.windows v below
-      ∙ flux.flows w word (omega arith)
-      ∙ ap₂ (λ (x y : ℕ). phi x -ℤ phi y) (ap (λ j. value k (take j w)) cut ∙ ends.0 ∙ ap (λ x. x / k) is) (ends.1 ∙ ap₂ (λ (x j : ℕ). x % k ^ j) is shorter);
+      let word : IsWord k (word_of k n v) = IsWord-word_of k n v below in
+      let long : length (word_of k n v) + 1 ≡ r.width + range = omega (arith, length-word_of k n v) in
+      let is : value k (word_of k n v) ≡ v = value-word_of k n v below in
+      let ends = ends_of_window rule range some (word_of k n v) word long in
+      are v below ∙ flux.flows (word_of k n v) word long ∙ ap₂ (λ (x y : ℕ). phi x -ℤ phi y) (ends.0 ∙ ap (λ x. x / k) is) (ends.1 ∙ ap (λ x. x % k ^ (r.width + range - 2)) is);
 }
 
 -- a flux of words is one by the values of the windows
-pub IsFluxOf-IsFlowBy : {r : LocalRule} {range : ℕ} {weight phi : ℕ → ℤ} {gains : List ℤ} → IsRule r → 1 ≤ range → AreGains r range weight gains → IsFlowBy r.states (r.width + range - 2) gains phi
+pub IsFluxOf-IsFlowBy : {r : LocalRule} {range : ℕ} {weight phi gains : ℕ → ℤ} → IsRule r → 1 ≤ range → ((v : ℕ) → v < r.states ^ (r.width + range - 1) → gains v ≡ window_gain r range weight (word_of r.states (r.width + range - 1) v)) → IsFlowBy r.states (r.width + range - 2) gains phi
     → IsFluxOf range weight r phi
-IsFluxOf-IsFlowBy {r} {range} {weight} {phi} {gains} rule some are by = record {
+IsFluxOf-IsFlowBy {r} {range} {weight} {phi} rule some are by = record {
   flows = λ w word long.
-      let wide = rule.shape.least_width in
       let k : ℕ = r.states in
-      let n : ℕ = r.width + range - 1 in
-      let e : n ≡ r.width + range - 2 + 1 = omega arith in
-      let shorter : n - 1 ≡ r.width + range - 2 = omega arith in
-      let whole : length w ≡ n = omega arith in
-      let cut : length w - 1 ≡ n - 1 = omega arith in
-      let below : value k w < k ^ n = subst (λ j. value k w < k ^ j) whole (value-below k w word) in
-      let same : word_of k n (value k w) ≡ w = ap (λ j. word_of k j (value k w)) (sym whole) ∙ word_of-value k w word in
-      let ends = ends_of_word k n w (omega arith) word whole in
+      let whole : length w ≡ r.width + range - 1 = omega arith in
+      let shorter : length w ≡ r.width + range - 2 + 1 = omega arith in
+      let below : value k w < k ^ length w = value-below k w word in
+      let same : word_of k (r.width + range - 1) (value k w) ≡ w = ap (λ j. word_of k j (value k w)) (sym whole) ∙ word_of-value k w word in
+      let ends = ends_of_window rule range some w word long in
       ap (window_gain r range weight) (sym same)
-      ∙ sym (are.windows (value k w) below)
-      ∙ by.flows (value k w) (subst (λ j. value k w < k ^ j) e below)
-      ∙ ap₂ (λ (x y : ℕ). phi x -ℤ phi y) (sym (ap (λ j. value k (take j w)) cut ∙ ends.0)) (sym (ends.1 ∙ ap (λ j. value k w % k ^ j) shorter));
+      ∙ sym (are (value k w) (subst (λ j. value k w < k ^ j) whole below))
+      ∙ by.flows (value k w) (subst (λ j. value k w < k ^ j) shorter below)
+      ∙ ap₂ (λ (x y : ℕ). phi x -ℤ phi y) (sym ends.0) (sym ends.1);
 }
 
 -- the words at the two ends of a window
 pub window_ends : (k n v : ℕ) → 1 ≤ k → v < k ^ (n + 1) → (v / k < k ^ n) × (v % k ^ n < k ^ n)
-window_ends k n v some l =
-    let e : n + 1 ≡ suc n = omega arith in
-    let split : k ^ (n + 1) ≡ k ^ n * k = ap (λ j. k ^ j) e ∙ pow-suc k n in
-    ((div-lt_iff_lt-mul some).1 (subst (λ j. v < j) split l), mod-lt v (power-positive k n some))
+window_ends k n v some l = (div_below v k (k ^ n) some (omega (arith, l, pow-next k n)), mod-lt v (power-positive k n some))
 
 -- numbers that differ from a flux by one number are a flux
-pub IsFlowBy-less : {k n : ℕ} {gains : List ℤ} {phi psi : ℕ → ℤ} (c : ℤ) → 1 ≤ k → ((v : ℕ) → v < k ^ n → psi v ≡ phi v -ℤ c) → IsFlowBy k n gains phi → IsFlowBy k n gains psi
+pub IsFlowBy-less : {k n : ℕ} {gains phi psi : ℕ → ℤ} (c : ℤ) → 1 ≤ k → ((v : ℕ) → v < k ^ n → psi v ≡ phi v -ℤ c) → IsFlowBy k n gains phi → IsFlowBy k n gains psi
 IsFlowBy-less {k} {n} c some less by = record {
   flows = λ v l.
       let ends = window_ends k n v some l in
@@ -170,48 +161,24 @@ IsFlowBy-less {k} {n} c some less by = record {
 }
 
 -- the number of a word by that of its letters but for the last
-pub IsFlowBy-back : {k n : ℕ} {gains : List ℤ} {phi : ℕ → ℤ} → 1 ≤ k → IsFlowBy k n gains phi → (v : ℕ) → v < k ^ n → at gains v ≡ phi (v / k) -ℤ phi v
-IsFlowBy-back {k} {n} {gains} {phi} some by v l =
-    let e : n + 1 ≡ suc n = omega arith in
-    let split : k ^ (n + 1) ≡ k ^ n * k = ap (λ j. k ^ j) e ∙ pow-suc k n in
-    let grows : k ^ n * 1 ≤ k ^ n * k = mul-le-mul_left (k ^ n) some in
-    by.flows v (omega (arith, split, grows, l)) ∙ ap (λ x. phi (v / k) -ℤ phi x) (mod-eq_of_lt l)
+pub IsFlowBy-back : {k n : ℕ} {gains phi : ℕ → ℤ} → 1 ≤ k → IsFlowBy k n gains phi → (v : ℕ) → v < k ^ n → gains v ≡ phi (v / k) -ℤ phi v
+IsFlowBy-back {k} {n} {gains} {phi} some by v l = by.flows v (omega (arith, pow-next k n, mul-le-mul_left (k ^ n) some, l)) ∙ ap (λ x. phi (v / k) -ℤ phi x) (mod-eq_of_lt l)
 
 -- two fluxes differ by one number
 pub IsFluxOf-one : {r : LocalRule} {range : ℕ} {weight phi psi : ℕ → ℤ} → IsRule r → 1 ≤ range → IsFluxOf range weight r phi → IsFluxOf range weight r psi
     → (v : ℕ) → v < r.states ^ (r.width + range - 2) → (phi v -ℤ phi 0) ≡ psi v -ℤ psi 0
 IsFluxOf-one {r} {range} {weight} {phi} {psi} rule some one other v l =
-    let wide = rule.shape.least_width in
     let states = rule.shape.least_states in
-    let k : ℕ = r.states in
     let d : ℕ = r.width + range - 2 in
-    let n : ℕ = r.width + range - 1 in
-    let next : n ≡ suc d = omega arith in
-    let shorter : n - 1 ≡ d = omega arith in
-    let split : k ^ n ≡ k ^ d * k = ap (λ j. k ^ j) next ∙ pow-suc k d in
-    let step : (u : ℕ) → u < k ^ d → (phi u -ℤ psi u) ≡ phi (u / k) -ℤ psi (u / k) = λ u h.
-    let grows : k ^ d * 1 ≤ k ^ d * k = mul-le-mul_left (k ^ d) (omega arith) in
-    let below : u < k ^ n = omega (arith, split, grows, h) in
-    let w : List ℕ = word_of k n u in
-    let long : length w ≡ n = length-word_of k n u in
-    let cut : length w - 1 ≡ n - 1 = omega arith in
-    let word : IsWord k w = IsWord-word_of k n u below in
-    let is : value k w ≡ u = value-word_of k n u below in
-    let ends = ends_of_word k n w (omega arith) word long in
-    let first : value k (take (length w - 1) w) ≡ u / k = ap (λ j. value k (take j w)) cut ∙ ends.0 ∙ ap (λ x. x / k) is in
-    let last : value k (drop 1 w) ≡ u = ends.1 ∙ ap₂ (λ (x j : ℕ). x % k ^ j) is shorter ∙ mod-eq_of_lt h in
-    let flows : (phi (u / k) -ℤ phi u) ≡ psi (u / k) -ℤ psi u =
-    sym (one.flows w word (omega arith) ∙ ap₂ (λ (x y : ℕ). phi x -ℤ phi y) first last)
-    ∙ other.flows w word (omega arith)
-    ∙ ap₂ (λ (x y : ℕ). psi x -ℤ psi y) first last in
-    omega (arith, ints, flows) in
-    let same : (phi v -ℤ psi v) ≡ phi 0 -ℤ psi 0 = same_of_step k (λ u. phi u -ℤ psi u) d d (omega arith) step v l in
-    omega (arith, ints, same)
+    let gains : ℕ → ℤ = λ u. window_gain r range weight (word_of r.states (r.width + range - 1) u) in
+    let step : (u : ℕ) → u < r.states ^ d → (phi u -ℤ psi u) ≡ phi (u / r.states) -ℤ psi (u / r.states) = λ u h.
+    omega (arith, ints, IsFlowBy-back {gains = gains} (omega arith) (IsFlowBy-flux rule some (λ _ _. refl) one) u h, IsFlowBy-back {gains = gains} (omega arith) (IsFlowBy-flux rule some (λ _ _. refl) other) u h) in
+    omega (arith, ints, same_of_step r.states (λ u. phi u -ℤ psi u) d d (omega arith) (omega arith) step v l)
 
 -- the first words have the numbers of any flux less that of the word of letters 0, and the others zeros
 pub record AreNumbers (k n word : ℕ) (gains flux : List ℤ) : Type 0 where
   pub many : length flux ≡ 128
-  pub done : (phi : ℕ → ℤ) → IsFlowBy k n gains phi → (v : ℕ) → v < word → at flux v ≡ phi v -ℤ phi 0
+  pub done : (phi : ℕ → ℤ) → IsFlowBy k n (at gains) phi → (v : ℕ) → v < word → at flux v ≡ phi v -ℤ phi 0
   pub bounds : (v j : ℕ) → v < word → v < k ^ j → unsigned_abs (at flux v) ≤ j * 2 ^ 57
   pub rest : (v : ℕ) → word ≤ v → at flux v ≡ pos 0
 
@@ -229,11 +196,8 @@ number_small : (k v j : ℕ) (gains flux : List ℤ) (x : ℤ) → 2 ≤ k → 1
     → ((u i : ℕ) → u < v → u < k ^ i → unsigned_abs (at flux u) ≤ i * 2 ^ 57) → unsigned_abs x ≤ j * 2 ^ 57
 number_small k v zero gains flux x states some l is small bounds = let one = pow-zero k in absurd (omega arith)
 number_small k v (suc i) gains flux x states some l is small bounds =
-    let below : v / k < k ^ i = (div-lt_iff_lt-mul (omega arith)).1 (subst (λ n. v < n) (pow-suc k i) l) in
-    let before : unsigned_abs (at flux (v / k)) ≤ i * 2 ^ 57 = bounds (v / k) i (div-lt_self some states) below in
-    let sum : unsigned_abs (at flux (v / k) -ℤ at gains v) ≤ unsigned_abs (at flux (v / k)) + unsigned_abs (at gains v) = omega (arith, ints) in
-    let here : unsigned_abs x ≡ unsigned_abs (at flux (v / k) -ℤ at gains v) = ap unsigned_abs is in
-    omega arith
+    let before = bounds (v / k) i (div-lt_self some states) (div_below v k (k ^ i) (omega arith) (omega (arith, l, pow-suc k i))) in
+    omega (arith, abs-sub (at flux (v / k)) (at gains v), ap unsigned_abs is, before, small)
 
 -- the number of the next word is that of its letters but for the last less what the window adds between them
 pub AreNumbers-next : (k n v place : ℕ) (gains flux : List ℤ) (x : ℤ) → 2 ≤ k → 1 ≤ v → v < k ^ n → v < 128 → place ≡ v → unsigned_abs (at gains v) ≤ 2 ^ 57 → x ≡ at flux (v / k) -ℤ at gains v

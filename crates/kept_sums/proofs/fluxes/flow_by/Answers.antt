@@ -1,6 +1,7 @@
-use Rattle.std.proofs.Common.{◌≡◌, ℕ, suc, ◌+◌, ◌*◌, ◌/◌, ◌%◌, ◌^◌, ◌<◌, ◌-ℤ◌, to_z, w64, below_more, sym, ap, ap₂, ◌∙◌, arith, pow-suc}
+use Rattle.std.proofs.Common.{◌≡◌, ℕ, ◌+◌, ◌*◌, ◌/◌, ◌%◌, ◌^◌, ◌<◌, ◌-ℤ◌, to_z, w64, below_more, sym, ap, ap₂, ◌∙◌, arith}
 use Rattle.kept_sums.specs.Rows.{at}
 use Rattle.kept_sums.proofs.Casts.{back, back-sub}
+use Rattle.kept_sums.proofs.laws.Ranges.{pow-next}
 use Rattle.kept_sums.proofs.laws.Windows.{words-half, window_ends}
 use Rattle.kept_sums.proofs.fluxes.flow_by.Goals as goal
 
@@ -13,12 +14,9 @@ loop-window-preserved c =
     let gains = c.args.gains.now in
     let flux = c.args.flux.now in
     let size : c.pow-words.result ≡ k ^ n = c.pow-words.ensures ∙ ap (λ j. k ^ j) c.from.ensures in
-    let split : k ^ (n + 1) ≡ k ^ n * k = let e : n + 1 ≡ suc n = omega arith in ap (λ j. k ^ j) e ∙ pow-suc k n in
-    let product : c.pow-words.result * k ≡ k ^ n * k = ap (λ j. j * k) size in
-    let within : v < k ^ (n + 1) = omega (arith, split, product) in
+    let within : v < k ^ (n + 1) = omega (arith, pow-next k n, ap (λ j. j * k) size) in
     let ends = window_ends k n v (omega arith) within in
     let half = words-half k n states c.requires.few in
-    let few = c.requires.few in
     let first : c.from-in-loop-window.result ≡ v / k = c.from-in-loop-window.ensures in
     let last : c.from-in-loop-window-2.result ≡ v % k ^ n = c.from-in-loop-window-2.ensures ∙ ap (λ j. v % j) size in
     let whole : c.from-in-loop-window-3.result ≡ v = c.from-in-loop-window-3.ensures in

@@ -21,7 +21,6 @@ sizes c =
     let k = c.args.k in
     let v = c.loop-word.word in
     let half = words-half k c.args.letters c.requires.states c.requires.few in
-    let states = c.requires.states in
     let all = c.pow-word-end.ensures ∙ ap₂ (λ (x y : ℕ). x ^ y) refl c.from.ensures in
     let less : v / k < v = div-lt_self (omega arith) (omega arith) in
     let one = c.from-in-loop-word.ensures in
@@ -48,15 +47,9 @@ loop-word-preserved c =
     ∙ ap₂ (λ (x y : ℕ). at c.loop-word.flux x -ℤ at c.args.gains.now y) c.from-in-loop-word.ensures c.from-in-loop-word-2.ensures)
     c.loop-word.invariant
 
-pub returns-clause-numbers : goal.returns-clause-numbers
-returns-clause-numbers c = λ phi by v l.
-    let all = c.pow-word-end.ensures ∙ ap₂ (λ (x y : ℕ). x ^ y) refl c.from.ensures in
-    c.loop-word.invariant.done phi by v (omega arith)
-
 pub returns-clause-bounds : goal.returns-clause-bounds
 returns-clause-bounds c = λ v l.
     let all = c.pow-word-end.ensures ∙ ap₂ (λ (x y : ℕ). x ^ y) refl c.from.ensures in
-    let short = c.requires.short in
     let some = power-positive c.args.k c.args.letters (let states = c.requires.states in omega arith) in
     ⊎_elim
     (λ (done : v < c.loop-word.word). let small = c.loop-word.invariant.bounds v c.args.letters done (omega arith) in omega arith)
@@ -64,9 +57,7 @@ returns-clause-bounds c = λ v l.
     (cases_lt v c.loop-word.word)
 
 pub returns-clause-first : goal.returns-clause-first
-returns-clause-first c =
-    let small = c.loop-word.invariant.bounds 0 0 (omega arith) (omega (arith, pow-zero c.args.k)) in
-    omega (arith, ints, small)
+returns-clause-first c = omega (arith, ints, c.loop-word.invariant.bounds 0 0 (omega arith) (omega (arith, pow-zero c.args.k)))
 
 pub returns-clause-ends : goal.returns-clause-ends
 returns-clause-ends c = λ v from l.

@@ -1,7 +1,6 @@
-use Rattle.std.proofs.Common.{◌<◌, ◌≤◌, length, ⊎_elim, arith}
-use Rattle.word_image.proofs.Common.{cases_lt}
+use Rattle.std.proofs.Common.{arith}
 use Rattle.kept_sums.specs.Spans.{entry}
-use Rattle.kept_sums.proofs.laws.Densities.{IsKept-short_rings}
+use Rattle.kept_sums.proofs.laws.Flows.{IsKept-short_rings}
 use Rattle.kept_sums.proofs.laws.Ranges.{short}
 use Rattle.kept_sums.proofs.laws.Starts.{IsKept-rows}
 use Rattle.kept_sums.proofs.kept.kept_sums.Goals as goal
@@ -14,11 +13,8 @@ overflow_mul-count-end c = omega (arith, short c.m.ensures.rule c.args.range c.r
 
 pub returns : goal.returns
 returns c =
-    let r = c.args.rule.now in
     let rule = c.m.ensures.rule in
     let (stage, keep) = c.loop-count.invariant in
-    let wide = rule.shape.least_width in
-    let width = c.m.ensures.width in
     record {
       stage = stage;
       kept = λ i l. IsKept-short_rings rule c.args.range (entry _ i) c.requires.some (λ p ring fits. keep p ring (omega arith) i l);
@@ -26,21 +22,8 @@ returns c =
 
 pub returns-then-are_kept : goal.returns-then-are_kept
 returns-then-are_kept c =
-    let r = c.args.rule.now in
     let (stage, keep) = c.loop-count.invariant in
     record { stage = stage; kept = IsKept-rows c.m.ensures.rule c.requires.few stage (c.are_kept.ensures c.if-are_kept.true) }
-
-pub loop-count-preserved : goal.loop-count-preserved
-loop-count-preserved c =
-    let (stage, keep) = c.loop-count.invariant in
-    let made = c.narrowed_by_rings-sums.ensures in (
-      made.stage,
-      λ q ring l.
-          ⊎_elim
-          (λ (less : length q < c.loop-count.count). made.others q ring (keep q ring less))
-          (λ (most : c.loop-count.count ≤ length q). made.keep q ring (omega arith))
-          (cases_lt (length q) c.loop-count.count),
-    )
 
 pub narrowed_by_rings-sums-requires-clause-most : goal.narrowed_by_rings-sums-requires-clause-most
 narrowed_by_rings-sums-requires-clause-most c = omega (arith, short c.m.ensures.rule c.args.range c.requires.few)

@@ -1,5 +1,5 @@
-use Rattle.std.proofs.Common.{◌≡◌, ℕ, ◌+◌, ◌^◌, ◌<◌, ◌≤◌, List, length, take, ℤ, sym, ap, ap₂, subst, ◌∙◌, ⊎_elim, arith}
-use Rattle.word_image.proofs.Common.{pow-le-pow_left, pow-le-pow_right, cases_eq, LocalRule, value, word_of, IsRing, value-below, value-injective, length-word_of, IsWord-word_of, value-word_of}
+use Rattle.std.proofs.Common.{◌≡◌, ℕ, ◌^◌, ◌<◌, ◌≤◌, take, below_more, sym, ap, ap₂, subst, ◌∙◌, arith}
+use Rattle.word_image.proofs.Common.{pow-le-pow_left, pow-le-pow_right, value, word_of, IsRing, value-below, length-word_of, IsWord-word_of, word_of-value}
 use Rattle.kept_sums.specs.Stages.{RowsKeep}
 use Rattle.kept_sums.proofs.kept.narrowed_by_rings.Goals.{After-pow-number-end, After-word_with-letters}
 use Rattle.kept_sums.proofs.kept.narrowed_by_rings.Goals as goal
@@ -13,22 +13,8 @@ pow-number-end-requires c =
     rw (c.from.ensures, c.from-2.ensures, c.k-k.ensures.states) (omega arith)
 
 -- the word of a number is a ring
-ring_of : (k n v : ℕ) (w : List ℕ) → 1 ≤ n → v < k ^ n → w ≡ word_of k n v → IsRing k w
-ring_of k n v w some l same = subst (IsRing k) (sym same) (record { word = IsWord-word_of k n v l; some = omega (arith, length-word_of k n v) })
-
--- the sums of the rings up to a word are kept where those before it and that of the word are
-kept_more : (r : LocalRule) (range n i : ℕ) (rows news : List (List ℤ)) (w : List ℕ) → i < r.states ^ n → w ≡ word_of r.states n i → RowsKeep r range news w
-    → ((q : List ℕ) → IsRing r.states q → RowsKeep r range rows q → RowsKeep r range news q)
-    → ((q : List ℕ) → IsRing r.states q → length q ≡ n → value r.states q < i → RowsKeep r range rows q)
-    → (q : List ℕ) → IsRing r.states q → length q ≡ n → value r.states q < i + 1 → RowsKeep r range news q
-kept_more r range n i rows news w within same keeps others before q ring long l =
-    ⊎_elim
-    (λ here.
-    let word : word_of r.states n i ≡ q =
-    value-injective r.states (word_of r.states n i) q (IsWord-word_of r.states n i within) ring.word (length-word_of r.states n i ∙ sym long) (value-word_of r.states n i within ∙ sym here) in
-    subst (RowsKeep r range news) (same ∙ word) keeps)
-    (λ other. others q ring (before q ring long (omega (arith, other))))
-    (cases_eq (value r.states q) i)
+ring_of : (k n v : ℕ) → 1 ≤ n → v < k ^ n → IsRing k (word_of k n v)
+ring_of k n v some l = record { word = IsWord-word_of k n v l; some = omega (arith, length-word_of k n v) }
 
 -- there are as many numbers as rings
 total : (c : After-pow-number-end) → c.pow-number-end.result ≡ c.args.rule.now.states ^ c.args.count
@@ -38,19 +24,21 @@ total c = c.pow-number-end.ensures ∙ ap₂ (λ (i j : ℕ). i ^ j) (c.from.ens
 letters_are : (c : After-word_with-letters) → take c.args.count c.word_with-letters.result ≡ word_of c.args.rule.now.states c.args.count c.loop-number.number
 letters_are c = c.word_with-letters.ensures ∙ ap (λ k. word_of k c.args.count c.loop-number.number) c.k-k.ensures.states
 
-pub narrowed_by_ring-sums-requires-clause-ring : goal.narrowed_by_ring-sums-requires-clause-ring
-narrowed_by_ring-sums-requires-clause-ring c =
-    let all = total (goal.at.narrowed_by_ring-sums-requires-clause-ring c).After-pow-number-end in
-    ring_of c.args.rule.now.states c.args.count c.loop-number.number _ c.requires.some (omega arith) (letters_are (goal.at.narrowed_by_ring-sums-requires-clause-ring c).After-word_with-letters)
+pub narrow_by_ring-requires-clause-ring : goal.narrow_by_ring-requires-clause-ring
+narrow_by_ring-requires-clause-ring c =
+    let all = total (goal.at.narrow_by_ring-requires-clause-ring c).After-pow-number-end in
+    subst (IsRing c.args.rule.now.states) (sym (letters_are (goal.at.narrow_by_ring-requires-clause-ring c).After-word_with-letters)) (ring_of _ _ _ c.requires.some (omega arith))
 
 pub loop-number-preserved : goal.loop-number-preserved
 loop-number-preserved c =
+    let r = c.args.rule.now in
     let all = total (goal.at.loop-number-preserved c).After-pow-number-end in
     let so_far = c.loop-number.invariant in
-    let made = c.narrowed_by_ring-sums.ensures in
+    let made = c.narrow_by_ring.ensures in
     record {
       stage = made.stage;
-      keep = kept_more c.args.rule.now c.args.range c.args.count c.loop-number.number _ _ _ (omega arith) (letters_are (goal.at.loop-number-preserved c).After-word_with-letters) made.keep made.others so_far.keep;
+      keep = below_more _ _ (λ v l. made.others (word_of r.states c.args.count v) (ring_of r.states c.args.count v c.requires.some (omega arith)) (so_far.keep v l))
+          (subst (RowsKeep r c.args.range _) (letters_are (goal.at.loop-number-preserved c).After-word_with-letters) made.keep);
       others = λ q ring keep. made.others q ring (so_far.others q ring keep);
     }
 
@@ -62,6 +50,6 @@ returns c =
       stage = c.loop-number.invariant.stage;
       keep = λ q ring long.
           let below : value k q < k ^ c.args.count = subst (λ n. value k q < k ^ n) long (value-below k q ring.word) in
-          c.loop-number.invariant.keep q ring long (omega arith);
+          subst (RowsKeep c.args.rule.now c.args.range _) (ap (λ n. word_of k n (value k q)) (sym long) ∙ word_of-value k q ring.word) (c.loop-number.invariant.keep (value k q) (omega arith));
       others = c.loop-number.invariant.others;
     }

@@ -1,5 +1,5 @@
-use Rattle.std.proofs.Common.{◌≡◌, ℕ, ◌<◌, List, length}
-use Rattle.word_image.proofs.Common.{value, IsRing}
+use Rattle.std.proofs.Common.{ℕ, ◌<◌, List}
+use Rattle.word_image.proofs.Common.{word_of, IsRing}
 use Rattle.kept_sums.specs.Stages.{IsStage, RowsKeep}
 use Rattle.kept_sums.proofs.kept.narrowed_by_rings.Given as goal
 
@@ -7,6 +7,6 @@ use Rattle.kept_sums.proofs.kept.narrowed_by_rings.Given as goal
 abbrev pub invariant-loop-number : goal.invariant-loop-number
 invariant-loop-number l = record {
   stage : IsStage l.rule l.range l.sums.rows l.sums.counts l.sums.rings;
-  keep : (q : List ℕ) → IsRing l.rule.states q → length q ≡ l.count → value l.rule.states q < l.number → RowsKeep l.rule l.range l.sums.rows q;
+  keep : (v : ℕ) → v < l.number → RowsKeep l.rule l.range l.sums.rows (word_of l.rule.states l.count v);
   others : (q : List ℕ) → IsRing l.rule.states q → RowsKeep l.rule l.range l.fn.sums.rows q → RowsKeep l.rule l.range l.sums.rows q;
 }

@@ -12,22 +12,17 @@ pow-power-requires c =
 
 -- the next lower power
 lower : (k base power n m : ℕ) → 1 ≤ k → base ≡ k → power ≡ k ^ n → n ≡ suc m → power / base ≡ k ^ m
-lower k base power n m some same is next =
-    ap₂ (λ (i j : ℕ). i / j) (is ∙ ap (λ j. k ^ j) next ∙ pow-suc k m) same ∙ mul-div_cancel (k ^ m) some
+lower k base power n m some same is next = ap₂ (λ (i j : ℕ). i / j) (is ∙ ap (λ j. k ^ j) next ∙ pow-suc k m) same ∙ mul-div_cancel (k ^ m) some
 
 pub nonzero_div-letters : goal.nonzero_div-letters
 nonzero_div-letters c =
     let m = c.args.count - (c.loop-place.place + 1) in
-    let power = lower c.args.k c.from-base.result c.loop-place.power _ m c.requires.some c.from-base.ensures c.loop-place.invariant.1 (omega arith) in
-    let some = power-positive c.args.k m c.requires.some in
-    omega (arith, power, some)
+    omega (arith, lower c.args.k c.from-base.result c.loop-place.power _ m c.requires.some c.from-base.ensures c.loop-place.invariant.1 (omega arith), power-positive c.args.k m c.requires.some)
 
 pub nonzero_rem-rest : goal.nonzero_rem-rest
 nonzero_rem-rest c =
     let m = c.args.count - (c.loop-place.place + 1) in
-    let power = lower c.args.k c.from-base.result c.loop-place.power _ m c.requires.some c.from-base.ensures c.loop-place.invariant.1 (omega arith) in
-    let some = power-positive c.args.k m c.requires.some in
-    omega (arith, power, some)
+    omega (arith, lower c.args.k c.from-base.result c.loop-place.power _ m c.requires.some c.from-base.ensures c.loop-place.invariant.1 (omega arith), power-positive c.args.k m c.requires.some)
 
 -- one letter more
 word_more : (k n m place a rest : ℕ) (letters word : List ℕ) → place < length letters → n ≡ suc m → a ≡ rest / k ^ m → take place letters ++ word_of k n rest ≡ word

@@ -1,5 +1,5 @@
-use Rattle.std.proofs.Common.{◌≡◌, ◌^◌, below_more, ap, subst, sym, ◌∙◌, arith, unsigned_abs}
-use Rattle.std.proofs.lemmas.Nat.Gcd.{dvd_trans, dvd-zero}
+use Rattle.std.proofs.Common.{◌≡◌, ◌^◌, below_more, ap, subst, ◌∙◌, arith, unsigned_abs}
+use Rattle.std.proofs.lemmas.Nat.Gcd.{dvd_trans}
 use Prim.Native.Nat.{◌∣◌}
 use mir.Syntax.{w128}
 use Rattle.kept_sums.specs.Rows.{at}
@@ -15,9 +15,8 @@ loop-entry-preserved c =
     let entry : c.unsigned_abs.result ≡ unsigned_abs (at c.args.cross.now n) =
     c.unsigned_abs.ensures.value ∙ ap unsigned_abs (back w128 (at c.args.cross.now n) (2 ^ 118) (c.requires n (omega arith)) (omega arith)) in (
       below_more _ _ (λ a l. dvd_trans g one (c.loop-entry.invariant.0 a l)) (subst (λ n. g ∣ n) entry two),
-      λ d all. most d (c.loop-entry.invariant.1 d all) (subst (λ n. d ∣ n) (sym entry) (all n (omega arith))),
-      IsCombined-more n c.args.cross.now c.loop-entry.divisor c.unsigned_abs.result g entry c.loop-entry.invariant.2 c.gcd-divisor.ensures.combined,
+      IsCombined-more n c.args.cross.now c.loop-entry.divisor c.unsigned_abs.result g entry c.loop-entry.invariant.1 c.gcd-divisor.ensures.combined,
     )
 
 pub loop-entry-init : goal.loop-entry-init
-loop-entry-init c = (λ a l. absurd (omega arith), λ d all. dvd-zero d, IsCombined-none c.args.cross.now)
+loop-entry-init c = (λ a l. absurd (omega arith), IsCombined-none c.args.cross.now)

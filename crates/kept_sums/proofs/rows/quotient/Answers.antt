@@ -1,53 +1,42 @@
-use Rattle.std.proofs.Common.{◌≡◌, ℕ, ◌+◌, ◌*◌, ◌/◌, ◌^◌, ◌<◌, ◌≤◌, ℤ, pos, ◌-ℤ◌, ◌*ℤ◌, neg_ℤ, to_z, of_z, w64, sym, ap, subst, ◌∙◌, arith, unsigned_abs}
-use Rattle.std.proofs.Math.Nat.{div-lt_iff_lt-mul}
+use Rattle.std.proofs.Common.{◌≡◌, ◌+◌, ◌*◌, ◌/◌, ◌^◌, ◌<◌, ◌≤◌, ℤ, pos, ◌-ℤ◌, ◌*ℤ◌, neg_ℤ, to_z, of_z, w64, ap, ◌∙◌, arith, unsigned_abs}
+use Rattle.std.proofs.lemmas.Nat.{div_below}
 use Rattle.std.proofs.Math.IntN.{pos-*ℤ-pos}
 use Rattle.word_image.proofs.Common.{mul-div_cancel', ints}
-use Prim.Native.Nat.{◌∣◌}
 use Rattle.kept_sums.proofs.laws.Integers.{mul-neg}
+use Rattle.kept_sums.proofs.rows.quotient.Goals.{After-unsigned_abs}
 use Rattle.kept_sums.proofs.rows.quotient.Goals as goal
 
--- the quotient is small
-most_part : (d u : ℕ) → 1 ≤ d → u ≤ d * 2 ^ 56 → u / d ≤ 2 ^ 56
-most_part d u some most = let less : u / d < 2 ^ 56 + 1 = (div-lt_iff_lt-mul some).1 (omega arith) in omega arith
+-- the size of the quotient
+record Size (c : After-unsigned_abs) : Type 0 where
+  few : c.unsigned_abs.result / c.args.divisor ≤ 2 ^ 56
+  all : c.args.divisor * (c.unsigned_abs.result / c.args.divisor) ≡ unsigned_abs c.args.number
 
--- the size of the number is a multiple
-multiple : (d size u : ℕ) → u ≡ size → d ∣ size → d * (u / d) ≡ size
-multiple d size u same divides = mul-div_cancel' d (subst (λ n. d ∣ n) (sym same) divides) ∙ same
+-- how great the quotient is
+size_of : (c : After-unsigned_abs) → Size c
+size_of c =
+    let d = c.args.divisor in
+    let same : c.unsigned_abs.result ≡ unsigned_abs c.args.number = omega (arith, ints) in
+    let below : c.unsigned_abs.result / d < 2 ^ 56 + 1 = div_below c.unsigned_abs.result d (2 ^ 56 + 1) c.requires.some (omega arith) in
+    record { few = omega arith; all = ap (λ u. d * (u / d)) same ∙ mul-div_cancel' d c.requires.divides }
 
 pub returns-then-number-lt0-clause-quotient : goal.returns-then-number-lt0-clause-quotient
 returns-then-number-lt0-clause-quotient c =
     let d = c.args.divisor in
     let q = c.unsigned_abs.result / d in
-    let same : c.unsigned_abs.result ≡ unsigned_abs c.args.number = omega (arith, ints) in
-    let few : q ≤ 2 ^ 56 = most_part d c.unsigned_abs.result c.requires.some (let size = c.requires.small in omega arith) in
-    let all : d * q ≡ unsigned_abs c.args.number = multiple d _ _ same c.requires.divides in
-    let below : c.args.number ≡ neg_ℤ (pos (d * q)) = omega (arith, ints) in
+    let size = size_of (goal.at.returns-then-number-lt0-clause-quotient c).After-unsigned_abs in
     let cast : to_z w64 (of_z w64 (pos 0 -ℤ to_z w64 q)) ≡ neg_ℤ (pos q) = omega (arith, ints) in
-    ap (λ (z : ℤ). pos d *ℤ z) cast ∙ mul-neg (pos d) (pos q) ∙ ap neg_ℤ (pos-*ℤ-pos d q) ∙ sym below
+    ap (λ (z : ℤ). pos d *ℤ z) cast ∙ mul-neg (pos d) (pos q) ∙ ap neg_ℤ (pos-*ℤ-pos d q) ∙ omega (arith, ints)
 
 pub returns-else-number-lt0-clause-quotient : goal.returns-else-number-lt0-clause-quotient
 returns-else-number-lt0-clause-quotient c =
     let d = c.args.divisor in
     let q = c.unsigned_abs.result / d in
-    let same : c.unsigned_abs.result ≡ unsigned_abs c.args.number = omega (arith, ints) in
-    let few : q ≤ 2 ^ 56 = most_part d c.unsigned_abs.result c.requires.some (let size = c.requires.small in omega arith) in
-    let all : d * q ≡ unsigned_abs c.args.number = multiple d _ _ same c.requires.divides in
-    let above : c.args.number ≡ pos (d * q) = omega (arith, ints) in
+    let size = size_of (goal.at.returns-else-number-lt0-clause-quotient c).After-unsigned_abs in
     let cast : to_z w64 q ≡ pos q = omega (arith, ints) in
-    ap (λ (z : ℤ). pos d *ℤ z) cast ∙ pos-*ℤ-pos d q ∙ sym above
+    ap (λ (z : ℤ). pos d *ℤ z) cast ∙ pos-*ℤ-pos d q ∙ omega (arith, ints)
 
 pub returns-then-number-lt0-clause-small : goal.returns-then-number-lt0-clause-small
-returns-then-number-lt0-clause-small c =
-    let q = c.unsigned_abs.result / c.args.divisor in
-    let same : c.unsigned_abs.result ≡ unsigned_abs c.args.number = omega (arith, ints) in
-    let few : q ≤ 2 ^ 56 = most_part c.args.divisor c.unsigned_abs.result c.requires.some (let size = c.requires.small in omega arith) in
-    let cast : to_z w64 (of_z w64 (pos 0 -ℤ to_z w64 q)) ≡ neg_ℤ (pos q) = omega (arith, ints) in
-    subst (λ (z : ℤ). unsigned_abs z ≤ 2 ^ 56) (sym cast) (omega (arith, ints))
+returns-then-number-lt0-clause-small c = omega (arith, ints, (size_of (goal.at.returns-then-number-lt0-clause-small c).After-unsigned_abs).few)
 
 pub returns-else-number-lt0-clause-small : goal.returns-else-number-lt0-clause-small
-returns-else-number-lt0-clause-small c =
-    let q = c.unsigned_abs.result / c.args.divisor in
-    let same : c.unsigned_abs.result ≡ unsigned_abs c.args.number = omega (arith, ints) in
-    let few : q ≤ 2 ^ 56 = most_part c.args.divisor c.unsigned_abs.result c.requires.some (let size = c.requires.small in omega arith) in
-    let cast : to_z w64 q ≡ pos q = omega (arith, ints) in
-    subst (λ (z : ℤ). unsigned_abs z ≤ 2 ^ 56) (sym cast) (omega (arith, ints))
+returns-else-number-lt0-clause-small c = omega (arith, ints, (size_of (goal.at.returns-else-number-lt0-clause-small c).After-unsigned_abs).few)

@@ -1,15 +1,57 @@
-use Rattle.std.proofs.Common.{◌≡◌, ℕ, ◌+◌, ◌^◌, List, [], ◌∷◌, ◌++◌, ◌<◌, length, take, rules, Some, None, refl, ap, ap₂, ◌∙◌, subst, arith, MatchOption}
+use Rattle.std.proofs.Common.{◌≡◌, ℕ, ◌+◌, ◌^◌, List, [], ◌∷◌, ◌++◌, ◌<◌, length, take, rules, Some, None, refl, sym, ap, ap₂, ◌∙◌, subst, arith}
 use Rattle.std.proofs.KnownBytes.{Appends-nil}
 use Rattle.std.specs.Io.KnownBytes.{Appends}
 use Rattle.std.proofs.lemmas.List.{length-append}
 use Rattle.rule_lists.specs.Listed.{IsFirst, NoneIs}
-use Rattle.rule_lists.specs.Calls.{IsAfter}
+use Rattle.rule_lists.specs.Calls.{IsAfter, AreSoFar}
+use Rattle.rule_lists.specs.Searches.{IsNextListed, IsOrdered}
 use Rattle.rule_lists.proofs.laws.Calls.{AreSoFar-next, AreAll-ended, AreListed-all}
 use Rattle.list_run.specs.Lines.{count_line, rule_lines}
 use Rattle.list_run.specs.Lists.{IsListSoFar}
 use Rattle.list_run.proofs.laws.Lines.{whole_line, cut_line}
-use Rattle.list_run.proofs.laws.Steps.{first_after, left_over-less, ended}
 use Rattle.list_run.proofs.listing.write_rules.Goals as goal
+
+pub loop-rule-init : goal.loop-rule-init
+loop-rule-init g c =
+    let begun = c.into_iter-rule-iterator.ensures.into_iter_gives in
+    let none = ap (λ s. s.last) begun ∙ c.new-rule-items.ensures.1 in
+    record {
+      can = record { ordered = subst IsOrdered (sym (ap (λ s. s.asked) begun ∙ c.new-rule-items.ensures.0)) c.requires.order.windows; fits = rw none tt };
+      asked = refl;
+      line = c.requires.line;
+      so_far = sym none;
+      count = refl;
+      taken = Appends-nil _;
+      telling = refl;
+      counted = refl;
+    }
+
+pub loop-rule-preserved : goal.loop-rule-preserved
+loop-rule-preserved g c =
+    let shape = c.args.beginning.now.rule in
+    let k = shape.states in
+    let m = shape.width in
+    let letters = c.args.letters.now in
+    let order = c.args.order.now in
+    let r = c.in-Some.rule in
+    let s = c.loop-rule.rule-iterator in
+    let rs = c.loop-rule.yielded in
+    let so_far = c.loop-rule.invariant in
+    let steps = c.in-Some.ensures.steps in
+    let first : IsFirst c.args.property k m letters order (IsAfter k order s.last) r =
+    subst (λ a. IsNextListed a s.last (Some r)) (so_far.asked ∙ ap (λ s. s.asked) c.into_iter-rule-iterator.ensures.into_iter_gives ∙ c.new-rule-items.ensures.0) steps.listed in
+    let of = first.listed.shape in
+    let more : length (rs ++ r ∷ []) ≡ length rs + 1 = length-append rs (r ∷ []) in
+    record {
+      can = c.in-Some.ensures.goes.keeps;
+      asked = steps.asked ∙ so_far.asked;
+      line = record { table = r.table; long = of.rule.entries ∙ ap₂ (λ (a b : ℕ). a ^ b) of.states of.width; text = c.set_table.ensures };
+      so_far = subst (λ o. AreSoFar c.args.property k m letters order None (rs ++ r ∷ []) o) (sym steps.last) (AreSoFar-next c.args.property k m letters order None rs s.last r so_far.so_far first);
+      count = omega (arith, c.saturating_add-count.ensures, so_far.count, more);
+      taken = whole_line shape rs r c.set_table.new.line _ _ _ c.set_table.ensures so_far.taken c.in_ok-write_all.ensures.written;
+      telling = c.in_ok-write_all.ensures.telling ∙ so_far.telling;
+      counted = c.in_ok-write_all.ensures.counted.kept ∙ so_far.counted;
+    }
 
 pub returns-in_err-write_all-clause-part : goal.returns-in_err-write_all-clause-part
 returns-in_err-write_all-clause-part g c =
@@ -19,68 +61,25 @@ returns-in_err-write_all-clause-part g c =
     let letters = c.args.letters.now in
     let order = c.args.order.now in
     let r = c.in-Some.rule in
-    let (found, last, far, next, count, took) = c.loop-next.invariant.found in
-    let first : IsFirst c.args.property k m letters order (IsAfter k order last) r = subst (λ o. MatchOption o (NoneIs c.args.property k m letters (IsAfter k order last)) (IsFirst c.args.property k m letters order (IsAfter k order last))) c.in-Some.is next in
+    let s = c.loop-rule.rule-iterator in
+    let rs = c.loop-rule.yielded in
+    let so_far = c.loop-rule.invariant in
+    let first : IsFirst c.args.property k m letters order (IsAfter k order s.last) r =
+    subst (λ a. IsNextListed a s.last (Some r)) (so_far.asked ∙ ap (λ s. s.asked) c.into_iter-rule-iterator.ensures.into_iter_gives ∙ c.new-rule-items.ensures.0) c.in-Some.ensures.steps.listed in
     let (n, less, part) = c.in_err-write_all.ensures.part in
-    let (i, below, cut) = cut_line shape found r c.set_table.new.line n _ _ _ c.set_table.ensures less took part in
-    let so_far : IsListSoFar c.args.property c.args.beginning.now (rule_lines shape (found ++ r ∷ [])) = record {
+    let (i, below, cut) = cut_line shape rs r c.set_table.new.line n _ _ _ c.set_table.ensures less so_far.taken part in
+    let list : IsListSoFar c.args.property c.args.beginning.now (rule_lines shape (rs ++ r ∷ [])) = record {
       letters = letters;
       order = order;
-      rules = found ++ r ∷ [];
+      rules = rs ++ r ∷ [];
       last = Some r;
       given = c.requires.given;
       windows = c.requires.order;
-      so_far = AreSoFar-next c.args.property k m letters order None found last r far first;
+      so_far = AreSoFar-next c.args.property k m letters order None rs s.last r so_far.so_far first;
       lines = refl;
     } in
-    let cut_off : (out : List ℕ) × (j : ℕ) × IsListSoFar c.args.property c.args.beginning.now out × (j < length out) × Appends (g.T.Sink.taken c.args.sink.now) (g.T.Sink.taken c.write_all.new.sink) (take j out) = (rule_lines shape (found ++ r ∷ []), i, so_far, below, cut) in
+    let cut_off : (out : List ℕ) × (j : ℕ) × IsListSoFar c.args.property c.args.beginning.now out × (j < length out) × Appends (g.T.Sink.taken c.args.sink.now) (g.T.Sink.taken c.write_all.new.sink) (take j out) = (rule_lines shape (rs ++ r ∷ []), i, list, below, cut) in
     search rules
-
-pub loop-next-init : goal.loop-next-init
-loop-next-init g c = record {
-  line = c.requires.line;
-  found = ([], None, refl, c.first_rule-next.ensures, refl, Appends-nil _);
-  telling = refl;
-  counted = refl;
-}
-
-pub loop-next-smaller : goal.loop-next-smaller
-loop-next-smaller g c =
-    let shape = c.args.beginning.now.rule in
-    let k = shape.states in
-    let m = shape.width in
-    let letters = c.args.letters.now in
-    let order = c.args.order.now in
-    let r = c.in-Some.rule in
-    let (found, last, far, next, count, took) = c.loop-next.invariant.found in
-    let first : IsFirst c.args.property k m letters order (IsAfter k order last) r = subst (λ o. MatchOption o (NoneIs c.args.property k m letters (IsAfter k order last)) (IsFirst c.args.property k m letters order (IsAfter k order last))) c.in-Some.is next in
-    left_over-less c.args.property k m letters order r c.loop-next.next c.rule_after-next.result c.in-Some.is c.requires.order.windows first.listed (first_after c.args.property k m letters order r c.rule_after-next.result first.listed c.rule_after-next.ensures)
-
-pub loop-next-preserved : goal.loop-next-preserved
-loop-next-preserved g c =
-    let shape = c.args.beginning.now.rule in
-    let k = shape.states in
-    let m = shape.width in
-    let letters = c.args.letters.now in
-    let order = c.args.order.now in
-    let r = c.in-Some.rule in
-    let (found, last, far, next, count, took) = c.loop-next.invariant.found in
-    let first : IsFirst c.args.property k m letters order (IsAfter k order last) r = subst (λ o. MatchOption o (NoneIs c.args.property k m letters (IsAfter k order last)) (IsFirst c.args.property k m letters order (IsAfter k order last))) c.in-Some.is next in
-    let of = first.listed.shape in
-    let more : length (found ++ r ∷ []) ≡ length found + 1 = length-append found (r ∷ []) in
-    record {
-      line = record { table = r.table; long = of.rule.entries ∙ ap₂ (λ (a b : ℕ). a ^ b) of.states of.width; text = c.set_table.ensures };
-      found = (
-        found ++ r ∷ [],
-        Some r,
-        AreSoFar-next c.args.property k m letters order None found last r far first,
-        first_after c.args.property k m letters order r c.rule_after-next.result first.listed c.rule_after-next.ensures,
-        omega (arith, c.saturating_add-count.ensures, count, more),
-        whole_line shape found r c.set_table.new.line _ _ _ c.set_table.ensures took c.in_ok-write_all.ensures.written,
-      );
-      telling = c.in_ok-write_all.ensures.telling ∙ c.loop-next.invariant.telling;
-      counted = c.in_ok-write_all.ensures.counted.kept ∙ c.loop-next.invariant.counted;
-    }
 
 pub returns-clause-all : goal.returns-clause-all
 returns-clause-all g c =
@@ -89,19 +88,22 @@ returns-clause-all g c =
     let m = shape.width in
     let letters = c.args.letters.now in
     let order = c.args.order.now in
-    let (found, last, far, next, count, took) = c.loop-next.invariant.found in
-    let none : NoneIs c.args.property k m letters (IsAfter k order last) = ended (IsFirst c.args.property k m letters order (IsAfter k order last)) c.loop-next.next c.in_default.not-Some next in
-    let all = AreAll-ended c.args.property k m letters order None found last far none in (
-      rule_lines shape found,
-      record { letters = letters; order = order; rules = found; last = last; given = c.requires.given; windows = c.requires.order; so_far = far; lines = refl },
+    let s = c.loop-rule.rule-iterator in
+    let rs = c.loop-rule.yielded in
+    let so_far = c.loop-rule.invariant in
+    let none : NoneIs c.args.property k m letters (IsAfter k order s.last) =
+    subst (λ a. IsNextListed a s.last None) (so_far.asked ∙ ap (λ s. s.asked) c.into_iter-rule-iterator.ensures.into_iter_gives ∙ c.new-rule-items.ensures.0) c.in-None.ensures.steps.listed in
+    let all = AreAll-ended c.args.property k m letters order None rs s.last so_far.so_far none in (
+      rule_lines shape rs,
+      record { letters = letters; order = order; rules = rs; last = s.last; given = c.requires.given; windows = c.requires.order; so_far = so_far.so_far; lines = refl },
       record {
         letters = letters;
         order = order;
-        rules = found;
+        rules = rs;
         given = c.requires.given;
         windows = c.requires.order;
-        listed = AreListed-all c.args.property k m letters order found c.requires.order.windows all;
-        lines = ap (λ (n : ℕ). rule_lines shape found ++ count_line n) count;
+        listed = AreListed-all c.args.property k m letters order rs c.requires.order.windows all;
+        lines = ap (λ (n : ℕ). rule_lines shape rs ++ count_line n) so_far.count;
       },
-      took,
+      so_far.taken,
     )

@@ -7,13 +7,13 @@ returns-then-has_other c told q of begins same has =
     let e = c.has_other.ensures in
     let is = c.if-has_other.true in
     let some = e.some is in
-    let w : ℕ = slice_index c.args.order.now (c.args.n - 1) in
-    e.other is (sym (begins w (c.requires.order.windows (c.args.n - 1) (omega (arith, c.requires.within))) (subst (λ k. slice_index c.args.begin.now w < k) c.k.ensures.states (e.fixed is))) ∙ same (c.args.n - 1) (omega arith))
+    let w : ℕ = slice_index c.args.asked.now.order.now (c.args.n - 1) in
+    e.other is (sym (begins w (c.requires.order.windows (c.args.n - 1) (omega (arith, c.requires.within))) (e.fixed is)) ∙ same (c.args.n - 1) (omega arith))
 
 pub returns : goal.returns
 returns c told q of begins same =
-    let r = c.args.shape.now in
-    let rule = c.k.ensures.rule in
+    let r = c.args.asked.now.shape.now in
+    let rule = c.has_other.ensures.rule in
     c.bars.ensures told q (record {
       rule = of.rule;
       states = of.states;

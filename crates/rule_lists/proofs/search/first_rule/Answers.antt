@@ -1,9 +1,10 @@
-use Rattle.std.proofs.Common.{refl, arith}
-use Rattle.std.specs.Prelude.{⊤}
+use Rattle.std.proofs.Common.{None, refl, arith}
+use Rattle.rule_lists.specs.Calls.{IsAfter}
 use Rattle.rule_lists.proofs.laws.Going.{first_of_same}
 use Rattle.rule_lists.proofs.search.first_rule.Goals as goal
 
 pub returns : goal.returns
 returns c =
-    let r = c.args.shape.now in
-    first_of_same c.args.property r.states r.width r.states r.width c.args.begin.now c.args.order.now c.from.result _ (λ q. ⊤) refl refl (λ q listed. ((λ l. tt), (λ t. omega arith))) c.from.ensures
+    let a = c.args.asked.now in
+    let r = a.shape.now in
+    first_of_same a.property r.states r.width r.states r.width a.begin.now a.order.now c.rule_from.result _ (IsAfter r.states a.order.now None) refl refl (λ q listed. ((λ l. tt), (λ t. omega arith))) c.rule_from.ensures
