@@ -1,17 +1,17 @@
-//! The program, but for its `main`: what it answers to the words of its command line.
+//! The program without its `main`: its answer to the words of a command line.
 //!
-//! A command is a name, texts of rules and other operands, each of which may be any word. An answer is a [`Status`],
-//! which says how the program ended, and an output, the bytes that go to the sink. One command, `check`,
-//! reads: it takes the whole input, or one byte more than is judged. [`run`] goes from the words to the
-//! bytes in five steps:
+//! A command is a name, texts of rules and other operands. An answer is a [`Status`], which says how the program ended,
+//! and an output, which are the bytes for the sink. Only the command `check` reads the source: the whole input, or one
+//! byte more than the judge accepts. [`run`] takes five steps from the words to the bytes:
 //!
-//! 1. the words are read into a question, each operand once; or they are no command, or a text is none of a rule, or
-//!    the parts of a configuration don't fit;
-//! 2. `answer` of ca_answers finds what answers the question, or the cause for which nothing fits. Only `check` has the
-//!    source: it hands the input to the judge;
-//! 3. either is a reply, a value, which [`reply`] gives to whoever wants another form than the text;
-//! 4. its text is written whole in memory;
-//! 5. the text goes to the sink. If a write fails, a sink that tells its bytes took a part of it, and not the whole.
+//! 1. `question` of ca_words reads the words into a question, and each operand once. Or the words are no command, or an
+//!    operand isn't the text of a rule, or the parts of a configuration don't fit.
+//! 2. `answer` of ca_answers finds the answer to the question, or the cause why nothing fits. Only `check` reads the
+//!    source: it passes the input to the judge.
+//! 3. [`reply`] returns either as a value, for callers who want another form than the text.
+//! 4. The text of the reply is written into memory as a whole.
+//! 5. The text goes to the sink. If a write fails, a sink that tells its bytes has taken a part of the text, but not
+//!    all of it.
 //!
 //! The contract of [`run`] cites one relation, `IsAnswer` of specs/RightAnswers.antt: which status and
 //! which output are right for the words and for what the source had left. [`one_status`],
