@@ -1,7 +1,7 @@
 -- Which question a value of the code is, and what its parts must have in common.
 use Rattle.std.specs.Prelude.{◌≡◌, ◌≤◌, None, true, pos, ⊤}
 use Rattle.word_image.specs.LocalRules.{IsShape}
-use Rattle.cert_format.specs.Versions.{names_weights}
+use Rattle.cert_values.specs.Versions.{names_weights}
 use Rattle.rule_verdicts.specs.Numbers.{numbers_fault}
 use Rattle.ca_findings.specs.declared.question.Question as code
 use Rattle.ca_findings.specs.declared.question.Question.TheVariants as asked

@@ -5,7 +5,7 @@ ghost use Rattle.ca_findings.specs.QuestionValues.{AreDrawn, AreNumbered};
 ghost use Rattle.ca_findings.specs.Samples.{sample_fault};
 
 use crate::short_list::ShortList;
-use cert_format::CertVersion;
+use cert_values::CertVersion;
 use rule_text::{TextFault, check_shape, numbered};
 use rule_verdicts::fault_past_all;
 use tail_config::Tail;
