@@ -6,17 +6,11 @@ ghost use Rattle.ca_words.specs.Commands.{Form, IsCommand, check_command, form_o
 ghost use Rattle.ca_words.specs.Asked.{weights_in};
 ghost use Rattle.ca_words.specs.Asking.{AreDrawnBy, AreNumberedBy, IsAskedBy, IsCall, IsRuleFault, IsStop};
 
-<<<<<<< HEAD:crates/ca_words/src/asking.rt
 use crate::names::Name;
 use crate::operands::{count_of, seed, small};
 use crate::short_lists::{colours, weights};
 use ca_findings::{Cause, Drawn, Numbered, Question, ShortList, Stop};
-use cert_format::CertVersion;
-=======
-use ca_findings::{Cause, Drawn, Numbered, Question, Stop};
-use ca_words::{Name, are_colours, are_weights, count_of, numbers, seed, small};
 use cert_values::CertVersion;
->>>>>>> 196fdeef09d579be8c2de777fe17d5b94cca75f3:crates/ca_cli/src/asking.rt
 use rule_text::{decimal_number, decimal_offset, is_decimal};
 use std::alloc::Global;
 use tail_config::{TailTextFault, has_form};
