@@ -1,4 +1,4 @@
--- The JSON value of a certificate, and which bytes are its text.
+-- The JSON value of a certificate, and the bytes that are its text.
 use Rattle.std.specs.Prelude.{◌≡◌, ℕ, List, [], ◌∷◌, ◌++◌, codes, Option, Some, None, Contains, IsUtf8, ℤ, option_and_then, if◌then◌else◌, true}
 use Rattle.std.specs.List.{AllZip}
 use Rattle.serde_json.specs.Data.{Data, null, array, object, Items, no_items, item, Members, no_members, member}
@@ -16,11 +16,11 @@ use Rattle.cert_values.specs.Certificates.{Certificate, IsSurjectiveShape, IsInj
 
 -- The JSON value of each part
 
--- the bytes are JSON, and this is their value: of members with one key the last one counts
+-- the bytes are JSON with this value; if a key occurs twice, the last member counts
 abbrev pub IsJson : List ℕ → Data → Type 0
 IsJson bytes d = IsUtf8 bytes × (read bytes ≡ Some d)
 
--- a whole number below 2 ^ 64, which has no sign, no point and no exponent
+-- a whole number below 2 ^ 64 without sign, point or exponent
 abbrev pub IsWhole : Data → ℕ → Type 0
 IsWhole d n = option_and_then as_u64 (as_number d) ≡ Some n
 
@@ -32,7 +32,7 @@ IsSigned d z = option_and_then as_i64 (as_number d) ≡ Some z
 abbrev pub IsDigits : Data → List ℕ → Type 0
 IsDigits d w = (text : List ℕ) × (as_str d ≡ Some text) × Spells text w
 
--- a string of three parts
+-- a string of three parts with bars between them
 abbrev pub IsTailString : Data → TailConfig → Type 0
 IsTailString d t = (text : List ℕ) × (as_str d ≡ Some text) × HasParts text t
 
@@ -46,15 +46,15 @@ abbrev pub list_of : Items → List Data
 list_of no_items = []
 list_of (item d ds) = d ∷ list_of ds
 
--- an array of values of which each is related to the element at its place
+-- an array whose items are related to the elements of the list, in order
 abbrev pub IsArrayOf : {A : Type 0} → (Data → A → Type 0) → Data → List A → Type 0
 IsArrayOf R d xs = (ds : Items) × (d ≡ array ds) × AllZip R (list_of ds) xs
 
--- an object with this key alone
+-- an object with only this key
 abbrev pub HasOnly : List ℕ → Data → Data → Type 0
 HasOnly k v d = as_object d ≡ Some (member k v no_members)
 
--- an object with these two keys alone, the lesser first
+-- an object with only these two keys, in ascending order
 abbrev pub HasOnlyBoth : List ℕ → Data → List ℕ → Data → Data → Type 0
 HasOnlyBoth k v l u d = as_object d ≡ Some (member k v (member l u no_members))
 
@@ -89,15 +89,15 @@ IsRanksValue d forward backward = (v u : Data) × HasOnlyBoth (codes "backward")
 abbrev pub IsObject : List ℕ → Members → Type 0
 IsObject bytes ms = IsJson bytes (object ms)
 
--- the member of a key is there, and this is true of it
+-- there is a member with this key, and it has the property
 abbrev pub HasMember : Members → List ℕ → (Data → Type 0) → Type 0
 HasMember ms k P = (d : Data) × (get_member k ms ≡ Some d) × P d
 
--- the version is this whole number
+-- the version is this number
 abbrev pub HasVersion : Members → ℕ → Type 0
 HasVersion ms v = HasMember ms (codes "version") (λ d. IsWhole d v)
 
--- the rule is a string, and this is its text
+-- the rule is a string with this text
 abbrev pub HasRuleText : Members → List ℕ → Type 0
 HasRuleText ms text = HasMember ms (codes "rule") (λ d. as_str d ≡ Some text)
 
@@ -105,11 +105,11 @@ HasRuleText ms text = HasMember ms (codes "rule") (λ d. as_str d ≡ Some text)
 abbrev pub keys : List (List ℕ)
 keys = codes "conserving" ∷ codes "injective" ∷ codes "left" ∷ codes "ranks" ∷ codes "right" ∷ codes "rule" ∷ codes "surjective" ∷ codes "version" ∷ []
 
--- the keys that may stand, the weights where the version names them
+-- the keys that a certificate may have: the weights only if its version may name them
 abbrev pub keys_of : CertVersion → List (List ℕ)
 keys_of version = keys ++ (if names_weights version then codes "weights" ∷ [] else [])
 
--- there is no key besides the version's
+-- there is no other key
 abbrev pub HasNoOther : CertVersion → Members → Type 0
 HasNoOther version ms = (k : List ℕ) (d : Data) → get_member k ms ≡ Some d → Contains (keys_of version) k
 
@@ -121,7 +121,7 @@ HasSurjective version r ms e = HasMember ms (codes "surjective") (λ d. IsSurjec
 abbrev pub HasInjective : LocalRule → Members → InjectiveEvidence → Type 0
 HasInjective r ms e = HasMember ms (codes "injective") (λ d. IsInjectiveValue d e) × IsInjectiveShape r e
 
--- the key of the right or the left, which is handed in, is there, with evidence within its limits
+-- the given key, of the right or the left, is there, with evidence within its limits
 abbrev pub HasSide : List ℕ → LocalRule → Members → SideEvidence → Type 0
 HasSide k r ms e = HasMember ms k (λ d. IsSideValue d e) × IsSideShape r e
 
@@ -129,7 +129,7 @@ HasSide k r ms e = HasMember ms k (λ d. IsSideValue d e) × IsSideShape r e
 abbrev pub HasConserving : LocalRule → Members → SumEvidence → Type 0
 HasConserving r ms e = HasMember ms (codes "conserving") (λ d. IsSumValue d e) × IsSumShape r e
 
--- the weights that are named, or the letters' own ones where none are
+-- the named weights, or the letters' own values if no weights are named
 pub data HasWeights (version : CertVersion) (r : LocalRule) (ms : Members) (weights : List ℕ) : Type 0 where
   Named : names_weights version ≡ true → HasMember ms (codes "weights") (λ d. IsArrayOf IsWhole d weights) → AreWeights r.states weights → HasWeights version r ms weights
   Own : (names_weights version ≡ true → get_member (codes "weights") ms ≡ None) → weights ≡ own_weights r.states → HasWeights version r ms weights
@@ -138,7 +138,7 @@ pub data HasWeights (version : CertVersion) (r : LocalRule) (ms : Members) (weig
 abbrev pub HasRanks : LocalRule → Members → List (Option ℕ) → List (Option ℕ) → Type 0
 HasRanks r ms forward backward = HasMember ms (codes "ranks") (λ d. IsRanksValue d forward backward) × IsRankShape r forward × IsRankShape r backward
 
--- what the members say of each part of a certificate
+-- the members contain each part of the certificate
 pub record AreParts (ms : Members) (c : Certificate) : Type 0 where
   pub surjective : HasSurjective c.version c.rule ms c.surjective
   pub injective : HasInjective c.rule ms c.injective
@@ -149,7 +149,7 @@ pub record AreParts (ms : Members) (c : Certificate) : Type 0 where
   pub ranks : HasRanks c.rule ms c.forward c.backward
   pub no_other : HasNoOther c.version ms
 
--- the bytes have the shape of a certificate, and this is what it says
+-- the bytes are the text of this certificate
 pub record IsCertificateText (bytes : List ℕ) (c : Certificate) : Type 0 where
   pub members : Members
   pub text : List ℕ

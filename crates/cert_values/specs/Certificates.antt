@@ -1,4 +1,4 @@
--- What a certificate of a rule says, and the limits of each part.
+-- The contents of a certificate of a rule, and the limits of each part.
 use Rattle.std.specs.Prelude.{◌≡◌, ℕ, ◌+◌, ◌-◌, ◌^◌, ◌<◌, ◌≤◌, List, length, Option, Some, None, All, pos, negsuc, ◌≤ℤ◌, ⊤, true, ℤ}
 use Rattle.word_image.specs.LocalRules.{LocalRule, IsWord, node_count}
 use Rattle.word_image.specs.Graphs.{pair_count}
@@ -7,7 +7,7 @@ use Rattle.cert_values.specs.declared.cert_version.CertVersion.{CertVersion}
 use Rattle.cert_values.specs.Versions.{lists_pairs}
 use Rattle.cert_values.specs.Evidence.{SurjectiveEvidence, InjectiveEvidence, SideEvidence, SumEvidence, Sets, Pairs, Orphan, Window, Twins, Ahead, Split, Flux, Ring}
 
--- the weights are a number for each letter, and the claims a bound of the rank of each pair, or None where nothing is claimed
+-- a certificate has a weight for each letter, and for each pair of nodes a bound of its rank, or None if nothing is claimed
 pub record Certificate : Type 0 where
   pub version : CertVersion
   pub rule : LocalRule
@@ -22,13 +22,13 @@ pub record Certificate : Type 0 where
 
 -- The limits of each part, for its rule
 
--- sets of the rule's nodes, pairs of them where the version lists pairs, or a word
+-- sets of the rule's nodes, pairs of nodes if the version may list pairs, or a word
 abbrev pub IsSurjectiveShape : CertVersion → LocalRule → SurjectiveEvidence → Type 0
 IsSurjectiveShape version r (Sets sets) = All (λ set. set ≤ 2 ^ node_count r - 1) sets
 IsSurjectiveShape version r (Pairs pairs) = (lists_pairs version ≡ true) × All (λ p. p < pair_count r) pairs
 IsSurjectiveShape version r (Orphan w) = IsWord r.states w
 
--- n letters of an image with a place among the n + m - 1 letters behind them, or two words
+-- n letters of an image and a place among the n + m - 1 letters of each preimage, or two words
 abbrev pub IsInjectiveShape : LocalRule → InjectiveEvidence → Type 0
 IsInjectiveShape r (Window n c) = (1 ≤ n) × (n ≤ 65535) × (c ≤ n + r.width - 2) × (c ≤ 65535)
 IsInjectiveShape r (Twins x y) = IsWord r.states x × IsWord r.states y
@@ -38,7 +38,7 @@ abbrev pub IsSideShape : LocalRule → SideEvidence → Type 0
 IsSideShape r (Ahead n) = (1 ≤ n) × (n ≤ 65535)
 IsSideShape r (Split x y) = IsShortTail r.states x × IsShortTail r.states y
 
--- at most a million either way
+-- a number from -1,000,000 to 1,000,000
 abbrev pub IsNear : ℤ → Type 0
 IsNear z = (negsuc 999999 ≤ℤ z) × (z ≤ℤ pos 1000000)
 
@@ -47,7 +47,7 @@ abbrev pub IsSumShape : LocalRule → SumEvidence → Type 0
 IsSumShape r (Flux phi) = (length phi ≡ node_count r) × All IsNear phi
 IsSumShape r (Ring p) = IsWord r.states p
 
--- a claim is nothing or a number of sixteen bits
+-- a claim is None or a number of sixteen bits
 abbrev pub IsClaim : Option ℕ → Type 0
 IsClaim None = ⊤
 IsClaim (Some n) = n ≤ 65535

@@ -1,24 +1,24 @@
--- What shows that a rule has a property, or that it lacks it, and which of the two it shows.
+-- The evidence that a rule has a property, or that it doesn't, and which of the two it is.
 use Rattle.std.specs.Prelude.{ℕ, Bool, true, false, ◌&&◌, List, ℤ}
 use Rattle.tail_config.specs.Tails.{TailConfig}
 
--- for surjective a list of sets of nodes or of pairs of nodes, each a number, and for not surjective a word
+-- for surjective a list of sets of nodes or of pairs of nodes, each as a number; for not surjective a word
 pub data SurjectiveEvidence : Type 0 where
   Sets : (sets : List ℕ) → SurjectiveEvidence
   Pairs : (pairs : List ℕ) → SurjectiveEvidence
   Orphan : (w : List ℕ) → SurjectiveEvidence
 
--- for injective a window, and for not injective two words
+-- a window for injective, and two words for not injective
 pub data InjectiveEvidence : Type 0 where
   Window : (n c : ℕ) → InjectiveEvidence
   Twins : (x y : List ℕ) → InjectiveEvidence
 
--- for closing on a side a look-ahead, and for not closing there two configurations
+-- a look-ahead for closing on a side, and two configurations for not closing there
 pub data SideEvidence : Type 0 where
   Ahead : (n : ℕ) → SideEvidence
   Split : (x y : TailConfig) → SideEvidence
 
--- for conserving a number for each node, and for not conserving a ring
+-- a number for each node for conserving, and a ring for not conserving
 pub data SumEvidence : Type 0 where
   Flux : (phi : List ℤ) → SumEvidence
   Ring : (p : List ℕ) → SumEvidence

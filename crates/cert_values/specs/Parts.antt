@@ -1,4 +1,4 @@
--- What the parts of a certificate are seen as, and all their limits.
+-- The values in contracts that stand for the parts of a certificate, and all limits of these parts.
 use Rattle.std.specs.Prelude.{◌≡◌, ℕ, ⊤, List, false}
 use Rattle.word_image.specs.LocalRules.{IsRule, LocalRule}
 use Rattle.cert_values.specs.declared.parts.SurjectivePart.{SurjectivePart}
@@ -34,7 +34,7 @@ abbrev pub sum_of : SumPart → SumEvidence
 sum_of (Flux phi) = SumEvidence.Flux phi
 sum_of (Ring p) = SumEvidence.Ring p
 
--- what the parts of a certificate say
+-- the certificate with these parts
 abbrev pub certificate_of : Inside → Certificate
 certificate_of c = record {
   version = c.version;
@@ -49,12 +49,12 @@ certificate_of c = record {
   backward = c.backward;
 }
 
--- the configurations of a part are over this many letters
+-- the configurations of a part have this number of letters
 abbrev pub IsOver : ℕ → SidePart → Type 0
 IsOver k (Ahead n) = ⊤
 IsOver k (Split x y) = (x.states ≡ k) × (y.states ≡ k)
 
--- a weight for each letter, which is its own value where the version names no weights
+-- a weight for each letter, which is its own value if the version may not name weights
 pub record IsWeightShape (version : CertVersion) (r : LocalRule) (weights : List ℕ) : Type 0 where
   pub each : AreWeights r.states weights
   pub own : names_weights version ≡ false → weights ≡ own_weights r.states

@@ -1,4 +1,4 @@
--- Which step the bytes fail first that are no text of a certificate.
+-- The first step of reading that bytes fail if they aren't the text of a certificate.
 use Rattle.std.specs.Prelude.{◌≡◌, ◌≢◌, ℕ, List, [], ◌∷◌, ◌++◌, codes, Option, None, All, ⊤}
 use Rattle.serde_json.specs.Data.{Data, Members}
 use Rattle.serde_json.specs.Find.{as_object}
@@ -14,7 +14,7 @@ use Rattle.cert_values.specs.Evidence.{SurjectiveEvidence, InjectiveEvidence, Si
 use Rattle.cert_values.specs.Versions.{number_of}
 use Rattle.cert_values.specs.CertificateTexts.{IsJson, IsObject, HasVersion, HasRuleText, HasSurjective, HasInjective, HasSide, HasConserving, HasWeights, HasRanks, HasNoOther}
 
--- what the step of a key asks of the members, for the steps after the rule
+-- the members pass the step for this key, which comes after the rule
 abbrev pub Passes : CertVersion → LocalRule → Members → Key → Type 0
 Passes version r ms key.Top = ⊤
 Passes version r ms key.Version = ⊤
@@ -32,7 +32,7 @@ Passes version r ms key.Unknown = HasNoOther version ms
 abbrev pub part_steps : List Key
 part_steps = key.Surjective ∷ key.Injective ∷ key.Right ∷ key.Left ∷ key.Conserving ∷ key.Weights ∷ key.Ranks ∷ key.Unknown ∷ []
 
--- the first of a list of which P isn't true
+-- the first element of a list without the property
 pub record IsFirstWithout {A : Type 0} (P : A → Type 0) (xs : List A) (x : A) : Type 0 where
   pub before : List A
   pub after : List A
@@ -40,8 +40,7 @@ pub record IsFirstWithout {A : Type 0} (P : A → Type 0) (xs : List A) (x : A) 
   pub earlier : All P before
   pub fails : ¬ P x
 
--- the bytes have no shape of a certificate, and this is the first step that they fail: they are no JSON, no object, have
--- no version or an unknown one, no rule or one with a fault, or a later step fails
+-- The bytes aren't the text of a certificate, and this is the first step that they fail: they aren't JSON, aren't an object, have no version or an unknown one, have no rule or one with a fault, or fail a later step.
 pub data IsShapeFault (bytes : List ℕ) : ShapeFault → Type 0 where
   NoJson : ((d : Data) → ¬ IsJson bytes d) → IsShapeFault bytes fault.NotJson
   NoObject : (d : Data) → IsJson bytes d → as_object d ≡ None → IsShapeFault bytes (fault.Shape key.Top)

@@ -1,4 +1,4 @@
--- What the versions of a certificate differ in.
+-- The differences between the versions of a certificate.
 use Rattle.std.specs.Prelude.{ℕ, Bool, true, false}
 use Rattle.cert_values.specs.declared.cert_version.CertVersion.{CertVersion}
 use Rattle.cert_values.specs.declared.cert_version.CertVersion.TheVariants.{One, Two, Three}
@@ -9,13 +9,13 @@ number_of One = 1
 number_of Two = 2
 number_of Three = 3
 
--- the weights of the letters may be named, from version 2 on
+-- from version 2 on, a certificate may name the weights of the letters
 abbrev pub names_weights : CertVersion → Bool
 names_weights One = false
 names_weights Two = true
 names_weights Three = true
 
--- pairs may be listed, in version 3
+-- in version 3, a certificate may list pairs
 abbrev pub lists_pairs : CertVersion → Bool
 lists_pairs One = false
 lists_pairs Two = false

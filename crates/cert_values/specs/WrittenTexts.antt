@@ -1,4 +1,4 @@
--- The text that is written for a certificate.
+-- The text that the program writes for a certificate.
 use Rattle.std.specs.Prelude.{ℕ, List, [], ◌∷◌, map, codes, Option, Some, None, ℤ, bytes_eq, if◌then◌else◌}
 use Rattle.serde_json.specs.Data.{Data, null, number, string, array, object, unsigned, Members, no_members, member}
 use Rattle.serde_json.specs.Find.{of_integer}
@@ -22,19 +22,19 @@ array_from ds = array (items_of ds)
 abbrev pub whole_value : ℕ → Data
 whole_value n = number (unsigned n)
 
--- a whole number in decimal, with a minus sign where it is negative
+-- a whole number in decimal, with a minus sign if it is negative
 abbrev pub signed_value : ℤ → Data
 signed_value z = number (of_integer z)
 
--- a word's digits in lower case
+-- the digits of a word in lower case
 abbrev pub word_value : List ℕ → Data
 word_value w = string (map lower_digit w)
 
--- a configuration's text
+-- the text of a configuration
 abbrev pub tail_value : TailConfig → Data
 tail_value t = string (tail.printed t)
 
--- null where nothing is claimed
+-- null if nothing is claimed
 abbrev pub claim_value : Option ℕ → Data
 claim_value None = null
 claim_value (Some n) = whole_value n
@@ -69,11 +69,11 @@ abbrev pub ranks_value : List (Option ℕ) → List (Option ℕ) → Data
 ranks_value forward backward =
     object (member (codes "backward") (array_from (map claim_value backward)) (member (codes "forward") (array_from (map claim_value forward)) no_members))
 
--- the weights, where they aren't the own ones
+-- the weights, if they aren't the letters' own values
 abbrev pub weights_members : LocalRule → List ℕ → Members
 weights_members r weights = if bytes_eq weights (own_weights r.states) then no_members else member (codes "weights") (array_from (map whole_value weights)) no_members
 
--- the members of each certificate, and these after them
+-- the members that each certificate has, followed by these
 abbrev pub members_before : Members → Certificate → Members
 members_before rest c =
     member (codes "conserving") (sum_value c.conserving)

@@ -1,32 +1,31 @@
-//! A certificate, each part of which is within its limits.
+//! A certificate whose parts are within their limits.
 use crate::cert_version::CertVersion;
 use crate::parts::{InjectivePart, SidePart, SumPart, SurjectivePart};
 use std::marker::Model;
 use word_image::{RankRow, Rule, Weights};
 
-/// A certificate of a rule: what it claims, with the evidence, each part within its limits. The
-/// claims aren't checked.
+/// A certificate of a rule: its claims with their evidence, each part within its limits. The claims need not be true.
 #[derive(Debug, Drop)]
 pub struct Cert {
-    /// By which conditions it is judged.
+    /// The version, which says by which conditions the certificate is judged.
     pub version: CertVersion,
-    /// The rule that it speaks of.
+    /// The rule of the certificate.
     pub rule: Rule,
-    /// Whether the rule is surjective: sets of its nodes, or a word over its letters.
+    /// Whether the rule is surjective: sets or pairs of its nodes, or a word over its letters.
     pub surjective: SurjectivePart,
     /// Whether it is injective: a window with 1 ≤ n and c ≤ n + m - 2, or two words.
     pub injective: InjectivePart,
-    /// Whether it closes to the right: a look-ahead of at least 1, or two Tails over its letters.
+    /// Whether it closes on the right: a look-ahead of at least 1, or two Tails over its letters.
     pub right: SidePart,
-    /// Whether it closes to the left, in the same way.
+    /// Whether it closes on the left, in the same form.
     pub left: SidePart,
-    /// Whether it conserves: a flux of at most a million either way for each node, or a word.
+    /// Whether it conserves the sum: a flux with numbers from -1,000,000 to 1,000,000 for each node, or a word.
     pub conserving: SumPart,
-    /// What each letter weighs where sums are taken; in version One its own value.
+    /// The weight of each letter in sums. In version One each letter weighs its own value.
     pub weights: Weights,
-    /// For each pair of nodes a bound of how many letters it shares to the right.
+    /// For each pair of nodes a bound of its forward rank, or None if nothing is claimed.
     pub forward: RankRow,
-    /// For each pair of nodes a bound of how many letters it shares to the left.
+    /// For each pair of nodes a bound of its backward rank, or None if nothing is claimed.
     pub backward: RankRow,
 }
 

@@ -2,19 +2,19 @@
 ghost use Rattle.std.specs.Prelude.{◌≡◌, ◌≢◌, IfSome, IfNone};
 ghost use Rattle.cert_values.specs.Versions.{number_of, names_weights, lists_pairs};
 
-/// What a certificate may say, and by which conditions it is judged.
+/// The version of a certificate: what it may contain, and by which conditions it is judged.
 #[derive(Clone, Copy, Debug, PartialEq, Eq)]
 pub enum CertVersion {
-    /// Each step of a listed set is listed, and each letter weighs its own value.
+    /// Each step of a listed set is a listed set, and each letter weighs its own value.
     One,
-    /// Each step of a listed set contains a listed set, and weights may be named.
+    /// Each step of a listed set contains a listed set, and the certificate may name weights.
     Two,
-    /// As `Two`, and pairs of nodes may be listed in place of the sets.
+    /// Like `Two`, and the certificate may list pairs of nodes instead of sets.
     Three,
 }
 
 impl CertVersion {
-    /// The version with this number.
+    /// Returns the version with this number.
     pub fn of(number: u64) -> Option<CertVersion>
         ensures some { IfSome result (λ v. number ≡ number_of v) }
         ensures none { IfNone result ((v : CertVersion) → number ≢ number_of v) }
@@ -27,7 +27,7 @@ impl CertVersion {
         }
     }
 
-    /// The number of the version.
+    /// Returns the number of the version.
     pub fn number(self) -> u64
         ensures { result ≡ number_of self }
     {
@@ -38,7 +38,7 @@ impl CertVersion {
         }
     }
 
-    /// Whether the weights of the letters may be named.
+    /// Returns whether the certificate may name the weights of the letters.
     pub fn names_weights(self) -> bool
         ensures { result ≡ names_weights self }
     {
@@ -48,7 +48,7 @@ impl CertVersion {
         }
     }
 
-    /// Whether pairs of nodes may be listed.
+    /// Returns whether the certificate may list pairs of nodes.
     pub fn lists_pairs(self) -> bool
         ensures { result ≡ lists_pairs self }
     {

@@ -1,14 +1,14 @@
-//! Why bytes are no text of a certificate.
+//! Why bytes aren't the text of a certificate.
 use rule_text::TextFault;
 
-/// The part of a certificate that has no right shape.
+/// The part of a certificate that has the wrong shape.
 #[derive(Clone, Copy, Debug, PartialEq, Eq)]
 pub enum Key {
-    /// The whole, which is no object.
+    /// The whole isn't a JSON object.
     Top,
-    /// The version, which isn't there or is no whole number.
+    /// The version is missing or isn't a whole number.
     Version,
-    /// The rule, which isn't there or is no string.
+    /// The rule is missing or isn't a string.
     Rule,
     /// Whether the rule is surjective.
     Surjective,
@@ -20,23 +20,23 @@ pub enum Key {
     Left,
     /// Whether it conserves the sum of its cells.
     Conserving,
-    /// What each letter weighs.
+    /// The weights of the letters.
     Weights,
     /// The ranks of all pairs of nodes.
     Ranks,
-    /// A key that no certificate has.
+    /// There is a key that no certificate of this version has.
     Unknown,
 }
 
-/// The first fault of bytes that are no text of a certificate.
+/// The first fault of bytes that aren't the text of a certificate.
 #[derive(Clone, Copy, Debug, PartialEq, Eq)]
 pub enum ShapeFault {
-    /// The bytes are no JSON.
+    /// The bytes aren't JSON.
     NotJson,
-    /// The version is this other one.
+    /// The version has this number, which isn't 1, 2 or 3.
     Version(u64),
-    /// This part isn't there, or has another shape.
+    /// This part is missing or has the wrong shape.
     Shape(Key),
-    /// The rule's text has this fault.
+    /// The text of the rule has this fault.
     Rule(TextFault),
 }

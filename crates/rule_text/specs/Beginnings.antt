@@ -1,4 +1,4 @@
--- The beginning of a rule's table text: what it says, and which fault comes first.
+-- The beginning of a rule's table text: its meaning, and its first fault.
 use Rattle.std.specs.Prelude.{◌≡◌, ℕ, ◌-◌, ◌^◌, List, [], ◌++◌, length, replicate, Option, Some, None, Result, Ok, Err}
 use Rattle.std.specs.Option.{option_map, option_or}
 use Rattle.word_image.specs.LocalRules.{LocalRule}
@@ -9,34 +9,34 @@ use Rattle.rule_text.specs.declared.text_fault.TextFault.{TextFault}
 use Rattle.rule_text.specs.declared.text_fault.TextFault.TheVariants as fault
 use Rattle.rule_text.specs.declared.beginnings.Beginning.{Beginning}
 
--- the letters of a beginning, and 0 for each window behind them
+-- the letters of a beginning, followed by 0 for each other window
 abbrev pub filled : ℕ → List ℕ → List ℕ
 filled size letters = letters ++ replicate (size - length letters) 0
 
--- the letters of the table that are given
+-- the given letters of the table
 abbrev pub letters_of : Entries → List ℕ
 letters_of (Entries.Table letters) = letters
 letters_of (Entries.Number n) = []
 
--- the fault of the entries, for a shape that is accepted: a number is given in place of a table, there are more letters than windows, or one isn't below k
+-- the fault of the entries for an accepted shape, if there is one: a number is given instead of a table, there are more letters than windows, or a letter isn't below k
 abbrev pub beginning_entries_fault : Said → Entries → Option TextFault
 beginning_entries_fault s (Entries.Table letters) = option_map (in_text s.place) (table_fault s.states s.width (filled (s.states ^ s.width) letters))
 beginning_entries_fault s (Entries.Number n) = Some fault.Kind
 
--- the first fault of what a beginning says: one of the shape comes before those of the entries
+-- the first fault of a beginning, if there is one: faults of the shape come before faults of the entries
 abbrev pub beginning_fault : Said → Option TextFault
 beginning_fault s = option_or (option_map (in_text s.place) (shape_fault s.states s.width s.offset)) (beginning_entries_fault s s.entries)
 
--- the rule whose table begins with the letters that are given, and has 0 behind them
+-- the rule whose table has the given letters, followed by zeros
 abbrev pub beginning_rule : Said → LocalRule
 beginning_rule s = record { states = s.states; width = s.width; offset = s.offset; table = filled (s.states ^ s.width) (letters_of s.entries) }
 
--- the answer to what a beginning says
+-- the result of reading a beginning
 abbrev pub IsBeginningOf : Said → Result Beginning TextFault → Type 0
 IsBeginningOf s (Ok b) = (beginning_fault s ≡ None) × (b.rule ≡ beginning_rule s) × (b.given ≡ length (letters_of s.entries))
 IsBeginningOf s (Err f) = beginning_fault s ≡ Some f
 
--- the text is a beginning, with so many letters and this rule
+-- the text is a beginning with this rule and this number of letters
 pub record IsBeginning (text : List ℕ) (b : Beginning) : Type 0 where
   pub said : Said
   pub says : Says text said
@@ -44,7 +44,7 @@ pub record IsBeginning (text : List ℕ) (b : Beginning) : Type 0 where
   pub rule : b.rule ≡ beginning_rule said
   pub given : b.given ≡ length (letters_of said.entries)
 
--- the fault is the first one of the text as a beginning
+-- the first fault of the text as a beginning
 pub data IsBeginningFault (text : List ℕ) : TextFault → Type 0 where
   NoForm : (place : ℕ) → IsFormFault IsSaid text place → IsBeginningFault text (fault.Form place)
   Refused : (said : Said) (f : TextFault) → Says text said → beginning_fault said ≡ Some f → IsBeginningFault text f

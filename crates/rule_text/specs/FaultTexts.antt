@@ -1,10 +1,10 @@
--- How a fault of a text is written.
+-- The words for the faults of a text.
 use Rattle.std.specs.Prelude.{ℕ, List, [], ◌++◌, codes, Option, Some, None}
 use Rattle.std.specs.Fmt.{decimal}
 use Rattle.rule_text.specs.declared.text_fault.TextFault.{TextFault}
 use Rattle.rule_text.specs.declared.text_fault.TextFault.TheVariants as fault
 
--- the kind of a fault in lower case
+-- the word for a fault
 abbrev pub fault_name : TextFault → List ℕ
 fault_name (fault.Form place) = codes "form"
 fault_name fault.States = codes "states"
@@ -27,6 +27,6 @@ abbrev pub place_text : Option ℕ → List ℕ
 place_text None = []
 place_text (Some place) = codes " " ++ decimal place
 
--- the kind of a fault, and its place if it has one
+-- the word for a fault, and its place if it has one
 abbrev pub fault_text : TextFault → List ℕ
 fault_text f = fault_name f ++ place_text (fault_place f)

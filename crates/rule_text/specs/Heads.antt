@@ -1,4 +1,4 @@
--- How a reader goes over the head of a text, what stands before its entries.
+-- How a reader goes through the head of a text, which is the part before its entries.
 use Rattle.std.specs.Prelude.{◌≡◌, ◌≢◌, ℕ, ◌+◌, ◌<◌, ◌≤◌, ◌⊎◌, Bool, true, false, List, [], ◌++◌, length, map, take, drop, codes, slice_index, All, ℤ, pos, neg_ℤ}
 use Rattle.rule_text.specs.declared.text_fault.TextFault.{TextFault}
 use Rattle.rule_text.specs.declared.text_fault.TextFault.TheVariants as fault
@@ -17,11 +17,11 @@ colon = 58
 abbrev pub minus_sign : ℕ
 minus_sign = 45
 
--- from one place to the other the text has this part
+-- the text has this part between the two places
 abbrev pub GoesOver : List ℕ → ℕ → ℕ → List ℕ → Type 0
 GoesOver text from to part = take to text ≡ take from text ++ part
 
--- one or two digits, two where there are two
+-- two digits, or one if there aren't two
 pub record GoesOverSmall (text : List ℕ) (from to number : ℕ) : Type 0 where
   pub digits : List ℕ
   pub over : GoesOver text from to digits
@@ -36,7 +36,7 @@ pub record GoesOverField (text : List ℕ) (from to number : ℕ) : Type 0 where
   pub decimal : IsDecimal 1 2 digits
   pub value : number ≡ decimal_value digits
 
--- instead of one or two digits and a colon, too few digits come, or no colon after all of them
+-- one or two digits and a colon are missing: there are too few digits, or no colon after all of them
 pub record LacksField (text : List ℕ) (from place : ℕ) : Type 0 where
   pub digits : List ℕ
   pub over : GoesOver text from place digits
@@ -45,12 +45,12 @@ pub record LacksField (text : List ℕ) (from place : ℕ) : Type 0 where
   pub no_colon : 1 ≤ length digits → slice_index text place ≢ colon
   pub stays : length digits ≡ 0 → place ≡ from
 
--- a minus sign or none
+-- a minus sign, or nothing
 abbrev pub sign : Bool → List ℕ
 sign true = codes "-"
 sign false = []
 
--- what the sign makes of a number
+-- a number with this sign
 abbrev pub signed : Bool → ℕ → ℤ
 signed true n = neg_ℤ (pos n)
 signed false n = pos n
@@ -63,7 +63,7 @@ pub record GoesOverOffset (text : List ℕ) (from to : ℕ) (offset : ℤ) : Typ
   pub decimal : IsDecimal 1 2 digits
   pub value : offset ≡ signed minus (decimal_value digits)
 
--- instead, the field after the sign is lacking, or no field comes and no sign
+-- an offset is missing: there is no field after the sign, or neither a sign nor a field
 pub record LacksOffset (text : List ℕ) (from place : ℕ) : Type 0 where
   pub minus : Bool
   pub start : ℕ
@@ -71,7 +71,7 @@ pub record LacksOffset (text : List ℕ) (from place : ℕ) : Type 0 where
   pub field : LacksField text start place
   pub no_sign : minus ≡ false → slice_index text start ≢ minus_sign
 
--- how a kind is written
+-- the letter of a kind
 abbrev pub kind_text : Kind → List ℕ
 kind_text kind.Table = codes "t"
 kind_text kind.Number = codes "w"
@@ -80,46 +80,46 @@ kind_text kind.Number = codes "w"
 abbrev pub IsNoKind : ℕ → Type 0
 IsNoKind b = (b ≢ 116) × (b ≢ 119)
 
--- the fault is one of form, at a place of the text of which this is true
+-- the fault is a fault of form at a place of the text with this property
 abbrev pub IsRuleFormAt : List ℕ → TextFault → (ℕ → Type 0) → Type 0
 IsRuleFormAt text f P = (place : ℕ) × (f ≡ fault.Form place) × (place ≤ length text) × P place
 
--- a fault is one of form
+-- a fault is a fault of form
 abbrev pub IsForm : TextFault → Type 0
 IsForm f = (place : ℕ) × (f ≡ fault.Form place)
 
--- the entries that digits of this kind make
+-- the entries for digits of this kind
 abbrev pub entries_of : Kind → List ℕ → Entries
 entries_of kind.Table digits = Table (map letter_at digits)
 entries_of kind.Number digits = Number (decimal_value digits)
 
--- digits that may stand as entries of this kind
+-- digits that can be the entries of this kind
 abbrev pub IsEntries : Kind → List ℕ → Type 0
 IsEntries kind.Table digits = All IsHexDigit digits
 IsEntries kind.Number digits = IsDecimal 1 39 digits
 
--- what a head says with these entries
+-- the meaning of a head with these entries
 abbrev pub said_with : Head → Entries → Said
 said_with f entries = record { states = f.k; width = f.m; offset = f.o; entries = entries; place = f.place }
 
--- what a head says with digits of its kind
+-- the meaning of a head with digits of its kind
 abbrev pub said_of : Head → List ℕ → Said
 said_of f digits = said_with f (entries_of f.kind digits)
 
--- at this place the digits of a number end too early, or something else than digits comes
+-- the digits of a number end too early at this place, or another byte is there
 pub record IsDecimalStop (digits : List ℕ) (place : ℕ) : Type 0 where
   pub before : All IsDigit (take place digits)
   pub within : place ≤ length digits
   pub few : place ≤ 39
   pub stop : (length digits ≡ 0) ⊎ ((place < length digits) × ((place ≡ 39) ⊎ ¬ IsDigit (slice_index digits place)))
 
--- at this place something else than hexadecimal digits comes
+-- a byte at this place isn't a hexadecimal digit
 pub record IsHexStop (digits : List ℕ) (place : ℕ) : Type 0 where
   pub before : All IsHexDigit (take place digits)
   pub within : place < length digits
   pub stop : ¬ IsHexDigit (slice_index digits place)
 
--- the head of a text and where the entries begin: what the text says with entries of its kind, and that it goes wrong where others do
+-- the head of a text and the place at which the entries begin: the meaning of the text if it has entries of its kind, and its fault of form otherwise
 pub record IsHead (text : List ℕ) (h : Head) : Type 0 where
   pub within : h.place ≤ length text
   pub says : IsEntries h.kind (drop h.place text) → Says text (said_of h (drop h.place text))

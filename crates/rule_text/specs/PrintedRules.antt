@@ -4,11 +4,11 @@ use Rattle.std.specs.Fmt.{decimal}
 use Rattle.word_image.specs.LocalRules.{LocalRule, wolfram_number}
 use Rattle.word_image.specs.Digits.{lower_digit}
 
--- the head of a text, what stands before its entries: K:M:O: and their kind
+-- the head of a text, which is the part before its entries: K:M:O: and their kind
 abbrev pub head : List ℕ → List ℕ → List ℕ → List ℕ → List ℕ
 head k m o kind = k ++ codes ":" ++ m ++ codes ":" ++ o ++ codes ":" ++ kind
 
--- an offset, with a minus sign exactly where it is negative
+-- an offset, with a minus sign if it is negative
 abbrev pub offset_text : ℤ → List ℕ
 offset_text (pos n) = decimal n
 offset_text (negsuc n) = codes "-" ++ decimal (n + 1)
@@ -17,6 +17,6 @@ offset_text (negsuc n) = codes "-" ++ decimal (n + 1)
 abbrev pub printed_rule : LocalRule → List ℕ
 printed_rule r = head (decimal r.states) (decimal r.width) (offset_text r.offset) (codes "t") ++ map lower_digit r.table
 
--- the Wolfram number of a rule, where it has at most six states
+-- the Wolfram number of a rule of at most six states
 abbrev pub number_found : LocalRule → Option ℕ
 number_found r = if nat_lt r.states 7 then Some (wolfram_number r) else None

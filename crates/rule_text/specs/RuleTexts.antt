@@ -1,4 +1,4 @@
--- The texts of a rule: their grammar, what each means, and which fault comes first.
+-- The texts of a rule: their grammar, their meaning, and their first fault.
 use Rattle.std.specs.Prelude.{◌≡◌, ℕ, ◌+◌, ◌-◌, ◌^◌, ◌≤◌, List, ◌++◌, length, map, codes, Option, Some, None, All, nat_lt, nat_le, if◌then◌else◌, ℤ, pos, negsuc, neg_ℤ, reverse}
 use Rattle.std.specs.Option.{option_map, option_or}
 use Rattle.word_image.specs.LocalRules.{LocalRule, value, word_of}
@@ -21,21 +21,21 @@ pub record IsDecimal (low high : ℕ) (text : List ℕ) : Type 0 where
   pub least : low ≤ length text
   pub most : length text ≤ high
 
--- the number that decimal digits stand for
+-- the number of a row of decimal digits
 abbrev pub decimal_value : List ℕ → ℕ
 decimal_value text = value 10 (map (λ b. b - 48) text)
 
--- one or two decimal digits, after a minus sign or none, and the offset that they name
+-- one or two decimal digits, which may have a minus sign, and the offset that they name
 pub data IsOffset : List ℕ → ℤ → Type 0 where
   Plain : (digits : List ℕ) → IsDecimal 1 2 digits → IsOffset digits (pos (decimal_value digits))
   Minus : (digits : List ℕ) → IsDecimal 1 2 digits → IsOffset (codes "-" ++ digits) (neg_ℤ (pos (decimal_value digits)))
 
--- what comes after the kind: the table's letters, or the number
+-- the part after the kind: the table's letters, or the number
 pub data Entries : Type 0 where
   Table : (letters : List ℕ) → Entries
   Number : (number : ℕ) → Entries
 
--- what a text of the grammar says, accepted or not; place is where its entries begin
+-- the meaning of a text of the grammar, accepted or not; its entries begin at place
 pub record Said : Type 0 where
   pub states : ℕ
   pub width : ℕ
@@ -43,7 +43,7 @@ pub record Said : Type 0 where
   pub entries : Entries
   pub place : ℕ
 
--- the rule of this shape and offset with this number, by no text
+-- the meaning of a shape, an offset and a number, without a text
 abbrev pub by_number : ℕ → ℕ → ℤ → ℕ → Said
 by_number k m o n = record { states = k; width = m; offset = o; entries = Entries.Number n; place = 0 }
 
@@ -61,7 +61,7 @@ pub data Says : List ℕ → Said → Type 0 where
       → Says (head k m o (codes "w") ++ digits)
       (record { states = decimal_value k; width = decimal_value m; offset = offset; entries = Entries.Number (decimal_value digits); place = length (head k m o (codes "w")) })
 
--- the grammar says something with this text
+-- the text is in the grammar
 abbrev pub IsSaid : List ℕ → Type 0
 IsSaid text = (said : Said) × Says text said
 
@@ -74,29 +74,29 @@ in_text place limit.Offset = fault.Offset
 in_text place limit.Length = fault.Length
 in_text place (limit.Letter i) = fault.Letter (place + i)
 
--- the fault of a number, for a shape that is accepted: there are more than 6 states, or no table has this number
+-- the fault of a number for an accepted shape, if there is one: there are more than 6 states, or no table has this number
 abbrev pub number_fault : ℕ → ℕ → ℕ → Option TextFault
 number_fault k m n = if nat_lt 6 k then Some fault.Kind else (if nat_le (k ^ (k ^ m)) n then Some fault.Number else None)
 
--- the fault of the entries, for a shape that is accepted
+-- the fault of the entries for an accepted shape, if there is one
 abbrev pub entries_fault : Said → Entries → Option TextFault
 entries_fault s (Entries.Table letters) = option_map (in_text s.place) (table_fault s.states s.width letters)
 entries_fault s (Entries.Number n) = number_fault s.states s.width n
 
--- the first fault of what a text says, in the order of the shape, the kind, the length, the letters and the number
+-- the first fault of a text's meaning, in the order of the shape, the kind, the length, the letters and the number
 abbrev pub fault_of : Said → Option TextFault
 fault_of s = option_or (option_map (in_text s.place) (shape_fault s.states s.width s.offset)) (entries_fault s s.entries)
 
--- the table that a text says; that of a number has its digits in base k, from the least significant on
+-- the table of a text; for a number its digits in base k, beginning with the least significant one
 abbrev pub table_of : Said → Entries → List ℕ
 table_of s (Entries.Table letters) = letters
 table_of s (Entries.Number n) = reverse (word_of s.states (s.states ^ s.width) n)
 
--- the rule that a text says
+-- the rule of a text
 abbrev pub rule_of : Said → LocalRule
 rule_of s = record { states = s.states; width = s.width; offset = s.offset; table = table_of s s.entries }
 
--- the rule of this shape with this table, whose windows begin at the cell
+-- the rule with k states, width m, offset 0 and this table
 abbrev pub rule_of_table : ℕ → ℕ → List ℕ → LocalRule
 rule_of_table k m table = record { states = k; width = m; offset = pos 0; table = table }
 
@@ -107,7 +107,7 @@ pub record IsRuleText (text : List ℕ) (r : LocalRule) : Type 0 where
   pub accepted : fault_of said ≡ None
   pub rule : r ≡ rule_of said
 
--- the fault is the first one of the text
+-- the first fault of the text
 pub data IsTextFault (text : List ℕ) : TextFault → Type 0 where
   NoForm : (place : ℕ) → IsFormFault IsSaid text place → IsTextFault text (fault.Form place)
   Refused : (said : Said) (f : TextFault) → Says text said → fault_of said ≡ Some f → IsTextFault text f

@@ -1,10 +1,10 @@
--- What is read of a text: a rule, or the first fault.
+-- The results of reading a text.
 use Rattle.std.specs.Prelude.{◌≡◌, Some, None, Result, Ok, Err}
 use Rattle.word_image.specs.LocalRules.{LocalRule}
 use Rattle.rule_text.specs.declared.text_fault.TextFault.{TextFault}
 use Rattle.rule_text.specs.RuleTexts.{Said, fault_of, rule_of}
 
--- the answer to what a text says: the rule where it's accepted, else the first fault
+-- the rule of a text if it is accepted, and otherwise its first fault
 abbrev pub IsReading : Said → Result LocalRule TextFault → Type 0
 IsReading s (Ok r) = (fault_of s ≡ None) × (r ≡ rule_of s)
 IsReading s (Err f) = fault_of s ≡ Some f

@@ -11,18 +11,18 @@ use crate::head::{Head, Kind, read_head};
 use crate::text_fault::{TextFault, in_text};
 use word_image::{MOST_ENTRIES, Rule, check_shape};
 
-/// What the beginning of a table text says: `2:3:-1:t01` stands for all rules whose table begins so.
+/// The beginning of a table text. For example, `2:3:-1:t01` stands for all rules whose table begins with 0 1.
 #[derive(Clone, Copy, Debug)]
 pub struct Beginning {
-    /// The rule with the letters that are given and 0 behind them.
+    /// The rule with the given letters, followed by zeros.
     pub rule: Rule,
-    /// How many letters are given.
+    /// The number of given letters.
     pub given: u16,
 }
 
-/// Reads the beginning of a table text: a head and at most as many letters as there are windows. Its
-/// faults are those of a text of a rule, but that `Length` comes only where there are more letters than
-/// windows, and `Kind` where a number is given, in any form.
+/// Reads the beginning of a table text: a head and at most as many letters as there are windows. Returns the first
+/// fault otherwise. The faults are the same as for the text of a rule, except that `Length` means that there are more
+/// letters than windows, and `Kind` that a number is given instead of a table.
 pub fn parse_beginning(text: &[u8]) -> Result<Beginning, TextFault>
     ensures beginning { IfOk result (λ b. IsBeginning text.now b) }
     ensures fault { IfErr result (λ f. IsBeginningFault text.now f) }
@@ -36,7 +36,7 @@ pub fn parse_beginning(text: &[u8]) -> Result<Beginning, TextFault>
     begin(&head, digits)
 }
 
-/// The beginning that a head says with these digits; else the first fault.
+/// Returns the beginning with this head and these digits, or its first fault.
 fn begin(head: &Head, digits: &[u8]) -> Result<Beginning, TextFault>
     requires entries { IsEntries head.now.kind digits.now }
     requires place { head.now.place + 2 ^ 16 < 2 ^ 64 }
@@ -51,7 +51,7 @@ fn begin(head: &Head, digits: &[u8]) -> Result<Beginning, TextFault>
     }
 }
 
-/// That of the table form, for an accepted shape.
+/// Does the same for the table form of an accepted shape.
 fn begin_table(head: &Head, digits: &[u8]) -> Result<Beginning, TextFault>
     requires shape { IsShape head.now.k head.now.m head.now.o }
     requires digits { All IsHexDigit digits.now }
@@ -72,7 +72,7 @@ fn begin_table(head: &Head, digits: &[u8]) -> Result<Beginning, TextFault>
     }
 }
 
-/// The letters that digits stand for, and 0 behind them.
+/// Returns the letters of the digits, followed by zeros.
 fn filled(digits: &[u8]) -> [u8; MOST_ENTRIES]
     requires { length digits.now ≤ most_windows }
     ensures { result ≡ map letter_at digits.now ++ replicate (most_windows - length digits.now) 0 }

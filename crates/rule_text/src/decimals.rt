@@ -6,14 +6,14 @@ ghost use Rattle.rule_text.specs.Heads.{signed};
 
 use crate::parts::minus;
 
-/// Whether a text is 1 to `most` decimal digits.
+/// Returns whether a text consists of 1 to `most` decimal digits.
 pub fn is_decimal(text: &[u8], most: usize) -> bool
     ensures { IsTrue result ↔ IsDecimal 1 most text.now }
 {
     !text.is_empty() && text.len() <= most && text.iter().all(|byte| byte.is_ascii_digit())
 }
 
-/// The number of a row of decimal digits; None where it is `2^128` or more.
+/// Returns the number of a row of decimal digits, or None if it is `2^128` or more.
 pub fn decimal_number(digits: &[u8]) -> Option<u128>
     requires { All IsDigit digits.now }
     ensures { SomeIff result (decimal_value digits.now < 2 ^ 128) (decimal_value digits.now) }
@@ -25,7 +25,7 @@ pub fn decimal_number(digits: &[u8]) -> Option<u128>
     number
 }
 
-/// The number with one more decimal digit after it; None stands for those from `2^128` on.
+/// Appends a decimal digit to a number. None stands for the numbers of `2^128` or more.
 fn with_digit(number: Option<u128>, digit: u8) -> Option<u128>
     ensures { (n : ℕ) → SomeIff number (n < 2 ^ 128) n
         → SomeIff result (n * 10 + digit < 2 ^ 128) (n * 10 + digit) }
@@ -33,7 +33,7 @@ fn with_digit(number: Option<u128>, digit: u8) -> Option<u128>
     number?.checked_mul(10)?.checked_add(u128::from(digit))
 }
 
-/// The offset that one or two decimal digits name, after a minus sign or none; None for any other
+/// Reads an offset: one or two decimal digits, which may have a minus sign before them. Returns None for any other
 /// text.
 pub fn decimal_offset(text: &[u8]) -> Option<i8>
     ensures offset { IfSome result (λ o. IsOffset text.now o) }
@@ -48,7 +48,7 @@ pub fn decimal_offset(text: &[u8]) -> Option<i8>
     Some(with_sign(minus, number))
 }
 
-/// A number below 100 with a minus sign or none.
+/// Returns a number below 100, with a minus sign if `minus` is true.
 pub fn with_sign(minus: bool, number: u8) -> i8
     requires { number < 100 }
     ensures { result ≡ signed minus number }

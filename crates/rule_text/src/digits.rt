@@ -10,10 +10,10 @@ ghost use Rattle.rule_text.specs.Heads.{IsEntries};
 use crate::head::Kind;
 use word_image::letter;
 
-/// The most digits that a number has in a text.
+/// The greatest number of digits of a number in a text.
 const MOST_DIGITS: usize = 39;
 
-/// Where the digits of a table or of a number go wrong, if they do.
+/// Returns the place at which the digits of a table or of a number stop being right, if there is one.
 pub fn first_stop(kind: Kind, digits: &[u8]) -> Option<usize>
     ensures some { IfSome result (λ place. IsFormFault (IsEntries kind) digits.now place) }
     ensures none { IfNone result (IsEntries kind digits.now) }
@@ -24,7 +24,7 @@ pub fn first_stop(kind: Kind, digits: &[u8]) -> Option<usize>
     }
 }
 
-/// The place of the first byte that is no hexadecimal digit.
+/// Returns the place of the first byte that isn't a hexadecimal digit.
 fn hex_stop(digits: &[u8]) -> Option<usize>
     ensures some { IfSome result (λ place. IsFormFault (All IsHexDigit) digits.now place) }
     ensures none { IfNone result (All IsHexDigit digits.now) }
@@ -37,8 +37,8 @@ fn hex_stop(digits: &[u8]) -> Option<usize>
     None
 }
 
-/// Where 1 to 39 decimal digits go wrong: at another byte, at the fortieth, or at once where there
-/// is none.
+/// Returns the place at which 1 to 39 decimal digits stop being right: at another byte, at the fortieth digit, or at
+/// 0 if there is no digit.
 fn decimal_stop(digits: &[u8]) -> Option<usize>
     ensures some { IfSome result (λ place. IsFormFault (IsDecimal 1 39) digits.now place) }
     ensures none { IfNone result (IsDecimal 1 39 digits.now) }
@@ -51,7 +51,7 @@ fn decimal_stop(digits: &[u8]) -> Option<usize>
     if digits.is_empty() { Some(0) } else { None }
 }
 
-/// Writes the letters that hexadecimal digits stand for; those of other bytes are 0.
+/// Writes the letters of hexadecimal digits. Any other byte counts as 0.
 pub fn write_letters(table: &mut [u8], digits: &[u8])
     requires { length table.old ≡ length digits.now }
     ensures { table.new ≡ map letter_at digits.now }
@@ -61,8 +61,8 @@ pub fn write_letters(table: &mut [u8], digits: &[u8])
     }
 }
 
-/// Writes the digits of a number in base k into a table, from the least significant on; gives
-/// whether the table has room for all.
+/// Writes the digits of a number in base k into a table, beginning with the least significant one. Returns whether
+/// the table has room for all of them.
 pub fn write_number(table: &mut [u8], k: u8, number: u128) -> bool
     requires { 2 ≤ k }
     ensures fits { IsTrue result ↔ (number < k ^ length table.old) }

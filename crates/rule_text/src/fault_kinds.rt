@@ -1,4 +1,4 @@
-//! How a fault of a text is written.
+//! The words for the faults of a text.
 ghost use Rattle.std.specs.Prelude.{◌≡◌, IfOk, string_bytes};
 ghost use Rattle.rule_text.specs.FaultTexts as texts;
 ghost use Rattle.rule_text.specs.FaultTexts.{fault_text};
@@ -6,8 +6,7 @@ ghost use Rattle.rule_text.specs.FaultTexts.{fault_text};
 use crate::text_fault::TextFault;
 use std::alloc::{AllocError, Global};
 
-/// The kind of a fault in lower case, followed by a blank and its place if it has one. The only error is
-/// want of memory.
+/// Returns the word for a fault, followed by a blank and its place if it has one. The only error is lack of memory.
 pub fn fault_kind(alloc: Global, fault: TextFault) -> Result<String, AllocError>
     ensures { IfOk result (λ text. string_bytes text ≡ fault_text fault) }
 {
@@ -18,7 +17,7 @@ pub fn fault_kind(alloc: Global, fault: TextFault) -> Result<String, AllocError>
     }
 }
 
-/// The kind of a fault in lower case.
+/// Returns the word for a fault.
 pub fn fault_name(fault: TextFault) -> &'static str
     ensures { result.now ≡ texts.fault_name fault }
 {
@@ -35,7 +34,7 @@ pub fn fault_name(fault: TextFault) -> &'static str
     }
 }
 
-/// The place of a fault; only a fault of the form and one of a letter have a place.
+/// Returns the place of a fault. Only faults of the form and of a letter have one.
 pub fn fault_place(fault: TextFault) -> Option<usize>
     ensures { result ≡ texts.fault_place fault }
 {

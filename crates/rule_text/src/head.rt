@@ -1,4 +1,4 @@
-//! The head of a text: what stands before its entries.
+//! The head of a text, which is the part before its entries.
 ghost use Rattle.std.specs.Prelude.{IfOk, IfErr};
 ghost use Rattle.rule_text.specs.RuleTexts.{IsTextFault};
 ghost use Rattle.rule_text.specs.Heads.{IsForm, IsHead};
@@ -6,7 +6,7 @@ ghost use Rattle.rule_text.specs.Heads.{IsForm, IsHead};
 use crate::parts::{field, kind, offset};
 use crate::text_fault::TextFault;
 
-/// What the entries of a text are: the letters of the table, or the digits of its number.
+/// The entries of a text: the letters of the table, or the digits of its number.
 #[derive(Clone, Copy)]
 pub enum Kind {
     /// Hexadecimal digits, one for each window.
@@ -15,22 +15,22 @@ pub enum Kind {
     Number,
 }
 
-/// The head of a text, and where the entries begin.
+/// The head of a text, and the place at which the entries begin.
 #[derive(Clone, Copy)]
 pub struct Head {
-    // How many states there are, below 100.
+    // The number of states, below 100.
     pub k: u8,
     // The width, below 100.
     pub m: u8,
     // The offset, from -99 to 99.
     pub o: i8,
-    // What the entries are.
+    // The kind of the entries.
     pub kind: Kind,
-    // Where they begin.
+    // The place at which they begin.
     pub place: usize,
 }
 
-/// Reads the head of a text. A text that doesn't begin with a field has none: it is of the bare form.
+/// Reads the head of a text. A text that doesn't begin with a field has the bare form, and no head.
 pub fn read_head(text: &[u8]) -> Result<Head, TextFault>
     ensures head { IfOk result (λ h. IsHead text.now h) }
     ensures fault { IfErr result (λ f. IsTextFault text.now f) }

@@ -1,27 +1,25 @@
-//! The texts of a rule: reading, printing and the Wolfram number.
+//! The texts of a rule: reading and printing them, and the Wolfram number.
 //!
 //! A rule with k states, width m and offset o has three kinds of text:
 //!
 //! | Form | Text | Meaning |
 //! |---|---|---|
 //! | bare | 1 to 39 decimal digits | the same as `2:3:-1:w` and these digits |
-//! | table | `K:M:O:t` and hexadecimal digits of either case | the table's letters, by the value of their window |
+//! | table | `K:M:O:t` and hexadecimal digits of either case | the table's letters, in the order of the windows' values |
 //! | number | `K:M:O:w` and 1 to 39 decimal digits | the Wolfram number |
 //!
-//! K and M are one or two decimal digits, O is one or two after a minus sign or none. The Wolfram
-//! number is the sum over all windows of the letter there times k to the window's value. So `110`,
-//! `2:3:-1:w110` and `2:3:-1:t01110110` are one rule.
+//! K and M have one or two decimal digits. So does O, which may have a minus sign. The Wolfram number is a sum over
+//! all windows: the letter for the window times k to the power of the window's value. So `110`, `2:3:-1:w110` and
+//! `2:3:-1:t01110110` are texts of the same rule.
 //!
-//! What stands before the entries of a text, `K:M:O:` and `t` or `w`, is its head. `parse` reads the
-//! head part by part. It then checks that the entries are what the head says, and takes them for it.
-//! So a call takes **O(n + k^m)** time for a text of n bytes, and no memory; `print` makes the text of
-//! its rule.
+//! The part of a text before its entries, `K:M:O:` and `t` or `w`, is called its head. `parse` reads the head part by
+//! part, and then the entries that the head announces. A call takes **O(n + k^m)** time for a text of n bytes, and no
+//! memory. Only `print` needs memory, for its text.
 //!
-//! `parse_beginning` reads the beginning of a table text, which stands for all rules whose table begins so.
+//! `parse_beginning` reads the beginning of a table text, which stands for all rules whose table begins like this.
 //!
-//! `numbered` makes the rule of a shape and a number that are no text, and `check_shape` has the faults
-//! of the shape alone. `is_decimal`, `decimal_number` and `decimal_offset` read the decimal operands of
-//! commands.
+//! `numbered` makes a rule from a shape and a number, without a text, and `check_shape` only checks the shape.
+//! `is_decimal`, `decimal_number` and `decimal_offset` read the decimal operands of commands.
 #![tactic(auto)]
 
 mod beginnings;

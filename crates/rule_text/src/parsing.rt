@@ -1,4 +1,4 @@
-//! From a text to its rule or its first fault.
+//! Reads a rule from its text.
 ghost use Rattle.std.specs.Prelude.{◌≡◌, ◌+◌, ◌^◌, ◌<◌, IfOk, IfErr, All, map};
 ghost use Rattle.word_image.specs.LocalRules.{LocalRule, IsShape};
 ghost use Rattle.rule_text.specs.declared.text_fault.TextFault.{TextFault};
@@ -14,7 +14,7 @@ use crate::text_fault::{TextFault, in_text};
 use crate::wolfram_numbers::{MOST_NUMBERED_STATES, rule_of_number};
 use word_image::{MOST_ENTRIES, Rule, check_shape};
 
-/// The rule that a text says; else the text's first fault, in the order of `TextFault`.
+/// Returns the rule of a text, or the text's first fault, in the order of `TextFault`.
 pub fn parse(text: &[u8]) -> Result<Rule, TextFault>
     ensures rule { IfOk result (λ r. IsRuleText text.now r) }
     ensures fault { IfErr result (λ f. IsTextFault text.now f) }
@@ -30,7 +30,7 @@ pub fn parse(text: &[u8]) -> Result<Rule, TextFault>
     accept(&head, digits)
 }
 
-/// The rule that a head says with these digits; else the first fault.
+/// Returns the rule with this head and these digits, or the first fault.
 fn accept(head: &Head, digits: &[u8]) -> Result<Rule, TextFault>
     requires entries { IsEntries head.now.kind digits.now }
     requires place { head.now.place + 2 ^ 16 < 2 ^ 64 }
@@ -45,7 +45,7 @@ fn accept(head: &Head, digits: &[u8]) -> Result<Rule, TextFault>
     }
 }
 
-/// The rule of the table form, for an accepted shape.
+/// Returns the rule of the table form, for an accepted shape.
 fn accept_table(head: &Head, digits: &[u8]) -> Result<Rule, TextFault>
     requires shape { IsShape head.now.k head.now.m head.now.o }
     requires digits { All IsHexDigit digits.now }
@@ -65,7 +65,7 @@ fn accept_table(head: &Head, digits: &[u8]) -> Result<Rule, TextFault>
     }
 }
 
-/// The rule of the number form and of the bare form, for an accepted shape.
+/// Returns the rule of the number form and of the bare form, for an accepted shape.
 fn accept_number(head: &Head, digits: &[u8]) -> Result<Rule, TextFault>
     requires shape { IsShape head.now.k head.now.m head.now.o }
     requires digits { IsDecimal 1 39 digits.now }

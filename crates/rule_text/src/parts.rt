@@ -1,4 +1,4 @@
-//! The parts of a head, each read from a place of a text on.
+//! The parts of a head. Each is read from a given place of a text.
 ghost use Rattle.std.specs.Prelude.{◌≡◌, ◌≢◌, false, ◌+◌, ◌<◌, ◌≤◌, ◌∷◌, [], ◌↔◌, IfOk, IfErr, IfSome, IfNone, IsTrue, length, slice_index};
 ghost use Rattle.std.specs.Bool.{OnTrue};
 ghost use Rattle.rule_text.specs.RuleTexts.{IsDigit};
@@ -8,7 +8,7 @@ use crate::decimals::with_sign;
 use crate::head::Kind;
 use crate::text_fault::TextFault;
 
-/// One or two digits and the colon after them: their number, and the place after the colon.
+/// Reads one or two digits and the colon after them. Returns their number and the place after the colon.
 pub fn field(text: &[u8], from: usize) -> Result<(u8, usize), TextFault>
     requires { from ≤ length text.now }
     ensures number { IfOk result (λ r. GoesOverField text.now from r.1 r.0) }
@@ -25,8 +25,8 @@ pub fn field(text: &[u8], from: usize) -> Result<(u8, usize), TextFault>
     Ok((number, end + 1))
 }
 
-/// A minus sign or none and a field after it: its number with that sign, and the place after the
-/// colon.
+/// Reads one or two digits, which may have a minus sign before them, and the colon after them. Returns their number
+/// with its sign and the place after the colon.
 pub fn offset(text: &[u8], from: usize) -> Result<(i8, usize), TextFault>
     requires { from ≤ length text.now }
     ensures offset { IfOk result (λ r. GoesOverOffset text.now from r.1 r.0) }
@@ -38,7 +38,7 @@ pub fn offset(text: &[u8], from: usize) -> Result<(i8, usize), TextFault>
     Ok((with_sign(minus, number), end))
 }
 
-/// The letter of a kind, and the place after it.
+/// Reads the letter of a kind. Returns the kind and the place after the letter.
 pub fn kind(text: &[u8], from: usize) -> Result<(Kind, usize), TextFault>
     requires { from ≤ length text.now }
     ensures over { IfOk result (λ r. GoesOver text.now from r.1 (kind_text r.0)) }
@@ -54,7 +54,7 @@ pub fn kind(text: &[u8], from: usize) -> Result<(Kind, usize), TextFault>
     }
 }
 
-/// One or two digits, two where there are two: their number, and the place after them.
+/// Reads two digits, or one if there aren't two. Returns their number and the place after them.
 fn small(text: &[u8], from: usize) -> Option<(u8, usize)>
     requires { from ≤ length text.now }
     ensures number { IfSome result (λ r. GoesOverSmall text.now from r.1 r.0) }
@@ -69,7 +69,7 @@ fn small(text: &[u8], from: usize) -> Option<(u8, usize)>
     }
 }
 
-/// Whether a minus sign comes, and the place after it if one does.
+/// Returns whether there is a minus sign, and the place after it if there is one.
 pub fn minus(text: &[u8], from: usize) -> (bool, usize)
     requires { from ≤ length text.now }
     ensures over { GoesOver text.now from result.1 (sign result.0) }
@@ -83,7 +83,7 @@ pub fn minus(text: &[u8], from: usize) -> (bool, usize)
     }
 }
 
-/// The decimal digit at a place, if one stands there.
+/// Returns the value of the decimal digit at a place, if there is one.
 fn digit(text: &[u8], place: usize) -> Option<u8>
     requires { place ≤ length text.now }
     ensures below { IfSome result (λ d. d < 10) }
@@ -99,7 +99,7 @@ fn digit(text: &[u8], place: usize) -> Option<u8>
     }
 }
 
-/// Whether a byte stands at a place.
+/// Returns whether this byte is at a place.
 fn stands(text: &[u8], place: usize, byte: u8) -> bool
     requires { 0 < byte }
     ensures within { OnTrue result (place < length text.now) }

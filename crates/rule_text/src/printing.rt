@@ -1,4 +1,4 @@
-//! From a rule to its text and its number.
+//! Prints a rule, and computes its number.
 ghost use Rattle.std.specs.Prelude.{◌≡◌, ◌<◌, IfOk};
 ghost use Rattle.std.specs.Option.{SomeIff};
 ghost use Rattle.word_image.specs.LocalRules.{LocalRule, IsRule, wolfram_number};
@@ -8,8 +8,8 @@ ghost use Rattle.rule_text.specs.PrintedRules.{printed_rule};
 use std::alloc::{AllocError, Global};
 use word_image::{Rule, digit};
 
-/// The text of a rule in the table form: lower-case digits, numbers without leading zeros, and a
-/// minus sign exactly before a negative offset. The only error is want of memory.
+/// Returns the text of a rule in the table form: lower-case digits, numbers without leading zeros, and a minus sign
+/// if the offset is negative. The only error is lack of memory.
 pub fn print(alloc: Global, rule: &Rule) -> Result<Vec<u8>, AllocError>
     ensures { IfOk result (λ text. text.items ≡ printed_rule rule.now) }
 {
@@ -21,13 +21,13 @@ pub fn print(alloc: Global, rule: &Rule) -> Result<Vec<u8>, AllocError>
     Ok(text)
 }
 
-/// The printed text of every accepted rule is a text of that rule.
+/// Law: the printed text of each accepted rule is a text of this rule.
 pub fn printed_text_is_read()
     ensures { (r : LocalRule) → IsRule r → IsRuleText (printed_rule r) r }
 {}
 
-/// The Wolfram number of a rule: the sum over all windows of the letter times k to the window's
-/// value. None exactly for the rules of 7 states and more.
+/// Returns the Wolfram number of a rule: the sum over all windows of the letter times k to the power of the window's
+/// value. Returns None if the rule has 7 states or more.
 pub fn number(rule: &Rule) -> Option<u128>
     ensures { SomeIff result (rule.now.states < 7) (wolfram_number rule.now) }
 {

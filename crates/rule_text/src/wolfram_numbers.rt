@@ -1,4 +1,4 @@
-//! From a shape and a Wolfram number to the rule.
+//! Makes a rule from a shape and a Wolfram number.
 ghost use Rattle.std.specs.Prelude.{◌≡◌, ◌^◌, ◌<◌};
 ghost use Rattle.std.specs.Option.{SomeIff, option_map};
 ghost use Rattle.std.specs.Result.{result_err};
@@ -11,11 +11,11 @@ use crate::digits::write_number;
 use crate::text_fault::{TextFault, in_text};
 use word_image::{MOST_ENTRIES, Rule};
 
-/// The most states of a rule that has a number.
+/// The greatest number of states of a rule that has a number.
 pub const MOST_NUMBERED_STATES: u8 = 6;
 
-/// The first fault of k states, width m and offset o, if they are no shape of a rule: `States`,
-/// `Width`, `Nodes` or `Offset`, tried in this order.
+/// Checks whether a rule can have k states, width m and offset o. Returns the first of `States`, `Width`, `Nodes` and
+/// `Offset` that applies, if any.
 pub fn check_shape(k: u8, m: u8, o: i8) -> Result<(), TextFault>
     ensures { result_err result ≡ option_map (in_text 0) (shape_fault k m o) }
 {
@@ -25,8 +25,8 @@ pub fn check_shape(k: u8, m: u8, o: i8) -> Result<(), TextFault>
     }
 }
 
-/// The rule of k states, width m and offset o with this Wolfram number; else the first fault: one of
-/// the shape, then `Kind` from 7 states on, then `Number` where the number is at least `k^(k^m)`.
+/// Returns the rule of k states, width m and offset o with this Wolfram number. Otherwise returns the first fault: a
+/// fault of the shape, then `Kind` for 7 states or more, then `Number` if the number is at least `k^(k^m)`.
 pub fn numbered(k: u8, m: u8, o: i8, number: u128) -> Result<Rule, TextFault>
     ensures { IsReading (by_number k m o number) result }
 {
@@ -37,7 +37,7 @@ pub fn numbered(k: u8, m: u8, o: i8, number: u128) -> Result<Rule, TextFault>
     rule_of_number(k, m, o, number).ok_or(TextFault::Number)
 }
 
-/// The rule of an accepted shape with this number; None where no table has it.
+/// Returns the rule of an accepted shape with this number, or None if no table has it.
 pub fn rule_of_number(k: u8, m: u8, o: i8, number: u128) -> Option<Rule>
     requires { IsShape k m o }
     ensures { SomeIff result (number < k ^ (k ^ m)) (rule_of (by_number k m o number)) }
