@@ -1,4 +1,4 @@
--- What a check answers: of one condition, and of something that is asked of each number.
+-- The results of checks: of one condition, and of a property of numbers.
 use Rattle.std.specs.Prelude.{Result, MatchResult, ℕ, Option, MatchOption}
 use Rattle.cert_values.specs.Certificates.{Certificate}
 use Rattle.cert_conditions.specs.declared.condition.Condition.{Condition}
@@ -7,10 +7,10 @@ use Rattle.cert_conditions.specs.Conditions.{Holds}
 use Rattle.cert_conditions.specs.Refusals.{IsBreach}
 use Rattle.cert_conditions.specs.Breaches.{EachBelow, IsFirstBreach}
 
--- what the check of one condition answers: it is met, or this is said of it
+-- the result of checking one condition: it is met, or this is its breach
 abbrev pub IsChecked : Certificate → Condition → Result Unit Refusal → Type 0
 IsChecked c one result = MatchResult result (λ _. Holds c one) (IsBreach c one)
 
--- the first number below n of which P isn't true, or none where P is true of each
+-- the first number below n for which P doesn't hold, or None if it holds for each
 abbrev pub FirstBreach : ℕ → (ℕ → Type 0) → Option ℕ → Type 0
 FirstBreach n P found = MatchOption found (EachBelow n P) (IsFirstBreach n P)

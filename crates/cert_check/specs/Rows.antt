@@ -4,7 +4,7 @@ use Rattle.std.specs.Int.{bit_not, w16}
 use Rattle.cert_values.specs.declared.cert_version.CertVersion.{CertVersion}
 use Rattle.cert_conditions.specs.Sets.{IsKept}
 
--- a set without one of 16 nodes
+-- a set with one of 16 nodes removed
 abbrev pub without : ℕ → ℕ → ℕ
 without set node = bit_and set (bit_not w16 (1 * 2 ^ node % 2 ^ 16))
 
@@ -16,6 +16,6 @@ IsMarked rows s = IsBitSet (slice_index rows (s / 16)) (s % 16)
 abbrev pub AreMarked : List ℕ → List ℕ → Type 0
 AreMarked rows sets = (s : ℕ) → IsMarked rows s ↔ Contains sets s
 
--- the rows mark the sets that are so, among those up to the full one
+-- among the sets up to the set of all nodes, the rows mark those that meet the condition of the version on steps
 abbrev pub AreKept : CertVersion → ℕ → List ℕ → List ℕ → Type 0
 AreKept version full sets rows = (s : ℕ) → s ≤ full → (IsMarked rows s ↔ IsKept version sets s)

@@ -6,11 +6,11 @@ use Rattle.word_image.specs.declared.side.Side.{Side}
 use Rattle.cert_conditions.specs.Claims.{IsBelow}
 use Rattle.word_image.specs.declared.side.Side.TheVariants.{Right, Left}
 
--- where a pair leads to a pair on two letters, less than n is claimed of that one
+-- less than n is claimed for the pair that two letters reach from a pair, if there is one
 abbrev pub FallsBy : Side → LocalRule → List (Option ℕ) → ℕ → ℕ → ℕ → ℕ → Type 0
 FallsBy side r row p n a b = (q : ℕ) → follow_on side r p a b ≡ Some q → IsBelow row q n
 
--- a node without its last letter, or on the left without its first one, as a number
+-- a node without its last letter, or on the left without its first letter, as a number
 abbrev pub rest_of : Side → LocalRule → ℕ → ℕ
 rest_of Right r u = u / r.states
 rest_of Left r u = u % r.states ^ (r.width - 2)

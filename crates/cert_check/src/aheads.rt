@@ -16,8 +16,8 @@ use cert_conditions::{Condition, Refusal};
 use cert_values::{Cert, SidePart};
 use word_image::{Rule, Side};
 
-/// Whether the claims of the first pairs of this side are less than the look-ahead allows; else the least
-/// pair whose claim isn't.
+/// Checks that the claims of the first pairs on this side are small enough for the look-ahead. Returns the least pair
+/// for which they aren't otherwise.
 pub fn side_ahead(cert: &Cert, side: Side) -> Result<(), Refusal>
     ensures { IsChecked cert.now (Condition.SideAhead side) result }
 {
@@ -30,7 +30,7 @@ pub fn side_ahead(cert: &Cert, side: Side) -> Result<(), Refusal>
     }
 }
 
-/// What is said of closing on this side.
+/// Returns the evidence for closing on this side.
 pub fn part_on(cert: &Cert, side: Side) -> &SidePart
     ensures part { side_of result.now ≡ evidence_on cert.now side }
     ensures shape { IsSideShape cert.now.rule (side_of result.now) }
@@ -42,7 +42,7 @@ pub fn part_on(cert: &Cert, side: Side) -> &SidePart
     }
 }
 
-/// The least first pair of this side of which not less than n - 1 is claimed.
+/// Returns the least first pair on this side for which no number below n - 1 is claimed.
 fn first_too_far(rule: &Rule, side: Side, claims: &[Option<u16>], n: u16) -> Option<u16>
     requires row { length claims.now ≡ pair_count rule.now }
     requires some { 1 ≤ n }
@@ -56,8 +56,8 @@ fn first_too_far(rule: &Rule, side: Side, claims: &[Option<u16>], n: u16) -> Opt
     None
 }
 
-/// Whether a pair is a first pair of this side: its nodes differ in the letter at their end on this
-/// side alone, and some letter at their other end makes windows with one label of them.
+/// Returns whether a pair is a first pair on this side: its nodes differ only in the letter at their end on this
+/// side, and some letter at their other end gives windows with equal labels.
 pub fn is_first(rule: &Rule, side: Side, pair: u16) -> bool
     requires { pair < pair_count rule.now }
     ensures { IsTrue result ↔ IsFirstOf side rule.now pair }
@@ -69,7 +69,7 @@ pub fn is_first(rule: &Rule, side: Side, pair: u16) -> bool
     share_a_label(rule, side.other(), pair)
 }
 
-/// A node without the letter at its end on this side.
+/// Returns a node without the letter at its end on this side.
 fn rest_of(rule: &Rule, side: Side, node: u8) -> u8
     ensures { result ≡ rest_of side rule.now node }
 {
@@ -80,7 +80,7 @@ fn rest_of(rule: &Rule, side: Side, node: u8) -> u8
     }
 }
 
-/// Whether some letter on this side of the nodes of a pair makes windows with one label of them.
+/// Returns whether some letter on this side of the nodes of a pair gives windows with equal labels.
 fn share_a_label(rule: &Rule, side: Side, pair: u16) -> bool
     requires { pair < pair_count rule.now }
     ensures { IsTrue result ↔ ((a : ℕ) × (a < rule.now.states)

@@ -1,4 +1,4 @@
-//! Claims of ranks, which fall along every step of pairs.
+//! Claims of ranks, which become smaller along each step of pairs.
 
 ghost use Rattle.std.specs.Prelude.{◌≡◌, ◌↔◌, ◌<◌, length, IsTrue};
 ghost use Rattle.word_image.specs.Graphs.{pair_count};
@@ -12,8 +12,8 @@ use cert_conditions::{Condition, Refusal};
 use cert_values::Cert;
 use word_image::{Rule, Side};
 
-/// Whether what is claimed of each pair on this side is more than what is claimed of each pair to which it
-/// leads on; else the first pair of which it isn't.
+/// Checks that the claim of each pair on this side is greater than the claims of all pairs that a step reaches from
+/// it. Returns the first other pair otherwise.
 pub fn side_claims(cert: &Cert, side: Side) -> Result<(), Refusal>
     ensures { IsChecked cert.now (Condition.SideClaims side) result }
 {
@@ -23,7 +23,7 @@ pub fn side_claims(cert: &Cert, side: Side) -> Result<(), Refusal>
     }
 }
 
-/// What is claimed of the pairs on this side.
+/// Returns the claims for the pairs on this side.
 pub fn claims_on(cert: &Cert, side: Side) -> &[Option<u16>]
     ensures row { result.now ≡ claims_on cert.now side }
     ensures each { length result.now ≡ pair_count cert.now.rule }
@@ -34,7 +34,7 @@ pub fn claims_on(cert: &Cert, side: Side) -> &[Option<u16>]
     }
 }
 
-/// The first pair whose claim doesn't fall on this side.
+/// Returns the first pair whose claim isn't greater than those that follow it on this side.
 fn first_rise(rule: &Rule, claims: &[Option<u16>], side: Side) -> Option<u16>
     requires { length claims.now ≡ pair_count rule.now }
     ensures { FirstBreach (pair_count rule.now) (Falls side rule.now claims.now) result }
@@ -47,7 +47,7 @@ fn first_rise(rule: &Rule, claims: &[Option<u16>], side: Side) -> Option<u16>
     None
 }
 
-/// Whether the claim of a pair falls on this side.
+/// Returns whether the claim of a pair is greater than those that follow it on this side.
 fn falls(rule: &Rule, claims: &[Option<u16>], side: Side, pair: u16) -> bool
     requires row { length claims.now ≡ pair_count rule.now }
     requires pair { pair < pair_count rule.now }
@@ -64,7 +64,7 @@ fn falls(rule: &Rule, claims: &[Option<u16>], side: Side, pair: u16) -> bool
     true
 }
 
-/// Whether less than `most` is claimed of each pair to which a pair leads on a first letter.
+/// Returns whether less than `most` is claimed for each pair that the letter a and another one reach from a pair.
 fn falls_along(rule: &Rule, claims: &[Option<u16>], side: Side, pair: u16, a: u8, most: u16) -> bool
     requires row { length claims.now ≡ pair_count rule.now }
     requires pair { pair < pair_count rule.now }
@@ -79,7 +79,7 @@ fn falls_along(rule: &Rule, claims: &[Option<u16>], side: Side, pair: u16, a: u8
     true
 }
 
-/// Whether less than `most` is claimed of the pair to which a pair leads on two letters, where there is one.
+/// Returns whether less than `most` is claimed for the pair that two letters reach from a pair, if there is one.
 fn falls_by(
     rule: &Rule,
     claims: &[Option<u16>],
@@ -101,7 +101,7 @@ fn falls_by(
     }
 }
 
-/// Whether a number below `most` is claimed of a pair.
+/// Returns whether a number below `most` is claimed for a pair.
 pub fn claims_below(claims: &[Option<u16>], pair: u16, most: u16) -> bool
     requires { pair < length claims.now }
     ensures { IsTrue result ↔ IsBelow claims.now pair most }

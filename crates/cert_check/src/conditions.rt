@@ -18,7 +18,7 @@ use cert_conditions::{Condition, Refusal};
 use cert_values::Cert;
 use word_image::Side;
 
-/// All of them, the one that is checked first at the front.
+/// All conditions, in the order in which they are checked.
 const CONDITIONS: [Condition; 17] = [
     Condition::SideClaims(Side::Right),
     Condition::SideClaims(Side::Left),
@@ -39,7 +39,7 @@ const CONDITIONS: [Condition; 17] = [
     Condition::RingLossy,
 ];
 
-/// Whether a certificate meets all conditions; else what is said of the first that it doesn't meet.
+/// Checks that a certificate meets all conditions. Returns the first breach otherwise.
 pub fn check_all(cert: &Cert) -> Result<(), Refusal>
     ensures { MatchResult result (λ _. MeetsConditions cert.now) (IsFirstUnmet cert.now) }
 {
@@ -49,7 +49,7 @@ pub fn check_all(cert: &Cert) -> Result<(), Refusal>
     Ok(())
 }
 
-/// Whether a certificate meets one condition; else what is said of it.
+/// Checks that a certificate meets one condition. Returns its breach otherwise.
 fn check(condition: Condition, cert: &Cert) -> Result<(), Refusal>
     ensures { IsChecked cert.now condition result }
 {

@@ -9,9 +9,9 @@ use cert_conditions::{Refusal, Verdicts};
 use cert_format::{CertFault, from_bytes};
 use std::alloc::Global;
 
-/// The verdicts of a certificate, where the bytes are one that meets all conditions: then each verdict is
-/// true of its rule. Else the first condition that the bytes fail. There may be want of memory at any
-/// step of reading.
+/// Returns the verdicts of the certificate whose text the bytes are, if it meets all conditions. Then each verdict is
+/// true of its rule. Otherwise returns the first fault of the text or the first condition that isn't met. Each step
+/// of reading may lack memory.
 pub fn judge(alloc: Global, bytes: &[u8]) -> Result<Verdicts, Refusal>
     ensures accepted { IfOk result (IsAccepted bytes.now) }
     ensures verdicts { IfOk result AreTrue }

@@ -1,12 +1,14 @@
-//! The judge of certificates. It accepts bytes exactly where they are a certificate that meets
-//! seventeen conditions, and then each of its verdicts is true of its rule. Else it says what the bytes
-//! fail first. No decider stands below, so nothing that finds evidence has to be trusted. The crate
-//! `cert_conditions` has the conditions, and the laws that make the verdicts true.
+//! The judge of certificates.
 //!
-//! For k states and N nodes the claims take time **O(N²·k²)**, and so do listed pairs, with **O(s)** for s
-//! of them. Of s listed sets, of which d are different, the check takes **O(s + d·k·N)**, and from version
-//! 2 on **O(2^N)** besides; up to 256 sets are looked at one by one, in **O(s·k·(s + N))**. An orphan of n
-//! letters takes **O(n·N)**, twins and a ring **O(n·m)**. No condition takes memory.
+//! It accepts bytes if and only if they are the text of a certificate that meets seventeen conditions, and then each
+//! of its verdicts is true of its rule. Otherwise it returns the first thing that the bytes fail. It uses no decider,
+//! so you needn't trust anything that finds evidence. The crate `cert_conditions` has the conditions, and the laws
+//! that make the verdicts true.
+//!
+//! For k states and N nodes the claims take time **O(N²·k²)**. So do listed pairs, with **O(s)** more for s of them.
+//! For s listed sets, d of them different, the check takes **O(s + d·k·N)**, and from version 2 on **O(2^N)** more.
+//! Up to 256 sets are compared one by one, in **O(s·k·(s + N))**. An orphan of n letters takes **O(n·N)**, twins and
+//! a ring **O(n·m)**. No condition needs memory.
 #![tactic(auto)]
 
 mod aheads;

@@ -8,10 +8,10 @@ ghost use Rattle.cert_check.specs.Rows.{IsMarked, AreMarked, AreKept, without};
 use cert_values::CertVersion;
 use word_image::MOST_NODES;
 
-/// A row for each 16 of the 65,536 sets.
+/// The number of rows, with 16 of the 65,536 sets in each.
 const ROWS: usize = 4096;
 
-/// Which of all sets of sixteen nodes are marked.
+/// Marks on sets of sixteen nodes.
 #[derive(Drop)]
 pub struct Marks {
     // Set s is bit s % 16 of row s / 16.
@@ -19,14 +19,14 @@ pub struct Marks {
 }
 
 impl Marks {
-    /// No marks.
+    /// Returns no marks.
     pub fn new() -> Marks
         ensures { (s : ℕ) → ¬ IsMarked result.rows s }
     {
         Marks { rows: [0; ROWS] }
     }
 
-    /// A mark on each set of a list.
+    /// Marks each set of a list.
     pub fn of(sets: &[u16]) -> Marks
         ensures { AreMarked result.rows sets.now }
     {
@@ -37,7 +37,7 @@ impl Marks {
         marks
     }
 
-    /// A mark on each set up to the full one that the step of a listed set may be in this version.
+    /// Marks each set, up to the set of all nodes, that may be the step of a listed set in this version.
     pub fn kept(version: CertVersion, full: u16, sets: &[u16]) -> Marks
         ensures { AreKept version full sets.now result.rows }
     {
@@ -47,7 +47,7 @@ impl Marks {
         }
     }
 
-    /// A mark on each set up to the full one that contains one of a list.
+    /// Marks each set, up to the set of all nodes, that contains a set of a list.
     fn above(full: u16, sets: &[u16]) -> Marks
         ensures { (s : ℕ) → IsMarked result.rows s ↔ ((s < full + 1) × HasPart sets.now s) }
     {
@@ -63,7 +63,7 @@ impl Marks {
         above
     }
 
-    /// Whether a set is marked without one of its nodes.
+    /// Returns whether a set becomes a marked one when some node is removed.
     fn has_without_one(&self, set: u16) -> bool
         ensures { IsTrue result ↔ ((n : ℕ) × (n < most_nodes) × IsMarked self.now.rows (without set n)) }
     {
@@ -75,14 +75,14 @@ impl Marks {
         false
     }
 
-    /// Whether a set is marked.
+    /// Returns whether a set is marked.
     pub fn has(&self, set: u16) -> bool
         ensures { IsTrue result ↔ IsMarked self.now.rows set }
     {
         self.rows[usize::from(set / 16)] >> (set % 16) & 1 == 1
     }
 
-    /// Marks one set more.
+    /// Marks one more set.
     pub fn mark(&mut self, set: u16)
         ensures { (s : ℕ) → IsMarked self.new.rows s ↔ ((s ≡ set) ⊎ IsMarked self.old.rows s) }
     {
@@ -90,7 +90,7 @@ impl Marks {
     }
 }
 
-/// Whether a set is listed, or marked without one of its nodes.
+/// Returns whether a set is listed, or becomes a marked one when some node is removed.
 fn is_above(listed: &Marks, above: &Marks, set: u16) -> bool
     ensures { IsTrue result ↔ (IsMarked listed.now.rows set ⊎ ((n : ℕ) × (n < most_nodes) × IsMarked above.now.rows (without set n))) }
 {

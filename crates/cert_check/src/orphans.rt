@@ -9,7 +9,7 @@ use cert_conditions::{Condition, Refusal};
 use cert_values::{Cert, SurjectivePart};
 use word_image::{Rule, Side, edge_rows, step};
 
-/// Whether the orphan leads from the full set to the empty one.
+/// Checks that the steps of the orphan lead from the set of all nodes to the empty set.
 pub fn orphan_read(cert: &Cert) -> Result<(), Refusal>
     ensures { IsChecked cert.now Condition.OrphanRead result }
 {
@@ -25,7 +25,7 @@ pub fn orphan_read(cert: &Cert) -> Result<(), Refusal>
     }
 }
 
-/// The set to which a word leads from the full set.
+/// Returns the set to which the steps of a word lead from the set of all nodes.
 fn reached(rule: &Rule, word: &[u8]) -> u16
     requires { IsWord rule.now.states word.now }
     ensures { LeadsTo rule.now (full_set rule.now) word.now result }

@@ -13,7 +13,7 @@ use cert_conditions::{Condition, Refusal};
 use cert_values::{Cert, SurjectivePart};
 use word_image::{Rule, Side};
 
-/// Whether each first pair of the right is listed; else the least that isn't.
+/// Checks that each first pair on the right is listed. Returns the least other pair otherwise.
 pub fn firsts_listed(cert: &Cert) -> Result<(), Refusal>
     ensures { IsChecked cert.now Condition.FirstsListed result }
 {
@@ -26,7 +26,7 @@ pub fn firsts_listed(cert: &Cert) -> Result<(), Refusal>
     }
 }
 
-/// Whether no listed pair has two equal nodes; else the place of the first that has.
+/// Checks that no listed pair has two equal nodes. Returns the place of the first such pair otherwise.
 pub fn off_diagonal(cert: &Cert) -> Result<(), Refusal>
     ensures { IsChecked cert.now Condition.OffDiagonal result }
 {
@@ -39,8 +39,8 @@ pub fn off_diagonal(cert: &Cert) -> Result<(), Refusal>
     }
 }
 
-/// Whether each pair to which a listed pair leads is listed; else the first place of a pair that leads to
-/// another, and the first two letters on which it does.
+/// Checks that each pair that a step reaches from a listed pair is listed. Otherwise returns the first place of a
+/// pair with a step to another one, and the first two letters of such a step.
 pub fn pairs_closed(cert: &Cert) -> Result<(), Refusal>
     ensures { IsChecked cert.now Condition.PairsClosed result }
 {
@@ -53,7 +53,7 @@ pub fn pairs_closed(cert: &Cert) -> Result<(), Refusal>
     }
 }
 
-/// The least first pair of the right that isn't listed.
+/// Returns the least first pair on the right that isn't listed.
 fn first_missing(rule: &Rule, pairs: &[u16]) -> Option<u16>
     ensures { FirstBreach (pair_count rule.now) (FirstIsListed rule.now pairs.now) result }
 {
@@ -66,7 +66,7 @@ fn first_missing(rule: &Rule, pairs: &[u16]) -> Option<u16>
     None
 }
 
-/// The place of the first pair with two equal nodes.
+/// Returns the place of the first pair with two equal nodes.
 fn first_diagonal(rule: &Rule, pairs: &[u16]) -> Option<usize>
     requires { All (λ p. p < pair_count rule.now) pairs.now }
     ensures { FirstBreach (length pairs.now)
@@ -81,8 +81,7 @@ fn first_diagonal(rule: &Rule, pairs: &[u16]) -> Option<usize>
     None
 }
 
-/// The place of the first pair that leads to one that isn't listed, and the first letters on which it
-/// does.
+/// Returns the place of the first pair with a step to a pair that isn't listed, and the first letters of such a step.
 fn first_leaving(rule: &Rule, pairs: &[u16]) -> Option<(usize, (u8, u8))>
     requires { All (λ p. p < pair_count rule.now) pairs.now }
     ensures { MatchOption result
@@ -104,7 +103,7 @@ fn first_leaving(rule: &Rule, pairs: &[u16]) -> Option<(usize, (u8, u8))>
     None
 }
 
-/// The first letters, by the first and then the second, on which a pair leads to one that isn't marked.
+/// Returns the first letters, by the first and then the second, that reach an unmarked pair from a pair.
 fn first_step_out(rule: &Rule, listed: &Marks, pair: u16) -> Option<(u8, u8)>
     requires { pair < pair_count rule.now }
     ensures { (pairs : List ℕ) → AreMarked listed.now.rows pairs → MatchOption result
@@ -119,7 +118,7 @@ fn first_step_out(rule: &Rule, listed: &Marks, pair: u16) -> Option<(u8, u8)>
     None
 }
 
-/// The first second letter on which a pair leads to one that isn't marked.
+/// Returns the least `b` for which the letters `a` and `b` reach an unmarked pair from a pair.
 fn first_letter_out(rule: &Rule, listed: &Marks, pair: u16, a: u8) -> Option<u8>
     requires pair { pair < pair_count rule.now }
     requires letter { a < rule.now.states }
@@ -134,7 +133,7 @@ fn first_letter_out(rule: &Rule, listed: &Marks, pair: u16, a: u8) -> Option<u8>
     None
 }
 
-/// Whether the pair to which a pair leads on two letters is marked, where there is one.
+/// Returns whether the pair that two letters reach from a pair is marked, if there is one.
 fn leads_within(rule: &Rule, listed: &Marks, pair: u16, a: u8, b: u8) -> bool
     requires pair { pair < pair_count rule.now }
     requires first { a < rule.now.states }

@@ -13,11 +13,11 @@ use cert_conditions::{Condition, Refusal};
 use cert_values::{Cert, CertVersion, SurjectivePart};
 use word_image::{EdgeRows, Rule, Side, edge_rows, step};
 
-/// The most listed sets that are all looked at for each step. With more, marks on the sets that contain a
-/// listed one take less: they are made once, by a look at each of 65,536 sets.
+/// The greatest number of listed sets that are all compared with each step. For more sets, marks on the sets that
+/// contain a listed one take less time: they are made once, for all 65,536 sets.
 const FEW: usize = 256;
 
-/// Whether the full set is listed.
+/// Checks that the set of all nodes is listed.
 pub fn full_listed(cert: &Cert) -> Result<(), Refusal>
     ensures { IsChecked cert.now Condition.FullListed result }
 {
@@ -33,7 +33,7 @@ pub fn full_listed(cert: &Cert) -> Result<(), Refusal>
     }
 }
 
-/// Whether no listed set is empty; else the first place of an empty one.
+/// Checks that no listed set is empty. Returns the first place of an empty one otherwise.
 pub fn none_empty(cert: &Cert) -> Result<(), Refusal>
     ensures { IsChecked cert.now Condition.NoneEmpty result }
 {
@@ -46,8 +46,8 @@ pub fn none_empty(cert: &Cert) -> Result<(), Refusal>
     }
 }
 
-/// Whether the steps of each listed set are as its version asks; else the first place of a set with one
-/// that isn't, and the first letter on which it isn't.
+/// Checks that the steps of each listed set meet the condition of the version. Returns the first place of a set with
+/// another step, and the first letter of such a step, otherwise.
 pub fn closed(cert: &Cert) -> Result<(), Refusal>
     ensures { IsChecked cert.now Condition.Closed result }
 {
@@ -63,7 +63,7 @@ pub fn closed(cert: &Cert) -> Result<(), Refusal>
     }
 }
 
-/// The place of the first empty set.
+/// Returns the place of the first empty set.
 fn first_empty(sets: &[u16]) -> Option<usize>
     ensures { FirstBreach (length sets.now) (λ i. slice_index sets.now i ≢ 0) result }
 {
@@ -75,8 +75,8 @@ fn first_empty(sets: &[u16]) -> Option<usize>
     None
 }
 
-/// The place of the first set with a step that isn't as the version asks, and the first letter of such a
-/// step.
+/// Returns the place of the first set with a step that doesn't meet the condition of the version, and the first
+/// letter of such a step.
 fn first_open(
     version: CertVersion,
     rule: &Rule,
@@ -106,7 +106,7 @@ fn first_open(
     None
 }
 
-/// The first letter on which the step of a set isn't marked.
+/// Returns the first letter on which the step of a set isn't marked.
 fn first_not_kept(rule: &Rule, edges: &EdgeRows, kept: &Marks, set: u16) -> Option<u8>
     requires { AreEdgeRows Side.Right rule.now edges.now }
     ensures { (version : CertVersion) (sets : List ℕ) → AreKept version (full_set rule.now) sets kept.now.rows → FirstBreach rule.now.states (StepIsKept version rule.now sets set) result }
@@ -119,7 +119,7 @@ fn first_not_kept(rule: &Rule, edges: &EdgeRows, kept: &Marks, set: u16) -> Opti
     None
 }
 
-/// The place and the letter of that step, by a look at each listed set for each step.
+/// Does the same as `first_open`, and compares each step with each listed set.
 fn first_open_of_few(
     version: CertVersion,
     rule: &Rule,
@@ -140,7 +140,7 @@ fn first_open_of_few(
     None
 }
 
-/// The first letter on which the step of a set isn't as the version asks.
+/// Returns the first letter on which the step of a set doesn't meet the condition of the version.
 fn first_outside(
     version: CertVersion,
     rule: &Rule,
@@ -159,7 +159,7 @@ fn first_outside(
     None
 }
 
-/// Whether a set is as the version asks of a step.
+/// Returns whether a set meets the condition of the version on steps.
 fn is_kept(version: CertVersion, sets: &[u16], set: u16) -> bool
     ensures { IsTrue result ↔ IsKept version sets.now set }
 {
@@ -169,7 +169,7 @@ fn is_kept(version: CertVersion, sets: &[u16], set: u16) -> bool
     }
 }
 
-/// Whether a set contains a listed one.
+/// Returns whether a set contains a listed one.
 fn has_part(sets: &[u16], set: u16) -> bool
     ensures { IsTrue result ↔ HasPart sets.now set }
 {

@@ -12,8 +12,8 @@ use cert_values::{Cert, SidePart};
 use tail_config::{Tail, agree_left, agree_right, differ, share};
 use word_image::{Rule, Side};
 
-/// Whether the configurations differ, agree on the other side and share an image; else the first of these
-/// that fails.
+/// Checks that the configurations differ, agree on the other side and share an image. Returns the first of these that
+/// fails otherwise.
 pub fn side_split(cert: &Cert, side: Side) -> Result<(), Refusal>
     ensures { IsChecked cert.now (Condition.SideSplit side) result }
 {
@@ -26,7 +26,7 @@ pub fn side_split(cert: &Cert, side: Side) -> Result<(), Refusal>
     }
 }
 
-/// What two configurations lack that are no split of this side.
+/// Returns why two configurations aren't a split of this side, if they aren't.
 fn lacks(rule: &Rule, side: Side, x: &Tail, y: &Tail) -> Option<SplitCause>
     requires first { x.now.states ≡ rule.now.states }
     requires second { y.now.states ≡ rule.now.states }
@@ -46,7 +46,7 @@ fn lacks(rule: &Rule, side: Side, x: &Tail, y: &Tail) -> Option<SplitCause>
     None
 }
 
-/// Whether two configurations are equal far on the other side.
+/// Returns whether two configurations agree on the other side.
 fn agree_behind(side: Side, x: &Tail, y: &Tail) -> bool
     ensures { IsTrue result ↔ AgreeBehind side x.now.config y.now.config }
 {

@@ -1,4 +1,4 @@
-//! A flux that balances, or a ring that loses.
+//! A flux that balances, or a ring whose image has another sum.
 
 ghost use Rattle.std.specs.Prelude.{◌≡◌, ◌↔◌, ◌^◌, ◌<◌, length, slice_index, IsTrue};
 ghost use Rattle.word_image.specs.LocalRules.{node_count, word_of};
@@ -9,7 +9,7 @@ use cert_conditions::{Condition, Refusal};
 use cert_values::{Cert, SumPart};
 use word_image::{Rule, Side, Weights, keeps_sum};
 
-/// Whether the flux balances what each window gains; else the least window that it doesn't.
+/// Checks that the flux balances the gain of each window. Returns the least other window otherwise.
 pub fn flux_flows(cert: &Cert) -> Result<(), Refusal>
     ensures { IsChecked cert.now Condition.FluxFlows result }
 {
@@ -22,7 +22,7 @@ pub fn flux_flows(cert: &Cert) -> Result<(), Refusal>
     }
 }
 
-/// Whether the ring has letters, and its image another sum.
+/// Checks that the ring has letters, and its image another sum.
 pub fn ring_lossy(cert: &Cert) -> Result<(), Refusal>
     ensures { IsChecked cert.now Condition.RingLossy result }
 {
@@ -36,7 +36,7 @@ pub fn ring_lossy(cert: &Cert) -> Result<(), Refusal>
     Ok(())
 }
 
-/// The value of the first window at which the flux doesn't balance.
+/// Returns the value of the first window at which the flux doesn't balance.
 fn first_unbalanced(rule: &Rule, weights: &Weights, flux: &[i32]) -> Option<u16>
     requires letters { length weights.now ≡ rule.now.states }
     requires nodes { length flux.now ≡ node_count rule.now }
@@ -50,7 +50,7 @@ fn first_unbalanced(rule: &Rule, weights: &Weights, flux: &[i32]) -> Option<u16>
     None
 }
 
-/// Whether the window of this value gains what the flux takes from its first node to its last one.
+/// Returns whether the flux balances the gain of the window with this value.
 fn flows(rule: &Rule, weights: &Weights, flux: &[i32], window: u16) -> bool
     requires letters { length weights.now ≡ rule.now.states }
     requires nodes { length flux.now ≡ node_count rule.now }

@@ -10,7 +10,8 @@ use cert_conditions::{Condition, Refusal};
 use cert_values::{Cert, InjectivePart};
 use word_image::{Rule, Side};
 
-/// Whether the claims of ranks determine the letter of the window; else the first pair whose claims don't.
+/// Checks that the claims of ranks determine the letter of the window. Returns the first pair whose claims don't
+/// otherwise.
 pub fn window_claims(cert: &Cert) -> Result<(), Refusal>
     ensures { IsChecked cert.now Condition.WindowClaims result }
 {
@@ -24,8 +25,7 @@ pub fn window_claims(cert: &Cert) -> Result<(), Refusal>
     }
 }
 
-/// The first pair whose nodes differ where the window (n, c) reads them, and that the claims don't
-/// tell apart.
+/// Returns the first pair whose nodes differ in the letter of the window (n, c) and that the claims don't exclude.
 fn first_not_told(
     rule: &Rule,
     forward: &[Option<u16>],
@@ -46,8 +46,8 @@ fn first_not_told(
     None
 }
 
-/// Whether the nodes of a pair have one letter where the window (n, c) reads them, or the claims tell
-/// them apart: j = min(c, n) letters of the image are read before these nodes, and n - j behind.
+/// Returns whether the nodes of a pair have the same letter in the window (n, c), or the claims exclude the pair. j =
+/// min(c, n) letters of the image come before these nodes, and n - j after.
 fn is_told(
     rule: &Rule,
     forward: &[Option<u16>],

@@ -1,4 +1,4 @@
--- Which bytes are accepted, and what their verdicts say.
+-- The bytes that are accepted, and the meaning of their verdicts.
 use Rattle.std.specs.Prelude.{◌≡◌, ℕ, ◌↔◌, Bool, ◌&&◌, IsTrue, List, slice_index}
 use Rattle.word_image.specs.Words.{IsSurjective}
 use Rattle.word_image.specs.Rings.{IsConserving}
@@ -9,7 +9,7 @@ use Rattle.cert_values.specs.CertificateTexts.{IsCertificateText}
 use Rattle.cert_conditions.specs.declared.verdicts.Verdicts.{Verdicts}
 use Rattle.cert_conditions.specs.Conditions.{MeetsConditions}
 
--- the verdicts of a certificate are those of its parts
+-- the verdicts of a certificate's parts
 abbrev pub verdicts_of : Certificate → Verdicts
 verdicts_of c = record {
   rule = c.rule;
@@ -21,18 +21,18 @@ verdicts_of c = record {
   conserving = says_conserving c.conserving;
 }
 
--- a rule is open exactly where it closes on both sides
+-- a rule is open if it closes on both sides
 abbrev pub is_open : Verdicts → Bool
 is_open v = v.right && v.left
 
--- the bytes are a certificate with these verdicts that meets the conditions: what the judge accepts
+-- the judge accepts the bytes with these verdicts: they are the text of a certificate with these verdicts that meets the conditions
 pub record IsAccepted (bytes : List ℕ) (v : Verdicts) : Type 0 where
   pub certificate : Certificate
   pub text : IsCertificateText bytes certificate
   pub meets : MeetsConditions certificate
   pub verdicts : v ≡ verdicts_of certificate
 
--- each verdict is true of the rule, that of conserving by the weights
+-- each verdict is true of the rule, and the verdict on conserving under the weights
 pub record AreTrue (v : Verdicts) : Type 0 where
   pub surjective : IsTrue v.surjective ↔ IsSurjective v.rule
   pub injective : IsTrue v.injective ↔ IsInjective v.rule

@@ -1,11 +1,11 @@
--- The first number at which something isn't so.
+-- The first number at which something doesn't hold.
 use Rattle.std.specs.Prelude.{ℕ, ◌<◌}
 
--- P of each number below n
+-- P holds for each number below n
 abbrev pub EachBelow : ℕ → (ℕ → Type 0) → Type 0
 EachBelow n P = (i : ℕ) → i < n → P i
 
--- i is the first number, and it is below n, of which P isn't true
+-- i is the first number below n for which P doesn't hold
 pub record IsFirstBreach (n : ℕ) (P : ℕ → Type 0) (i : ℕ) : Type 0 where
   pub within : i < n
   pub fails : ¬ P i

@@ -1,8 +1,8 @@
--- A certificate of one version as one of another.
+-- A certificate with another version.
 use Rattle.cert_values.specs.declared.cert_version.CertVersion.{CertVersion}
 use Rattle.cert_values.specs.Certificates.{Certificate}
 
--- a certificate, as one of this version
+-- the certificate with this version
 abbrev pub in_version : CertVersion → Certificate → Certificate
 in_version version c = record {
   version = version;

@@ -1,4 +1,4 @@
--- What a certificate must meet so that each of its verdicts is true.
+-- The conditions on a certificate, which make each of its verdicts true.
 use Rattle.std.specs.Prelude.{◌≡◌, ◌≢◌, ℕ, ◌^◌, ◌≤◌, List, [], ◌∷◌, length, slice_index, Contains, ℤ, ⊤}
 use Rattle.word_image.specs.LocalRules.{word_of}
 use Rattle.word_image.specs.Rings.{ring_image}
@@ -17,60 +17,60 @@ use Rattle.cert_conditions.specs.Pairs.{FirstIsListed, StepsAreListed}
 use Rattle.cert_conditions.specs.Sides.{AgreeBehind, claims_on, evidence_on}
 use Rattle.cert_conditions.specs.Sums.{Flows, IsLossy}
 
--- the conditions in the order in which they are checked
+-- the conditions in the order in which the judge checks them
 abbrev pub conditions : List Condition
 conditions =
     SideClaims Right ∷ SideClaims Left ∷ FullListed ∷ NoneEmpty ∷ Closed ∷ FirstsListed ∷ OffDiagonal ∷ PairsClosed ∷ OrphanRead ∷ WindowClaims ∷ TwinsAlike ∷ SideAhead Right ∷ SideSplit Right ∷ SideAhead Left ∷ SideSplit Left ∷ FluxFlows ∷ RingLossy ∷ []
 
--- what is asked of listed sets, where the part has them
+-- a property of the listed sets, if the part has sets
 abbrev pub OfSets : SurjectiveEvidence → (List ℕ → Type 0) → Type 0
 OfSets (Sets sets) P = P sets
 OfSets (Pairs pairs) P = ⊤
 OfSets (Orphan w) P = ⊤
 
--- what is asked of listed pairs, where the part has them
+-- a property of the listed pairs, if the part has pairs
 abbrev pub OfPairs : SurjectiveEvidence → (List ℕ → Type 0) → Type 0
 OfPairs (Sets sets) P = ⊤
 OfPairs (Pairs pairs) P = P pairs
 OfPairs (Orphan w) P = ⊤
 
--- what is asked of an orphan, where the part has one
+-- a property of the orphan, if the part has one
 abbrev pub OfOrphan : SurjectiveEvidence → (List ℕ → Type 0) → Type 0
 OfOrphan (Sets sets) P = ⊤
 OfOrphan (Pairs pairs) P = ⊤
 OfOrphan (Orphan w) P = P w
 
--- what is asked of a window, where the part has one
+-- a property of the window, if the part has one
 abbrev pub OfWindow : InjectiveEvidence → (ℕ → ℕ → Type 0) → Type 0
 OfWindow (Window n c) P = P n c
 OfWindow (Twins x y) P = ⊤
 
--- what is asked of twins, where the part has them
+-- a property of the twins, if the part has them
 abbrev pub OfTwins : InjectiveEvidence → (List ℕ → List ℕ → Type 0) → Type 0
 OfTwins (Window n c) P = ⊤
 OfTwins (Twins x y) P = P x y
 
--- what is asked of a look-ahead, where the part has one
+-- a property of the look-ahead, if the part has one
 abbrev pub OfAhead : SideEvidence → (ℕ → Type 0) → Type 0
 OfAhead (Ahead n) P = P n
 OfAhead (Split x y) P = ⊤
 
--- what is asked of a split, where the part has one
+-- a property of the split, if the part has one
 abbrev pub OfSplit : SideEvidence → (TailConfig → TailConfig → Type 0) → Type 0
 OfSplit (Ahead n) P = ⊤
 OfSplit (Split x y) P = P x y
 
--- what is asked of a flux, where the part has one
+-- a property of the flux, if the part has one
 abbrev pub OfFlux : SumEvidence → (List ℤ → Type 0) → Type 0
 OfFlux (Flux phi) P = P phi
 OfFlux (Ring p) P = ⊤
 
--- what is asked of a ring, where the part has one
+-- a property of the ring, if the part has one
 abbrev pub OfRing : SumEvidence → (List ℕ → Type 0) → Type 0
 OfRing (Flux phi) P = ⊤
 OfRing (Ring p) P = P p
 
--- what each condition asks
+-- the certificate meets the condition
 abbrev pub Holds : Certificate → Condition → Type 0
 Holds c (SideClaims side) = EachBelow (pair_count c.rule) (Falls side c.rule (claims_on c side))
 Holds c FullListed = OfSets c.surjective (λ sets. Contains sets (full_set c.rule))

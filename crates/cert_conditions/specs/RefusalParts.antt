@@ -1,4 +1,4 @@
--- The parts of which a refusal consists when it is told: words and numbers.
+-- The parts of a refusal in texts and in JSON: words and numbers.
 use Rattle.std.specs.Prelude.{ℕ, List, [], codes, Option, Some, None}
 use Rattle.std.specs.Option.{option_map}
 use Rattle.word_image.specs.declared.side.Side.{Side}
@@ -18,7 +18,7 @@ use Rattle.cert_conditions.specs.declared.refusal_parts.RefusalNumbers.{RefusalN
 use Rattle.cert_conditions.specs.declared.refusal_parts.RefusalNumbers.TheVariants as numbers
 use Rattle.cert_conditions.specs.declared.refusal_parts.RefusalParts.{RefusalParts}
 
--- a word for the part that has no right shape
+-- the word for the part that has the wrong shape
 abbrev pub key_text : Key → List ℕ
 key_text key.Top = codes "top"
 key_text key.Version = codes "version"
@@ -37,19 +37,19 @@ abbrev pub side_text : Side → List ℕ
 side_text side.Right = codes "right"
 side_text side.Left = codes "left"
 
--- a word for why two words are no twins
+-- the word for the reason why two words aren't twins
 abbrev pub twin_text : TwinCause → List ℕ
 twin_text twin.Length = codes "length"
 twin_text twin.Same = codes "same"
 twin_text twin.Image = codes "image"
 
--- a word for why two configurations are no split
+-- the word for the reason why two configurations aren't a split
 abbrev pub split_text : SplitCause → List ℕ
 split_text split.Same = codes "same"
 split_text split.Apart = codes "apart"
 split_text split.Image = codes "image"
 
--- a cause, and what else is said: a side, a reason, a key, a fault of the rule's text, and numbers
+-- a cause, and optionally a side, a reason, a key and a fault of the rule's text, and numbers
 pub record Parts : Type 0 where
   pub cause : List ℕ
   pub side : Option (List ℕ)
@@ -62,11 +62,11 @@ pub record Parts : Type 0 where
 abbrev pub with : List ℕ → RefusalNumbers → Parts
 with cause ns = record { cause = cause; side = None; because = None; key = None; fault = None; numbers = ns }
 
--- the same parts, and a side
+-- the same parts with a side
 abbrev pub on : Side → Parts → Parts
 on s p = record { cause = p.cause; side = Some (side_text s); because = p.because; key = p.key; fault = p.fault; numbers = p.numbers }
 
--- the same parts, and a reason
+-- the same parts with a reason
 abbrev pub because : List ℕ → Parts → Parts
 because why p = record { cause = p.cause; side = p.side; because = Some why; key = p.key; fault = p.fault; numbers = p.numbers }
 
@@ -75,14 +75,14 @@ abbrev pub place_number : Option ℕ → RefusalNumbers
 place_number None = numbers.None
 place_number (Some place) = numbers.One place
 
--- the parts of the first fault of a certificate's shape
+-- the parts of the first fault of a certificate's text
 abbrev pub of_shape : ShapeFault → Parts
 of_shape shape.NotJson = because (codes "notjson") (with (codes "format") numbers.None)
 of_shape (shape.Version v) = because (codes "version") (with (codes "format") (numbers.One v))
 of_shape (shape.Shape k) = record { cause = codes "format"; side = None; because = Some (codes "shape"); key = Some (key_text k); fault = None; numbers = numbers.None }
 of_shape (shape.Rule f) = record { cause = codes "format"; side = None; because = Some (codes "rule"); key = None; fault = Some (fault_name f); numbers = place_number (fault_place f) }
 
--- the parts of a refusal: the first condition that isn't met, and what is said of it; want of memory isn't one
+-- the parts of a refusal; lack of memory isn't one
 abbrev pub parts_of : Refusal → Parts
 parts_of (refusal.Format f) = of_shape f
 parts_of (refusal.Rank s p) = on s (with (codes "rank") (numbers.One p))
@@ -101,7 +101,7 @@ parts_of (refusal.Flux w) = with (codes "flux") (numbers.One w)
 parts_of refusal.Ring = with (codes "ring") numbers.None
 parts_of (refusal.Memory _) = with [] numbers.None
 
--- the parts that the code has
+-- the parts in the definitions of the parts in the code
 abbrev pub said_in : RefusalParts → Parts
 said_in p = record {
   cause = p.cause.now;

@@ -1,4 +1,4 @@
--- What is asked on a side of the line, right or left.
+-- The parts of a certificate for a side of the line, right or left.
 use Rattle.std.specs.Prelude.{ℕ, List, Option}
 use Rattle.tail_config.specs.Tails.{TailConfig, AgreeLeft, AgreeRight}
 use Rattle.cert_values.specs.Evidence.{SideEvidence}
@@ -6,17 +6,17 @@ use Rattle.cert_values.specs.Certificates.{Certificate}
 use Rattle.word_image.specs.declared.side.Side.{Side}
 use Rattle.word_image.specs.declared.side.Side.TheVariants.{Right, Left}
 
--- two configurations are equal far on the other side
+-- two configurations agree on the other side
 abbrev pub AgreeBehind : Side → TailConfig → TailConfig → Type 0
 AgreeBehind Right = AgreeLeft
 AgreeBehind Left = AgreeRight
 
--- what is claimed of the pairs on this side
+-- the claims for the pairs on this side
 abbrev pub claims_on : Certificate → Side → List (Option ℕ)
 claims_on c Right = c.forward
 claims_on c Left = c.backward
 
--- what is said of closing on this side
+-- the evidence for closing on this side
 abbrev pub evidence_on : Certificate → Side → SideEvidence
 evidence_on c Right = c.right
 evidence_on c Left = c.left

@@ -1,17 +1,17 @@
--- What a flux and a ring say of the sum of all letters (Hattori and Takesue 1991).
+-- The conditions on a flux and on a ring (Hattori and Takesue 1991).
 use Rattle.std.specs.Prelude.{◌≡◌, ℕ, ◌-◌, ◌≤◌, List, length, take, drop, slice_index, slice_index_or, ℤ, pos, ◌-ℤ◌}
 use Rattle.word_image.specs.LocalRules.{LocalRule, local_map, value}
 use Rattle.word_image.specs.Rings.{KeepsSum}
 
--- phi at a node
+-- the flux phi at a node
 abbrev pub flux_at : List ℤ → ℕ → ℤ
 flux_at phi u = slice_index_or phi u (pos 0)
 
--- the weight of the new letter less that of the first one is what flows from the first node of a window to its last
+-- the weight of the new letter minus the weight of the first letter of a window is phi of its first node minus phi of its last node
 abbrev pub Flows : (ℕ → ℕ) → LocalRule → List ℤ → List ℕ → Type 0
 Flows weight r phi w =
     (pos (weight (local_map r w)) -ℤ pos (weight (slice_index w 0))) ≡ (flux_at phi (value r.states (take (r.width - 1) w)) -ℤ flux_at phi (value r.states (drop 1 w)))
 
--- a ring with letters whose image has another sum
+-- a ring of at least one letter whose image has another sum
 abbrev pub IsLossy : (ℕ → ℕ) → LocalRule → List ℕ → Type 0
 IsLossy weight r p = (1 ≤ length p) × ¬ KeepsSum weight r p

@@ -2,36 +2,35 @@
 
 use word_image::Side;
 
-/// What is asked of a certificate, most of it of evidence of one kind alone.
+/// A condition on a certificate. Most conditions only concern evidence of one kind.
 #[derive(Clone, Copy, Debug, PartialEq, Eq)]
 pub enum Condition {
-    /// What is claimed of a pair is more than what is claimed of each pair to which it leads on, on this
-    /// side.
+    /// The claim of each pair is greater than the claims of all pairs that a step on this side reaches from it.
     SideClaims(Side),
-    /// The full set is listed.
+    /// The set of all nodes is listed.
     FullListed,
     /// No listed set is empty.
     NoneEmpty,
-    /// Each step of a listed set is listed, or from version 2 on contains a listed set.
+    /// Each step of a listed set is a listed set, or from version 2 on contains a listed set.
     Closed,
-    /// Each first pair of the right is listed.
+    /// Each first pair on the right is listed.
     FirstsListed,
     /// No listed pair has two equal nodes.
     OffDiagonal,
-    /// Each pair to which a listed pair leads is listed.
+    /// Each pair that a step reaches from a listed pair is listed.
     PairsClosed,
-    /// The orphan leads from the full set to the empty one.
+    /// The steps of the orphan lead from the set of all nodes to the empty set.
     OrphanRead,
     /// The claims determine the letter of the window.
     WindowClaims,
-    /// The twins have one length and differ, and their rings have one image.
+    /// The twins have the same length, differ, and have rings with the same image.
     TwinsAlike,
-    /// The claims of the first pairs of this side are less than the look-ahead allows.
+    /// The claims of the first pairs on this side are small enough for the look-ahead.
     SideAhead(Side),
     /// The configurations differ, agree on the other side and share an image.
     SideSplit(Side),
-    /// The flux balances what each window gains.
+    /// The flux balances the gain of each window.
     FluxFlows,
-    /// The ring has letters, and its image has another sum.
+    /// The ring has at least one letter, and its image has another sum.
     RingLossy,
 }

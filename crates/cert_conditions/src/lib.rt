@@ -1,30 +1,35 @@
-//! What a certificate must meet, what is accepted and why bytes are refused: values and their laws. No code here finds
-//! or judges anything; the judge is the crate `cert_check`.
+//! The conditions on a certificate, and which bytes are accepted or refused: values and their laws. This crate finds
+//! and judges nothing. The judge is the crate `cert_check`.
 //!
-//! A node is a word of m - 1 letters, and a window leads from the node of its first letters to that of
-//! its last, with what the rule gives on it as its label (Sutner 1991). A set of nodes steps on a label to
-//! all nodes to which windows with that label lead from its nodes. Two nodes lead to a pair by two windows
-//! with one label. A claim of a pair is a bound of how many steps it can go on, forward or backward.
+//! A node is a word of m - 1 letters. A window leads from the node of its first letters to the node of its last
+//! letters, and its label is the letter that the rule gives for it (Sutner 1991). The step of a set of nodes on a
+//! label leads to all nodes that windows with this label reach from the set. A step of a pair of nodes follows two
+//! windows with equal labels. A claim for a pair is a bound on the number of steps that can follow each other from
+//! the pair, forward or backward.
 //!
-//! For each question a certificate has the evidence of one answer. Surjective: listed sets, which hold the
-//! full set and not the empty set, and each step from one of them, or from version 2 on a set within each
-//! such step; or in version 3 listed pairs, which hold each pair to which two different letters lead from
-//! one node and each pair to which they lead, and none of two equal nodes (Moore 1962, Myhill 1963); or a
-//! word that leads from the full set to the empty one. Injective: a window that the claims determine, or
-//! two words whose rings have one image. Closing on a side: a look-ahead that the claims allow, or two
-//! configurations that share an image and agree behind. Conserving: a flux that balances (Hattori and
-//! Takesue 1991), or a ring whose image has another sum, each letter taken by its weight.
+//! For each question a certificate has the evidence for one answer.
 //!
-//! The shift `2:2:0:t0101` has the nodes 0 and 1, and the label of a window is its last letter. The full
-//! set 3 steps to 1 on 0 and to 2 on 1, and so do 1 and 2: the sets 3, 1, 2 prove that the rule is
-//! surjective. With the sets 3 and 1 alone a certificate of it is refused as `NotClosed(0, 1)`. The rule
-//! `2:2:0:t0011` gives the first cell. Two letters lead from a node with one label, to the pairs 1 and 2,
-//! which lead nowhere: these prove that it is surjective.
+//! - Surjective: listed sets, which contain the set of all nodes and not the empty set, and each step of a listed
+//!   set, or from version 2 on a part of it. In version 3 also listed pairs, which contain each pair that two
+//!   different letters reach from the same node, and each pair that a step reaches from a listed pair, and no pair of
+//!   equal nodes (Moore 1962, Myhill 1963).
+//! - Not surjective: a word whose steps lead from the set of all nodes to the empty set.
+//! - Injective: a window that the claims determine. Not injective: two words whose rings have the same image.
+//! - Closing on a side: a look-ahead that the claims allow. Not closing: two configurations that share an image and
+//!   agree on the other side.
+//! - Conserving: a flux that balances (Hattori and Takesue 1991). Not conserving: a ring whose image has another sum
+//!   of weights.
 //!
-//! A [`Condition`] is one of seventeen, and `Holds` of specs/Conditions.antt says when a certificate meets it.
-//! `IsAccepted` of specs/Accepted.antt says which bytes are accepted, with which [`Verdicts`], and `IsRefusal` of
-//! specs/Refusals.antt which are refused, with which [`Refusal`]. That what is accepted is true is the law
-//! [`accepted_is_true`].
+//! The shift `2:2:0:t0101` has the nodes 0 and 1, and the label of a window is its last letter. The set of all nodes,
+//! 3, steps to 1 on 0 and to 2 on 1, and so do 1 and 2. The sets 3, 1, 2 prove that the rule is surjective. A
+//! certificate with only the sets 3 and 1 is refused as `NotClosed(0, 1)`. The rule `2:2:0:t0011` gives the first
+//! cell. Two letters lead from each node with equal labels, to the pairs 1 and 2, which have no steps: these pairs
+//! prove that it is surjective.
+//!
+//! There are seventeen [`Condition`]s, and `Holds` of specs/Conditions.antt says when a certificate meets one.
+//! `IsAccepted` of specs/Accepted.antt says which bytes are accepted, with which [`Verdicts`]. `IsRefusal` of
+//! specs/Refusals.antt says which bytes are refused, with which [`Refusal`]. The law [`accepted_is_true`] says that
+//! accepted verdicts are true.
 #![tactic(auto)]
 
 mod condition;

@@ -4,7 +4,7 @@ use cert_values::ShapeFault;
 use std::alloc::AllocError;
 use word_image::Side;
 
-/// What two words lack that are no twins.
+/// Why two words aren't twins.
 #[derive(Clone, Copy, Debug, PartialEq, Eq)]
 pub enum TwinCause {
     /// They have different lengths, or no letters.
@@ -15,50 +15,50 @@ pub enum TwinCause {
     Image,
 }
 
-/// What two configurations lack that are no split.
+/// Why two configurations aren't a split.
 #[derive(Clone, Copy, Debug, PartialEq, Eq)]
 pub enum SplitCause {
-    /// They don't differ.
+    /// They are equal.
     Same,
-    /// They don't agree on the side where they must.
+    /// They don't agree on the required side.
     Apart,
-    /// They share no image.
+    /// Their images differ.
     Image,
 }
 
-/// Why bytes are refused: the first condition that they fail, and what is said of it.
+/// Why bytes are refused: the first condition that they fail, with the place at which they do.
 #[derive(Clone, Copy, Debug, PartialEq, Eq)]
 pub enum Refusal {
-    /// They have no shape of a certificate, for this first fault.
+    /// They aren't the text of a certificate, because of this first fault.
     Format(ShapeFault),
-    /// The claim of this pair, the first such one, doesn't fall: forward on the right, backward on the
-    /// left.
+    /// The claim of this pair isn't greater than the claims that follow it: forward on the right, backward on the
+    /// left. It is the first such pair.
     Rank(Side, u16),
-    /// The full set isn't listed.
+    /// The set of all nodes isn't listed.
     NoFull,
-    /// The set at this place, the first such one, is empty.
+    /// The set at this place is empty. It is the first empty set.
     EmptySet(usize),
-    /// The step of the set at this place on this letter isn't listed, or from version 2 on contains no
-    /// listed set: the first place, then the first letter.
+    /// The step of the set at this place on this letter isn't listed, or from version 2 on contains no listed set. It
+    /// is the first such place, with its first such letter.
     NotClosed(usize, u8),
-    /// This first pair of the right, the least such one, isn't listed.
+    /// This first pair on the right isn't listed. It is the least such pair.
     NoFirst(u16),
-    /// The pair at this place, the first such one, has two equal nodes.
+    /// The pair at this place has two equal nodes. It is the first such pair.
     Diagonal(usize),
-    /// The pair at this place leads on these letters to a pair that isn't listed: the first place, then
-    /// the first letters.
+    /// The pair at this place has a step on these letters to a pair that isn't listed. It is the first such place,
+    /// with its first such letters.
     Leaves(usize, u8, u8),
-    /// The orphan leads to some node.
+    /// The steps of the orphan lead to some node.
     Orphan,
-    /// The claims of this pair, the first such one, don't determine the letter of the window.
+    /// The claims of this pair don't determine the letter of the window. It is the first such pair.
     Window(u16),
-    /// The words are no twins, for the first of these causes.
+    /// The words aren't twins, for the first of these causes that applies.
     Twins(TwinCause),
-    /// The claim of this first pair of the side, the least such one, is too great for the look-ahead.
+    /// The claim of this first pair on the side is too great for the look-ahead. It is the least such pair.
     Ahead(Side, u16),
-    /// The configurations are no split of this side, for the first of these causes.
+    /// The configurations aren't a split of this side, for the first of these causes that applies.
     Split(Side, SplitCause),
-    /// The flux doesn't balance at the window of this value, the least such one.
+    /// The flux doesn't balance at the window with this value. It is the least such window.
     Flux(u16),
     /// The ring has no letter, or its image has the same sum.
     Ring,

@@ -1,4 +1,4 @@
-//! The parts of which a refusal consists when it is told: words and numbers.
+//! The parts of a refusal in texts and in JSON: words and numbers.
 ghost use Rattle.std.specs.Prelude.{◌≡◌, IfOk};
 ghost use Rattle.cert_conditions.specs.RefusalParts as parts;
 ghost use Rattle.cert_conditions.specs.RefusalParts.{parts_of, said_in};
@@ -21,22 +21,22 @@ pub enum RefusalNumbers {
 /// The parts of a refusal. A text joins them in this order, and JSON names them.
 #[derive(Clone, Copy)]
 pub struct RefusalParts {
-    /// The condition that isn't met, or `format` if the bytes have no shape of a certificate.
+    /// The condition that isn't met, or `format` if the bytes aren't the text of a certificate.
     pub cause: &'static str,
-    /// The side of which the condition speaks.
+    /// The side of the condition.
     pub side: Option<&'static str>,
     /// Why the condition isn't met, if there are several reasons.
     pub because: Option<&'static str>,
-    /// The key of the part that has another shape.
+    /// The key of the part that has the wrong shape.
     pub key: Option<&'static str>,
     /// The fault of the rule's text.
     pub fault: Option<&'static str>,
-    /// The pair, the place and letters, the window, the version or the place in the rule's text.
+    /// The pair, the place and letters, the window, the version, or the place in the rule's text.
     pub numbers: RefusalNumbers,
 }
 
 impl RefusalParts {
-    /// The parts of a refusal. Want of memory has none, and is handed on as the error.
+    /// Returns the parts of a refusal. If the refusal is lack of memory, returns it as the error.
     pub fn of(refusal: Refusal) -> Result<RefusalParts, AllocError>
         ensures { IfOk result (λ made. said_in made ≡ parts_of refusal) }
     {
@@ -67,7 +67,7 @@ impl RefusalParts {
         Ok(parts)
     }
 
-    /// The same parts, and a side.
+    /// Adds a side.
     fn on(self, side: Side) -> RefusalParts
         ensures { said_in result ≡ parts.on side (said_in self) }
     {
@@ -81,7 +81,7 @@ impl RefusalParts {
         }
     }
 
-    /// The same parts, and a reason.
+    /// Adds a reason.
     fn because(self, why: &'static str) -> RefusalParts
         ensures { said_in result ≡ parts.because why.now (said_in self) }
     {
@@ -96,7 +96,7 @@ impl RefusalParts {
     }
 }
 
-/// A cause with its numbers and no other parts.
+/// Returns a cause with numbers and no other parts.
 fn with(cause: &'static str, numbers: RefusalNumbers) -> RefusalParts
     ensures { said_in result ≡ parts.with cause.now numbers }
 {
@@ -110,7 +110,7 @@ fn with(cause: &'static str, numbers: RefusalNumbers) -> RefusalParts
     }
 }
 
-/// The parts of the first fault of the shape.
+/// Returns the parts of the first fault of a certificate's text.
 fn of_shape(fault: ShapeFault) -> RefusalParts
     ensures { said_in result ≡ parts.of_shape fault }
 {
@@ -136,7 +136,7 @@ fn of_shape(fault: ShapeFault) -> RefusalParts
     }
 }
 
-/// The word for the part that has no right shape.
+/// Returns the word for the part that has the wrong shape.
 fn key_name(key: Key) -> &'static str
     ensures { result.now ≡ parts.key_text key }
 {
@@ -155,7 +155,7 @@ fn key_name(key: Key) -> &'static str
     }
 }
 
-/// The word for a side.
+/// Returns the word for a side.
 fn side_name(side: Side) -> &'static str
     ensures { result.now ≡ parts.side_text side }
 {
@@ -165,7 +165,7 @@ fn side_name(side: Side) -> &'static str
     }
 }
 
-/// The word for why two words are no twins.
+/// Returns the word for the reason why two words aren't twins.
 fn twin_name(cause: TwinCause) -> &'static str
     ensures { result.now ≡ parts.twin_text cause }
 {
@@ -176,7 +176,7 @@ fn twin_name(cause: TwinCause) -> &'static str
     }
 }
 
-/// The word for why two configurations are no split.
+/// Returns the word for the reason why two configurations aren't a split.
 fn split_name(cause: SplitCause) -> &'static str
     ensures { result.now ≡ parts.split_text cause }
 {

@@ -11,22 +11,22 @@ use word_image::{Rule, Weights, Word};
 pub struct Report {
     /// The rule.
     pub rule: Rule,
-    /// What each letter weighs.
+    /// The weight of each letter.
     pub weights: Weights,
-    /// A word that has no preimage; `None` if the rule is surjective.
+    /// A word without a preimage, or None if the rule is surjective.
     pub orphan: Option<Word>,
     /// A window if the rule is injective, otherwise twins.
     pub injective: InjectivePart,
     /// A right look-ahead if the rule is right-closing, otherwise a split.
     pub right: SidePart,
-    /// The same on the left.
+    /// A left look-ahead if the rule is left-closing, otherwise a split.
     pub left: SidePart,
     /// A flux if the rule is conserving, otherwise a ring that doesn't keep its sum.
     pub conserving: SumPart,
 }
 
 impl Report {
-    /// Whether the rule is open: both sides have a look-ahead.
+    /// Returns whether the rule is open: whether both sides have a look-ahead.
     pub fn is_open(&self) -> bool
         ensures { result ≡ says_open (side_of self.now.right) (side_of self.now.left) }
     {

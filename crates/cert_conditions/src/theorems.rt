@@ -1,4 +1,4 @@
-//! What the definitions say of all bytes, as the contract of a function with nothing to run.
+//! Laws about all bytes, each as the contract of a function that does nothing.
 ghost use Rattle.std.specs.Prelude.{◌≡◌, ℕ, List};
 ghost use Rattle.cert_values.specs.Certificates.{Certificate};
 ghost use Rattle.cert_conditions.specs.Conditions.{MeetsConditions};
@@ -10,20 +10,20 @@ use crate::refusal::Refusal;
 use crate::verdicts::Verdicts;
 use cert_values::CertVersion;
 
-/// Bytes are accepted with one list of verdicts at most, or refused for one reason at most, and never
-/// both. By the contract of `judge` they are one of these, unless memory is refused.
+/// Law: bytes are accepted with at most one list of verdicts, or refused for at most one reason, and not both. By the
+/// contract of `judge` one of the two is the case, unless there is no memory.
 pub fn one_answer()
     ensures accepted { (bytes : List ℕ) (v w : Verdicts) → IsAccepted bytes v → IsAccepted bytes w → v ≡ w }
     ensures refused { (bytes : List ℕ) (f g : Refusal) → IsRefusal bytes f → IsRefusal bytes g → f ≡ g }
     ensures never_both { (bytes : List ℕ) (v : Verdicts) (f : Refusal) → IsAccepted bytes v → ¬ IsRefusal bytes f }
 {}
 
-/// What is accepted is true, whoever accepts it.
+/// Law: accepted verdicts are true, whoever accepts them.
 pub fn accepted_is_true()
     ensures { (bytes : List ℕ) (v : Verdicts) → IsAccepted bytes v → AreTrue v }
 {}
 
-/// What meets the conditions in its version meets them as a certificate of version 2, and as one of version 3.
+/// Law: a certificate that meets the conditions of its version meets those of version 2 and of version 3, too.
 pub fn later_versions_ask_no_more()
     ensures two { (c : Certificate) → MeetsConditions c → MeetsConditions (in_version CertVersion.Two c) }
     ensures three { (c : Certificate) → MeetsConditions c → MeetsConditions (in_version CertVersion.Three c) }

@@ -6,28 +6,27 @@ ghost use Rattle.cert_conditions.specs.Accepted.{verdicts_of, is_open};
 use cert_values::{Cert, InjectivePart, SidePart, SumPart, SurjectivePart};
 use word_image::{Rule, Weights};
 
-/// What an accepted certificate says of its rule, and what is true of it.
+/// The verdicts of an accepted certificate, which are true of its rule.
 #[derive(Clone, Copy, Debug, PartialEq, Eq)]
 pub struct Verdicts {
     /// The rule.
     pub rule: Rule,
-    /// What each letter weighs.
+    /// The weight of each letter.
     pub weights: Weights,
     /// Whether every word has a preimage.
     pub surjective: bool,
     /// Whether no two different configurations share an image.
     pub injective: bool,
-    /// Whether no two that agree on the left do.
+    /// Whether no two different configurations that agree on the left share an image.
     pub right: bool,
-    /// Whether no two that agree on the right do.
+    /// Whether no two different configurations that agree on the right share an image.
     pub left: bool,
     /// Whether every ring keeps the sum of its letters' weights.
     pub conserving: bool,
 }
 
 impl Verdicts {
-    /// What a certificate says: yes exactly where its part has sets or pairs, a window, look-aheads, a
-    /// flux.
+    /// Returns the verdicts of a certificate: yes for sets, pairs, a window, a look-ahead or a flux.
     pub fn of(cert: &Cert) -> Verdicts
         ensures { result ≡ verdicts_of cert.now }
     {
@@ -42,7 +41,7 @@ impl Verdicts {
         }
     }
 
-    /// Whether the rule is open, which it is exactly where it closes on both sides.
+    /// Returns whether the rule is open, which means that it closes on both sides.
     pub fn is_open(&self) -> bool
         ensures { result ≡ is_open self.now }
     {

@@ -1,4 +1,4 @@
--- What reading a certificate and a part of it asks of the bytes and of a JSON value, and its faults.
+-- How bytes and JSON values are read as a certificate and its parts, and the faults of reading.
 use Rattle.std.specs.Prelude.{◌≡◌, ℕ, ◌⊎◌, ◌+◌, ◌-◌, ◌≤◌, length, All, ℤ, List, [], ◌∷◌, Option, alloc_error}
 use Rattle.serde_json.specs.Data.{Data, null, boolean, number, string, array, object, Members, no_members}
 use Rattle.word_image.specs.LocalRules.{LocalRule, IsWord, node_count}
@@ -16,7 +16,7 @@ use Rattle.cert_values.specs.CertificateTexts.{IsWhole, IsSigned, IsDigits, IsTa
 use Rattle.cert_values.specs.ShapeFaults.{IsFirstWithout, Passes, part_steps, IsShapeFault}
 use Rattle.cert_values.specs.declared.shape_fault.ShapeFault.{ShapeFault}
 
--- the members of a value; one that is no object has none
+-- the members of a value; a value that isn't an object has none
 abbrev pub members_in : Data → Members
 members_in null = no_members
 members_in (boolean b) = no_members
@@ -25,7 +25,7 @@ members_in (string s) = no_members
 members_in (array ds) = no_members
 members_in (object ms) = ms
 
--- letters below k by their digits
+-- letters below k with their digits
 abbrev pub IsLetters : ℕ → List ℕ → List ℕ → Type 0
 IsLetters k text w = Spells text w × IsWord k w
 
@@ -105,14 +105,14 @@ IsRowFor r d row = IsArrayOf IsClaimValue d row × IsRankShape r row
 abbrev pub AreRanksFor : LocalRule → Data → List (Option ℕ) → List (Option ℕ) → Type 0
 AreRanksFor r d forward backward = IsRanksValue d forward backward × IsRankShape r forward × IsRankShape r backward
 
--- the step of a key fails, of which P is asked, or there is not enough memory
+-- the step for this key fails, since P isn't true, or there is no memory
 abbrev pub IsStepFault : Key → Type 0 → CertFault → Type 0
 IsStepFault k P f = (f ≡ fault.Memory alloc_error) ⊎ ((f ≡ fault.Format (shape.Shape k)) × ¬ P)
 
--- the first of the steps that fails, or there is not enough memory
+-- the first step that fails, or there is no memory
 abbrev pub IsPartFault : CertVersion → LocalRule → Members → CertFault → Type 0
 IsPartFault version r ms f = (f ≡ fault.Memory alloc_error) ⊎ ((k : Key) × (f ≡ fault.Format (shape.Shape k)) × IsFirstWithout (Passes version r ms) part_steps k)
 
--- why the bytes give no certificate: want of memory, or their first fault
+-- the reason why no certificate is read from the bytes: lack of memory, or their first fault
 abbrev pub IsCertFault : List ℕ → CertFault → Type 0
 IsCertFault bytes f = (f ≡ fault.Memory alloc_error) ⊎ ((s : ShapeFault) × (f ≡ fault.Format s) × IsShapeFault bytes s)

@@ -1,12 +1,12 @@
-//! Why bytes give no certificate.
+//! Why no certificate could be read from bytes.
 use cert_values::ShapeFault;
 use std::alloc::AllocError;
 use thiserror::Error;
 
-/// Why bytes give no certificate.
+/// Why no certificate could be read from bytes.
 #[derive(Debug, PartialEq, Eq, Drop, Error)]
 pub enum CertFault {
-    /// They are no text of a certificate, for this fault.
+    /// They aren't the text of a certificate, because of this fault.
     #[error("the bytes are no certificate: {0:?}")]
     Format(ShapeFault),
     /// There is not enough memory.

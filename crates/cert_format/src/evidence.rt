@@ -1,4 +1,4 @@
-//! The evidence of each question, which is an object.
+//! Reads the evidence for each question, which is a JSON object.
 ghost use Rattle.std.specs.Prelude.{◌≡◌, ℕ, ◌+◌, ◌≤◌, ◌↔◌, List, Option, ℤ, length, All, IfOk, IfErr, IfSome, IfNone, IsTrue};
 ghost use Rattle.serde_json.specs.View.{view};
 ghost use Rattle.word_image.specs.Graphs.{pair_count};
@@ -16,8 +16,7 @@ use serde_json::Value;
 use std::alloc::Global;
 use word_image::{FluxRow, RankRow, Rule, SetList, Weights};
 
-/// The evidence of `{"sets":[..]}` or `{"orphan":".."}`, or of `{"pairs":[..]}` where the version
-/// lists pairs.
+/// Reads `{"sets":[..]}` or `{"orphan":".."}`, or `{"pairs":[..]}` if the version may list pairs.
 pub fn surjective(
     alloc: Global,
     version: CertVersion,
@@ -44,14 +43,14 @@ pub fn surjective(
     Ok(SurjectivePart::Orphan(word(alloc, rule.k(), orphan)?))
 }
 
-/// The greatest pair of nodes of a rule.
+/// Returns the greatest pair of nodes of a rule.
 fn last_pair(rule: &Rule) -> u16
     ensures { result + 1 ≡ pair_count rule.now }
 {
     rule.pairs() - 1
 }
 
-/// The numbers of an array, each at most this one.
+/// Reads an array of numbers of at most `most`.
 fn numbers(alloc: Global, most: u16, value: &Value) -> Result<SetList, Misread>
     ensures numbers { IfOk result (AreNumbers most (view value.now)) }
     ensures none { IfErr result (λ f. f ≡ Misread.Shape
@@ -64,7 +63,7 @@ fn numbers(alloc: Global, most: u16, value: &Value) -> Result<SetList, Misread>
     Ok(SetList::of(numbers))
 }
 
-/// Whether no number is above the most.
+/// Returns whether all numbers are at most `most`.
 fn are_within(most: u16, numbers: &[u16]) -> bool
     ensures { IsTrue result ↔ All (λ n. n ≤ most) numbers.now }
 {
@@ -76,7 +75,7 @@ fn are_within(most: u16, numbers: &[u16]) -> bool
     true
 }
 
-/// The evidence of `{"c":C,"n":N}` or `{"twins":["..",".."]}`.
+/// Reads `{"c":C,"n":N}` or `{"twins":["..",".."]}`.
 pub fn injective(alloc: Global, rule: &Rule, value: &Value) -> Result<InjectivePart, Misread>
     ensures part { IfOk result (λ p. IsInjectiveFor rule.now (view value.now) (injective_of p)) }
     ensures none { IfErr result (λ f. f ≡ Misread.Shape
@@ -95,8 +94,7 @@ pub fn injective(alloc: Global, rule: &Rule, value: &Value) -> Result<InjectiveP
     Ok(InjectivePart::Twins { x, y })
 }
 
-/// A window of n letters of an image, from 1 on, with a place c among the n + m - 1 letters behind
-/// them.
+/// Reads a window: n letters of an image, at least one, and a place c among the n + m - 1 letters of a preimage.
 fn window(rule: &Rule, length: &Value, place: &Value) -> Option<(u16, u16)>
     ensures some { IfSome result (λ w.
         IsWindowFor rule.now (view length.now) (view place.now) w.0 w.1) }
@@ -111,7 +109,7 @@ fn window(rule: &Rule, length: &Value, place: &Value) -> Option<(u16, u16)>
     Some((n, c))
 }
 
-/// The evidence of `{"ahead":A}` or `{"split":["..",".."]}`.
+/// Reads `{"ahead":A}` or `{"split":["..",".."]}`.
 pub fn side(alloc: Global, rule: &Rule, value: &Value) -> Result<SidePart, Misread>
     ensures states { IfOk result (IsOver (rule.now).states) }
     ensures part { IfOk result (λ p. IsSideFor rule.now (view value.now) (side_of p)) }
@@ -131,7 +129,7 @@ pub fn side(alloc: Global, rule: &Rule, value: &Value) -> Result<SidePart, Misre
     Ok(SidePart::Split(x, y))
 }
 
-/// A look-ahead, from 1 on.
+/// Reads a look-ahead, which is at least 1.
 fn ahead(value: &Value) -> Option<u16>
     ensures some { IfSome result (IsAhead (view value.now)) }
     ensures none { IfNone result ((n : ℕ) → ¬ IsAhead (view value.now) n) }
@@ -143,7 +141,7 @@ fn ahead(value: &Value) -> Option<u16>
     Some(n)
 }
 
-/// The evidence of `{"flux":[..]}` or `{"ring":".."}`.
+/// Reads `{"flux":[..]}` or `{"ring":".."}`.
 pub fn conserving(alloc: Global, rule: &Rule, value: &Value) -> Result<SumPart, Misread>
     ensures part { IfOk result (λ p. IsSumFor rule.now (view value.now) (sum_of p)) }
     ensures none { IfErr result (λ f. f ≡ Misread.Shape
@@ -158,7 +156,7 @@ pub fn conserving(alloc: Global, rule: &Rule, value: &Value) -> Result<SumPart, 
     Ok(SumPart::Ring(word(alloc, rule.k(), ring)?))
 }
 
-/// A flow for each node of a rule.
+/// Reads a flux: a number for each node of a rule.
 fn flux(alloc: Global, rule: &Rule, value: &Value) -> Result<FluxRow, Misread>
     ensures flux { IfOk result (IsFluxFor rule.now (view value.now)) }
     ensures none { IfErr result (λ f. f ≡ Misread.Shape
@@ -168,7 +166,7 @@ fn flux(alloc: Global, rule: &Rule, value: &Value) -> Result<FluxRow, Misread>
     Ok(FluxRow::of(flows))
 }
 
-/// A weight for each letter of a rule.
+/// Reads a weight for each letter of a rule.
 pub fn weights(alloc: Global, rule: &Rule, value: &Value) -> Result<Weights, Misread>
     ensures weights { IfOk result (IsWeightsFor rule.now (view value.now)) }
     ensures none { IfErr result (λ f. f ≡ Misread.Shape
@@ -181,7 +179,7 @@ pub fn weights(alloc: Global, rule: &Rule, value: &Value) -> Result<Weights, Mis
     }
 }
 
-/// The claims of `{"backward":[..],"forward":[..]}`, the forward ones first.
+/// Reads `{"backward":[..],"forward":[..]}`. Returns the forward claims first.
 pub fn ranks(alloc: Global, rule: &Rule, value: &Value) -> Result<(RankRow, RankRow), Misread>
     ensures rows { IfOk result (λ p. AreRanksFor rule.now (view value.now) p.0 p.1) }
     ensures none { IfErr result (λ f. f ≡ Misread.Shape → (forward backward : List (Option ℕ))
@@ -195,7 +193,7 @@ pub fn ranks(alloc: Global, rule: &Rule, value: &Value) -> Result<(RankRow, Rank
     Ok((forward, backward))
 }
 
-/// A claim for each pair of nodes of a rule.
+/// Reads a claim for each pair of nodes of a rule.
 fn row(alloc: Global, rule: &Rule, value: &Value) -> Result<RankRow, Misread>
     ensures row { IfOk result (IsRowFor rule.now (view value.now)) }
     ensures none { IfErr result (λ f. f ≡ Misread.Shape

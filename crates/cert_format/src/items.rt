@@ -9,11 +9,11 @@ use crate::misread::Misread;
 use serde_json::Value;
 use std::alloc::Global;
 
-/// What stands in an array.
+/// An item of a JSON array.
 pub trait Item: Sized {
     ghost is_item: { Data → Self → Type 0 };
 
-    /// The item that a value is; `None` exactly where it is none.
+    /// Reads an item, or returns None if the value has another shape.
     fn read(value: &Value) -> Option<Self>
         ensures some { IfSome result (is_item (view value.now)) }
         ensures none { IfNone result ((x : Self) → ¬ is_item (view value.now) x) };
@@ -66,7 +66,7 @@ impl Item for i32 {
     }
 }
 
-/// The items of an array, in their order.
+/// Reads the items of an array, in their order.
 pub fn array<T: Item + Drop>(alloc: Global, value: &Value) -> Result<Vec<T>, Misread>
     ensures items { IfOk result (λ v. IsArrayOf T.is_item (view value.now) v.items) }
     ensures none { IfErr result (λ e. e ≡ Misread.Shape
@@ -85,7 +85,7 @@ pub fn array<T: Item + Drop>(alloc: Global, value: &Value) -> Result<Vec<T>, Mis
     Ok(items)
 }
 
-/// The items of an array of so many.
+/// Reads the items of an array of this length.
 pub fn array_of<T: Item + Drop>(
     alloc: Global,
     count: usize,
@@ -103,7 +103,7 @@ pub fn array_of<T: Item + Drop>(
     Ok(items)
 }
 
-/// The two items of an array.
+/// Returns the two items of an array of length 2.
 pub fn pair(value: &Value) -> Option<(&Value, &Value)>
     ensures some { IfSome result (λ p. view value.now
         ≡ array (item (view p.0.now) (item (view p.1.now) no_items))) }

@@ -1,13 +1,14 @@
 //! Reads and writes the texts of certificates.
 //!
-//! `from_bytes` reads each JSON value that the crate [`cert_values`] describes. Otherwise it gives the first fault, in the
-//! order JSON, object, version, rule, surjective, injective, right, left, conserving, weights, ranks, and
-//! other keys. `to_bytes` writes a certificate with ascending keys and no blanks, and the weights only if they
-//! aren't the letters' own values. The crate `cert_check` tests whether the claims are true.
-//! [`certificate_value`] is the object that is written, and beside it stand the values of some of its parts.
+//! `from_bytes` reads a text that the crate [`cert_values`] describes. For other bytes it returns the first fault, in
+//! the order JSON, object, version, rule, surjective, injective, right, left, conserving, weights, ranks, and other
+//! keys. `to_bytes` writes a certificate with ascending keys and without blanks. It writes the weights only if they
+//! aren't the letters' own values. Whether the claims are true is tested by the crate `cert_check`.
+//! [`certificate_value`] makes the JSON object that is written, and other functions make the values of some of its
+//! parts.
 //!
-//! Reading n bytes takes time O(n log n), by the map that an object is, and O(n) for the lists in
-//! it; both calls take space O(n).
+//! To read n bytes takes time O(n log n), since an object is a map, and O(n) for the lists in it. Both calls take
+//! space O(n).
 #![tactic(auto)]
 
 mod cert_fault;

@@ -22,7 +22,7 @@ const KEYS: [&str; 8] = [
     "version",
 ];
 
-/// The member of a key.
+/// Returns the member with this key.
 pub fn member<'a>(value: &'a Value, key: &str) -> Option<&'a Value>
     ensures { option_map (λ v. view v.now) result
         ≡ get_member key.now (members_in (view value.now)) }
@@ -30,7 +30,7 @@ pub fn member<'a>(value: &'a Value, key: &str) -> Option<&'a Value>
     value.get(key)
 }
 
-/// The member of a key, where the object has no other.
+/// Returns the member with this key if the object has no other member.
 pub fn only<'a>(value: &'a Value, key: &str) -> Option<&'a Value>
     ensures some { IfSome result (λ v. HasOnly key.now (view v.now) (view value.now)) }
     ensures none { IfNone result ((d : Data) → ¬ HasOnly key.now d (view value.now)) }
@@ -46,7 +46,7 @@ pub fn only<'a>(value: &'a Value, key: &str) -> Option<&'a Value>
     Some(member)
 }
 
-/// The members of two keys, the lesser first, where the object has no other.
+/// Returns the members with these two keys, in ascending order, if the object has no other members.
 pub fn only_both<'a>(value: &'a Value, first: &str, second: &str) -> Option<(&'a Value, &'a Value)>
     ensures some { IfSome result (λ p.
         HasOnlyBoth first.now (view p.0.now) second.now (view p.1.now) (view value.now)) }
@@ -65,7 +65,7 @@ pub fn only_both<'a>(value: &'a Value, first: &str, second: &str) -> Option<(&'a
     None
 }
 
-/// Whether an object has no other keys than those of a certificate of this version.
+/// Returns whether an object has only keys of a certificate of this version.
 pub fn has_no_other(version: CertVersion, value: &Value) -> bool
     ensures { IsTrue result ↔ HasNoOther version (members_in (view value.now)) }
 {
@@ -80,14 +80,14 @@ pub fn has_no_other(version: CertVersion, value: &Value) -> bool
     true
 }
 
-/// Whether a name is this one.
+/// Returns whether a name is this key.
 fn is_named(name: &String, key: &str) -> bool
     ensures { IsTrue result ↔ (string_bytes name.now ≡ key.now) }
 {
     name.as_str() == key
 }
 
-/// Whether a name is a key of a certificate of this version.
+/// Returns whether a name is a key of a certificate of this version.
 fn is_key(version: CertVersion, name: &String) -> bool
     ensures { IsTrue result ↔ Contains (keys_of version) (string_bytes name.now) }
 {

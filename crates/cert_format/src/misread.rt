@@ -1,4 +1,4 @@
-//! Why a value isn't read.
+//! Why a value couldn't be read.
 ghost use Rattle.std.specs.Prelude.{◌≡◌, alloc_error};
 ghost use Rattle.cert_format.specs.declared.misread.Misread.TheVariants as misread;
 
@@ -6,17 +6,17 @@ use crate::cert_fault::CertFault;
 use cert_values::{Key, ShapeFault};
 use std::alloc::{AllocError, AllocFailed};
 
-/// Why a value isn't read.
+/// Why a value couldn't be read.
 #[derive(Clone, Copy, Debug, PartialEq, Eq)]
 pub enum Misread {
-    /// It has another shape.
+    /// It has the wrong shape.
     Shape,
     /// There is not enough memory.
     Memory(AllocError),
 }
 
 impl Misread {
-    /// The fault of the step in which a value isn't read.
+    /// Returns the fault of the step for this key.
     pub fn at(self, key: Key) -> CertFault
         ensures shape { self ≡ Misread.Shape → result ≡ CertFault.Format (ShapeFault.Shape key) }
         ensures memory { self ≡ Misread.Memory alloc_error → result ≡ CertFault.Memory alloc_error }

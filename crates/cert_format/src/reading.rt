@@ -1,4 +1,4 @@
-//! From bytes to the certificate that they are.
+//! Reads a certificate from bytes.
 ghost use Rattle.std.specs.Prelude.{◌≡◌, ℕ, ◌⊎◌, List, alloc_error, IfOk, IfErr, IfSome, IfNone};
 ghost use Rattle.serde_json.specs.View.{view};
 ghost use Rattle.word_image.specs.LocalRules.{IsRule};
@@ -23,9 +23,8 @@ use serde_json::Value;
 use std::alloc::{AllocError, Global};
 use word_image::Rule;
 
-/// The certificate that bytes are the text of; else the first fault of their shape. The bytes are
-/// any that `serde_json` reads as the certificate's value: with blanks, the keys in any order, and
-/// of members with one key the last.
+/// Reads the certificate whose text the bytes are, or returns their first fault. The text may have blanks and its
+/// keys in any order; if a key occurs twice, the last member counts.
 pub fn from_bytes(alloc: Global, bytes: &[u8]) -> Result<Cert, CertFault>
     ensures cert { IfOk result (IsCertificateText bytes.now) }
     ensures fault { IfErr result (IsCertFault bytes.now) }
@@ -37,7 +36,7 @@ pub fn from_bytes(alloc: Global, bytes: &[u8]) -> Result<Cert, CertFault>
     read_certificate(alloc, bytes)
 }
 
-/// The certificate that bytes are the text of, or their fault.
+/// Does the same, before the certificate is checked for other keys.
 fn read_certificate(alloc: Global, bytes: &[u8]) -> Result<Cert, CertFault>
     ensures cert { IfOk result (IsCertificateText bytes.now) }
     ensures fault { IfErr result (IsCertFault bytes.now) }
@@ -50,7 +49,7 @@ fn read_certificate(alloc: Global, bytes: &[u8]) -> Result<Cert, CertFault>
     read_parts(alloc, version, rule, &value)
 }
 
-/// The JSON object that bytes are.
+/// Reads bytes as a JSON object.
 fn read_object(alloc: Global, bytes: &[u8]) -> Result<Value, CertFault>
     ensures object { IfOk result (λ v. IsObject bytes.now (members_in (view v))) }
     ensures fault { IfErr result (IsCertFault bytes.now) }
@@ -66,7 +65,7 @@ fn read_object(alloc: Global, bytes: &[u8]) -> Result<Value, CertFault>
     Ok(value)
 }
 
-/// The version of a certificate, and its rule.
+/// Reads the version of a certificate and its rule.
 fn read_head(value: &Value) -> Result<(CertVersion, Rule), ShapeFault>
     ensures version { IfOk result (λ h. HasVersion (members_in (view value.now)) (number_of h.0)) }
     ensures rule { IfOk result (λ h. (text : List ℕ)
@@ -84,7 +83,7 @@ fn read_head(value: &Value) -> Result<(CertVersion, Rule), ShapeFault>
     }
 }
 
-/// The version of a certificate.
+/// Reads the version of a certificate.
 fn read_version(value: &Value) -> Result<CertVersion, ShapeFault>
     ensures version { IfOk result (λ v. HasVersion (members_in (view value.now)) (number_of v)) }
     ensures fault { (bytes : List ℕ) → IsObject bytes (members_in (view value.now))
@@ -99,7 +98,7 @@ fn read_version(value: &Value) -> Result<CertVersion, ShapeFault>
     }
 }
 
-/// The number of the version, where it is a whole number.
+/// Returns the number of the version if it is a whole number.
 fn version(value: &Value) -> Option<u64>
     ensures some { IfSome result (HasVersion (members_in (view value.now))) }
     ensures none { IfNone result ((v : ℕ) → ¬ HasVersion (members_in (view value.now)) v) }
@@ -107,7 +106,7 @@ fn version(value: &Value) -> Option<u64>
     member(value, "version")?.as_u64()
 }
 
-/// The rule's text, where it is a string.
+/// Returns the text of the rule if it is a string.
 fn rule_text(value: &Value) -> Option<&str>
     ensures some { IfSome result (λ t. HasRuleText (members_in (view value.now)) t.now) }
     ensures none { IfNone result ((text : List ℕ)
@@ -116,7 +115,7 @@ fn rule_text(value: &Value) -> Option<&str>
     member(value, "rule")?.as_str()
 }
 
-/// The certificate with the parts of an object, step by step.
+/// Reads the parts of a certificate step by step.
 fn read_parts(
     alloc: Global,
     version: CertVersion,

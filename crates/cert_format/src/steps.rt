@@ -1,4 +1,4 @@
-//! The steps of reading a certificate's parts: the member of a key, and the evidence that it is.
+//! The steps of reading a certificate: each finds the member with a key, and reads its evidence.
 ghost use Rattle.std.specs.Prelude.{ℕ, List, Option, IfOk, IfErr};
 ghost use Rattle.serde_json.specs.View.{view};
 ghost use Rattle.cert_values.specs.Evidence.{SurjectiveEvidence, InjectiveEvidence, SideEvidence, SumEvidence};
@@ -17,7 +17,7 @@ use serde_json::Value;
 use std::alloc::Global;
 use word_image::{RankRow, Rule, Weights};
 
-/// Whether the rule is surjective.
+/// Reads the evidence for surjective.
 pub fn surjective_step(
     alloc: Global,
     version: CertVersion,
@@ -33,7 +33,7 @@ pub fn surjective_step(
     surjective(alloc, version, rule, part).map_err(|fault| fault.at(Key::Surjective))
 }
 
-/// Whether it is injective.
+/// Reads the evidence for injective.
 pub fn injective_step(alloc: Global, rule: &Rule, value: &Value) -> Result<InjectivePart, CertFault>
     ensures part { IfOk result (λ p.
         HasInjective rule.now (members_in (view value.now)) (injective_of p)) }
@@ -44,7 +44,7 @@ pub fn injective_step(alloc: Global, rule: &Rule, value: &Value) -> Result<Injec
     injective(alloc, rule, part).map_err(|fault| fault.at(Key::Injective))
 }
 
-/// Whether it closes on the side of a key with this name.
+/// Reads the evidence for closing on the side with this key.
 pub fn side_step(
     alloc: Global,
     rule: &Rule,
@@ -62,7 +62,7 @@ pub fn side_step(
     side(alloc, rule, part).map_err(|fault| fault.at(key))
 }
 
-/// Whether it conserves the sum of its cells.
+/// Reads the evidence for conserving.
 pub fn conserving_step(alloc: Global, rule: &Rule, value: &Value) -> Result<SumPart, CertFault>
     ensures part { IfOk result (λ p.
         HasConserving rule.now (members_in (view value.now)) (sum_of p)) }
@@ -73,7 +73,7 @@ pub fn conserving_step(alloc: Global, rule: &Rule, value: &Value) -> Result<SumP
     conserving(alloc, rule, part).map_err(|fault| fault.at(Key::Conserving))
 }
 
-/// What each letter weighs: its own value where the version names no weights or none are named.
+/// Reads the weights, or returns the letters' own values if none are named or the version may not name any.
 pub fn weights_step(
     alloc: Global,
     version: CertVersion,
@@ -96,7 +96,7 @@ pub fn weights_step(
     }
 }
 
-/// The ranks of its pairs of nodes, the forward ones first.
+/// Reads the ranks of all pairs of nodes. Returns the forward ones first.
 pub fn ranks_step(
     alloc: Global,
     rule: &Rule,

@@ -1,4 +1,4 @@
-//! Words and Tails, which are strings.
+//! Reads words and Tails, which are strings.
 ghost use Rattle.std.specs.Prelude.{◌≡◌, ℕ, ◌<◌, ◌≤◌, List, Some, IfOk, IfErr, IfSome, IfNone};
 ghost use Rattle.serde_json.specs.View.{view};
 ghost use Rattle.word_image.specs.LocalRules.{most_states};
@@ -13,7 +13,7 @@ use std::alloc::Global;
 use tail_config::{Tail, TailTextFault, parse};
 use word_image::{Word, letter};
 
-/// The word that a string of digits is, with letters below k.
+/// Reads a string of digits as a word of letters below k.
 pub fn word(alloc: Global, k: u8, value: &Value) -> Result<Word, Misread>
     ensures word { IfOk result (IsWordValue k (view value.now)) }
     ensures none { IfErr result (λ e. e ≡ Misread.Shape
@@ -25,7 +25,7 @@ pub fn word(alloc: Global, k: u8, value: &Value) -> Result<Word, Misread>
     Ok(Word::of(letters(alloc, k, text.as_bytes())?))
 }
 
-/// The letters below k that digits stand for.
+/// Reads digits as letters below k.
 fn letters(alloc: Global, k: u8, digits: &[u8]) -> Result<Vec<u8>, Misread>
     ensures letters { IfOk result (λ v. IsLetters k digits.now v.items) }
     ensures none { IfErr result (λ e. e ≡ Misread.Shape
@@ -41,7 +41,7 @@ fn letters(alloc: Global, k: u8, digits: &[u8]) -> Result<Vec<u8>, Misread>
     Ok(word)
 }
 
-/// The letter below k that a digit stands for.
+/// Reads a digit as a letter below k.
 fn letter_below(k: u8, digit: u8) -> Option<u8>
     ensures some { IfSome result (λ a. (hex_value digit ≡ Some a) × (a < k)) }
     ensures none { IfNone result ((a : ℕ) → hex_value digit ≡ Some a → ¬ (a < k)) }
@@ -52,7 +52,7 @@ fn letter_below(k: u8, digit: u8) -> Option<u8>
     }
 }
 
-/// The two words of an array of two strings.
+/// Reads an array of two strings as words.
 pub fn words(alloc: Global, k: u8, value: &Value) -> Result<(Word, Word), Misread>
     ensures words { IfOk result (λ p. IsWordsValue k (view value.now) p.0 p.1) }
     ensures none { IfErr result (λ e. e ≡ Misread.Shape
@@ -66,7 +66,7 @@ pub fn words(alloc: Global, k: u8, value: &Value) -> Result<(Word, Word), Misrea
     Ok((x, y))
 }
 
-/// The Tail over the letters below k, from 2 to 16, that a string is the text of.
+/// Reads a string as a Tail over the letters below k, from 2 to 16.
 pub fn tail(alloc: Global, k: u8, value: &Value) -> Result<Tail, Misread>
     requires least { 2 ≤ k }
     requires most { k ≤ most_states }
@@ -85,7 +85,7 @@ pub fn tail(alloc: Global, k: u8, value: &Value) -> Result<Tail, Misread>
     }
 }
 
-/// The two Tails of an array of two strings.
+/// Reads an array of two strings as Tails.
 pub fn tails(alloc: Global, k: u8, value: &Value) -> Result<(Tail, Tail), Misread>
     requires least { 2 ≤ k }
     requires most { k ≤ most_states }

@@ -1,4 +1,4 @@
-//! From a certificate to its text.
+//! Writes the text of a certificate.
 ghost use Rattle.std.specs.Prelude.{◌≡◌, ℕ, List, map, IfOk, OnOk, IsUtf8};
 ghost use Rattle.serde_json.specs.Data.{string, no_members};
 ghost use Rattle.serde_json.specs.View.{view, members_view};
@@ -18,7 +18,7 @@ use std::alloc::{AllocError, Global};
 use tail_config::Tail;
 use word_image::{FluxRow, RankRow, Rule, SetList, Weights, word_text};
 
-/// The text of a certificate: compact JSON with ascending keys. The only error is want of memory.
+/// Returns the text of a certificate: compact JSON with ascending keys. The only error is lack of memory.
 pub fn to_bytes(alloc: Global, cert: &Cert) -> Result<Vec<u8>, AllocError>
     ensures text { IfOk result (λ text. text.items ≡ certificate_text cert.now) }
     ensures read_back { IfOk result (λ text. IsCertificateText text.items cert.now) }
@@ -26,14 +26,14 @@ pub fn to_bytes(alloc: Global, cert: &Cert) -> Result<Vec<u8>, AllocError>
     certificate_value(alloc, cert)?.to_vec(alloc)
 }
 
-/// Bytes are the text of at most one certificate. So from what `to_bytes` gives for a certificate
-/// `from_bytes` gives that certificate again, unless memory runs out.
+/// Law: bytes are the text of at most one certificate. So `from_bytes` reads the text that `to_bytes` writes as the
+/// same certificate, unless memory runs out.
 pub fn text_has_one_certificate()
     ensures { (bytes : List ℕ) (c d : Certificate)
         → IsCertificateText bytes c → IsCertificateText bytes d → c ≡ d }
 {}
 
-/// The whole of a certificate as one object. The only error is want of memory, here and below.
+/// Returns a certificate as a JSON object. The only error, here and below, is lack of memory.
 pub fn certificate_value(alloc: Global, cert: &Cert) -> Result<Value, AllocError>
     ensures value { IfOk result (λ v. view v ≡ written.certificate_value cert.now) }
     ensures shaped { OnOk result (IsShaped cert.now) }
@@ -47,7 +47,7 @@ pub fn certificate_value(alloc: Global, cert: &Cert) -> Result<Value, AllocError
     Ok(Value::from(members))
 }
 
-/// The members that each certificate has.
+/// Returns the members that each certificate has.
 fn common_members(alloc: Global, cert: &Cert) -> Result<Map<String, Value>, AllocError>
     ensures { IfOk result (λ ms. members_view ms.entries ≡ members_before no_members cert.now) }
 {
@@ -71,7 +71,7 @@ fn common_members(alloc: Global, cert: &Cert) -> Result<Map<String, Value>, Allo
     Ok(members)
 }
 
-/// The sets, the pairs, or the word without a preimage.
+/// Returns the sets, the pairs or the orphan as JSON.
 fn surjective_value(alloc: Global, cert: &Cert) -> Result<Value, AllocError>
     ensures { IfOk result (λ v. view v ≡ written.surjective_value (cert.now).surjective) }
 {
@@ -91,7 +91,7 @@ fn surjective_value(alloc: Global, cert: &Cert) -> Result<Value, AllocError>
     }
 }
 
-/// The window, or the two rings with one image.
+/// Returns the window or the twins as JSON.
 fn injective_value(alloc: Global, cert: &Cert) -> Result<Value, AllocError>
     ensures { IfOk result (λ v. view v ≡ written.injective_value (cert.now).injective) }
 {
@@ -105,7 +105,7 @@ fn injective_value(alloc: Global, cert: &Cert) -> Result<Value, AllocError>
     }
 }
 
-/// The look-ahead of a side, or its two Tails with one image.
+/// Returns the look-ahead or the split of a side as JSON.
 fn side_value(alloc: Global, side: &SidePart) -> Result<Value, AllocError>
     ensures { IfOk result (λ v. view v ≡ written.side_value (side_of side.now)) }
 {
@@ -119,7 +119,7 @@ fn side_value(alloc: Global, side: &SidePart) -> Result<Value, AllocError>
     }
 }
 
-/// The flux, or the ring whose image has another sum.
+/// Returns the flux or the ring as JSON.
 fn sum_value(alloc: Global, cert: &Cert) -> Result<Value, AllocError>
     ensures { IfOk result (λ v. view v ≡ written.sum_value (cert.now).conserving) }
 {
@@ -135,7 +135,7 @@ fn sum_value(alloc: Global, cert: &Cert) -> Result<Value, AllocError>
     }
 }
 
-/// The claims of both directions.
+/// Returns the claims of both directions as JSON.
 fn ranks_value(alloc: Global, cert: &Cert) -> Result<Value, AllocError>
     ensures { IfOk result (λ v. view v
         ≡ written.ranks_value (cert.now).forward (cert.now).backward) }
@@ -145,7 +145,7 @@ fn ranks_value(alloc: Global, cert: &Cert) -> Result<Value, AllocError>
     json!(in alloc; {"backward": backward, "forward": forward})
 }
 
-/// Sets as numbers.
+/// Returns sets as an array of numbers.
 fn sets_value(alloc: Global, sets: &SetList) -> Result<Value, AllocError>
     ensures { IfOk result (λ v. view v ≡ array_from (map written.whole_value sets.now)) }
 {
@@ -154,7 +154,7 @@ fn sets_value(alloc: Global, sets: &SetList) -> Result<Value, AllocError>
     Ok(Value::from(values))
 }
 
-/// Claims as numbers, and null where nothing is claimed.
+/// Returns claims as an array of numbers, with null if nothing is claimed.
 fn claims_value(alloc: Global, claims: &RankRow) -> Result<Value, AllocError>
     ensures { IfOk result (λ v. view v ≡ array_from (map written.claim_value claims.now)) }
 {
@@ -163,7 +163,7 @@ fn claims_value(alloc: Global, claims: &RankRow) -> Result<Value, AllocError>
     Ok(Value::from(values))
 }
 
-/// Flows as an array of numbers.
+/// Returns a flux as an array of numbers.
 pub fn flux_value(alloc: Global, flux: &FluxRow) -> Result<Value, AllocError>
     ensures { IfOk result (λ v. view v ≡ array_from (map written.signed_value flux.now)) }
 {
@@ -172,7 +172,7 @@ pub fn flux_value(alloc: Global, flux: &FluxRow) -> Result<Value, AllocError>
     Ok(Value::from(values))
 }
 
-/// Weights as an array of numbers.
+/// Returns weights as an array of numbers.
 pub fn weights_value(alloc: Global, weights: &Weights) -> Result<Value, AllocError>
     ensures { IfOk result (λ v. view v ≡ array_from (map written.whole_value weights.now)) }
 {
@@ -181,7 +181,7 @@ pub fn weights_value(alloc: Global, weights: &Weights) -> Result<Value, AllocErr
     Ok(Value::from(values))
 }
 
-/// The digits of letters below 16 as a string.
+/// Returns letters below 16 as a string of digits.
 pub fn word_value(alloc: Global, letters: &[u8]) -> Result<Value, AllocError>
     requires { IsWord most_states letters.now }
     ensures { IfOk result (λ v. view v ≡ written.word_value letters.now) }
@@ -189,7 +189,7 @@ pub fn word_value(alloc: Global, letters: &[u8]) -> Result<Value, AllocError>
     Ok(text_value(word_text(alloc, letters)?))
 }
 
-/// A Tail's text.
+/// Returns the text of a Tail as a string.
 fn tail_value(alloc: Global, tail: &Tail) -> Result<Value, AllocError>
     ensures { IfOk result (λ v. view v ≡ written.tail_value (tail.now).config) }
 {
@@ -197,7 +197,7 @@ fn tail_value(alloc: Global, tail: &Tail) -> Result<Value, AllocError>
     Ok(text_value(tail_config::print(alloc, tail)?))
 }
 
-/// A rule's text as a string.
+/// Returns the text of a rule as a string.
 pub fn rule_value(alloc: Global, rule: &Rule) -> Result<Value, AllocError>
     ensures { IfOk result (λ v. view v ≡ string (printed_rule rule.now)) }
 {
@@ -205,7 +205,7 @@ pub fn rule_value(alloc: Global, rule: &Rule) -> Result<Value, AllocError>
     Ok(text_value(rule_text::print(alloc, rule)?))
 }
 
-/// A text as a string of JSON.
+/// Returns a text as a JSON string.
 fn text_value(text: Vec<u8>) -> Value
     requires { IsUtf8 text.items }
     ensures { view result ≡ string text.items }

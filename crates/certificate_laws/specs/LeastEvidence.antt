@@ -1,4 +1,4 @@
--- The evidence of what holds of a rule: for each of five questions yes or no, and the least that shows it.
+-- The evidence for the verdicts of a rule: for each of five questions yes or no, and the least evidence.
 use Rattle.std.specs.Prelude.{◌≡◌, ℕ, List, slice_get, Option, Some, None, pos}
 use Rattle.word_image.specs.LocalRules.{LocalRule, mirrored}
 use Rattle.word_image.specs.Words.{IsSurjective, IsLeastOrphan}
@@ -8,7 +8,7 @@ use Rattle.tail_config.specs.Tails.{IsInjective, IsRightClosing, IsLeftClosing}
 use Rattle.tail_config.specs.Splits.{IsLeastRightSplit, IsLeastLeftSplit}
 use Rattle.cert_values.specs.Evidence.{InjectiveEvidence, SideEvidence, SumEvidence, Window, Twins, Ahead, Split, Flux, Ring}
 
--- the evidence of a rule and weights: an orphan, or none where it is surjective, and what is said of the other four questions
+-- the evidence for a rule and weights: an orphan, or None if it is surjective, and the evidence for the other four questions
 pub record Evidence : Type 0 where
   pub rule : LocalRule
   pub weights : List ℕ

@@ -1,4 +1,4 @@
--- What a report of the code is seen as.
+-- The evidence in a report of the code.
 use Rattle.cert_values.specs.Parts.{injective_of, side_of, sum_of}
 use Rattle.cert_conditions.specs.declared.report.Report.{Report}
 use Rattle.certificate_laws.specs.LeastEvidence.{Evidence}

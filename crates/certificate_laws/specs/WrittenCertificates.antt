@@ -1,5 +1,4 @@
--- The certificate that is written for a rule and weights of its letters: the least evidence, and the exact ranks. That a rule
--- is surjective is shown by its cover list in version 2, and by its reached pairs in version 3.
+-- The certificate that the program writes for a rule and weights of its letters: the least evidence, and the exact ranks. For a surjective rule version 2 has its cover list, and version 3 its reached pairs.
 use Rattle.std.specs.Prelude.{◌≡◌, ℕ, ◌<◌, List, length, slice_index, get_or, Option, Some, None, MatchOption, ⊤}
 use Rattle.word_image.specs.LocalRules.{LocalRule}
 use Rattle.word_image.specs.Graphs.{first_of, second_of, pair_count}
@@ -14,7 +13,7 @@ use Rattle.cert_conditions.specs.Accepted.{IsAccepted, verdicts_of}
 use Rattle.certificate_laws.specs.LeastEvidence.{IsLeastEvidence}
 use Rattle.eden_laws.specs.ReachedPairs.{AreReached}
 
--- the orphan, where there is one
+-- the orphan, if there is one
 abbrev pub orphan_of : SurjectiveEvidence → Option (List ℕ)
 orphan_of (Sets sets) = None
 orphan_of (Pairs pairs) = None
@@ -26,13 +25,13 @@ IsListPart version r (Sets sets) = (version ≡ Two) × IsCoverList r sets
 IsListPart version r (Pairs pairs) = (version ≡ Three) × AreReached r pairs
 IsListPart version r (Orphan w) = ⊤
 
--- the rank of each pair, and nothing where it is endless
+-- the rank of each pair, or None if it is endless
 pub record IsRankRow (r : LocalRule) (Together : ℕ → ℕ → ℕ → Type 0) (row : List (Option ℕ)) : Type 0 where
   pub each_pair : length row ≡ pair_count r
   pub ranks : (p : ℕ) → p < pair_count r
       → MatchOption (get_or row p None) (IsEndless (Together (first_of r p) (second_of r p))) (IsRank (Together (first_of r p) (second_of r p)))
 
--- a certificate is of this version, and its evidence is that which is written for a rule and weights
+-- the certificate has this version, and its evidence is what the program writes for the rule and weights
 pub record HasWrittenParts (version : CertVersion) (r : LocalRule) (weights : List ℕ) (c : Certificate) : Type 0 where
   pub version_is : c.version ≡ version
   pub weights_are : c.weights ≡ weights
@@ -42,7 +41,7 @@ pub record HasWrittenParts (version : CertVersion) (r : LocalRule) (weights : Li
   pub forward : IsRankRow r (BeginTogether r) c.forward
   pub backward : IsRankRow r (EndTogether r) c.backward
 
--- a certificate is written for a rule and weights: its evidence is the least, its text is accepted, and has fewer than 450,000 bytes
+-- the program writes this certificate for the rule and weights: its evidence is the least, its text is accepted, and has fewer than 450,000 bytes
 pub record IsWritten (version : CertVersion) (r : LocalRule) (weights : List ℕ) (c : Certificate) : Type 0 where
   pub parts : HasWrittenParts version r weights c
   pub accepted : IsAccepted (certificate_text c) (verdicts_of c)

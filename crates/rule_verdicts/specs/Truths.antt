@@ -1,4 +1,4 @@
--- What holds of a rule, each letter of which weighs its own value, and all of it in one number.
+-- The verdicts of a rule, if each letter weighs its own value, and all of them as one number.
 use Rattle.std.specs.Prelude.{ℕ, ◌+◌, ◌*◌, ◌&&◌}
 use Rattle.std.specs.Int.{from_bool}
 use Rattle.word_image.specs.LocalRules.{LocalRule}
@@ -7,7 +7,7 @@ use Rattle.cert_conditions.specs.declared.verdicts.Verdicts.{Verdicts}
 use Rattle.cert_conditions.specs.Accepted.{AreTrue}
 use Rattle.rule_verdicts.specs.declared.truths.Truths.{Truths}
 
--- what is said of a rule
+-- the verdicts in the form of a certificate's verdicts
 abbrev pub said_of : LocalRule → Truths → Verdicts
 said_of r t = record {
   rule = r;
@@ -19,11 +19,11 @@ said_of r t = record {
   conserving = t.conserving;
 }
 
--- all of it is true
+-- all verdicts are true
 abbrev pub AreTruths : LocalRule → Truths → Type 0
 AreTruths r t = AreTrue (said_of r t)
 
--- one power of two for each of six questions
+-- the sum of one power of two for each of the six verdicts that is yes
 abbrev pub byte_of : Truths → ℕ
 byte_of t =
     from_bool t.surjective + 2 * from_bool t.injective + 4 * from_bool t.right + 8 * from_bool t.left + 16 * from_bool (t.right && t.left) + 32 * from_bool t.conserving

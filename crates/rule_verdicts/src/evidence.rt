@@ -1,4 +1,4 @@
-//! The least evidence of each verdict, and the certificate that is made of it.
+//! The least evidence for each verdict, and the certificate made of it.
 ghost use Rattle.std.specs.Prelude.{◌≡◌, ◌≤◌, ◌↔◌, All, length, slice_index, true, IsTrue, IfOk, OnOk};
 ghost use Rattle.word_image.specs.LocalRules.{IsRule};
 ghost use Rattle.word_image.specs.Weights.{AreWeights};
@@ -22,10 +22,10 @@ use word_image::{Rule, Side, Weights};
 /// The verdicts of a rule, each with the least evidence for it.
 #[derive(Drop)]
 pub struct Evidence {
-    /// The least word that has no preimage, the least window or twins, the least look-ahead or normal split of each
-    /// side, and the flux that is 0 at node 0 or the least ring that doesn't keep its sum.
+    /// The least orphan, the least window or twins, the least look-ahead or normal split of each side, and the flux
+    /// that is 0 at node 0 or the least ring that doesn't keep its sum.
     pub report: Report,
-    // The ranks of the rule, by which it was found.
+    // The ranks of the rule, from which the evidence was found.
     ranks: Ranks,
 }
 
@@ -51,7 +51,7 @@ impl Model for Evidence {
 }
 
 impl Evidence {
-    /// Decides all questions about a rule and weights of its letters.
+    /// Decides all questions about a rule and weights of its letters. The only error is lack of memory.
     pub fn of(alloc: Global, rule: &Rule, weights: &Weights) -> Result<Evidence, AllocError>
         requires { length weights.now ≡ rule.now.states }
         ensures least { IfOk result (IsLeastEvidence (slice_index weights.now) rule.now) }
@@ -73,7 +73,7 @@ impl Evidence {
         Ok(Evidence { report, ranks })
     }
 
-    /// Whether the rule is open: it closes on both sides.
+    /// Returns whether the rule is open, which means that it closes on both sides.
     pub fn is_open(&self) -> bool
         ensures open_ { IsTrue result ↔ IsOpen self.now.rule }
         ensures both { result ≡ says_open self.now.right self.now.left }
@@ -81,8 +81,8 @@ impl Evidence {
         self.report.is_open()
     }
 
-    /// The certificate of this version, which is 2 or 3: this evidence, the cover list or the reached
-    /// pairs of a surjective rule, and the exact ranks.
+    /// Returns the certificate of this version, which is 2 or 3: this evidence, the cover list or the reached pairs
+    /// of a surjective rule, and the exact ranks.
     pub fn certificate(self, alloc: Global, version: CertVersion) -> Result<Cert, AllocError>
         requires { names_weights version ≡ true }
         ensures accepted { OnOk result (IsRule self.rule) }
@@ -108,7 +108,7 @@ impl Evidence {
     }
 }
 
-/// Bytes have eight bits each, which is what is said of weights. There is nothing to do.
+/// States that bytes have eight bits each, as weights must. It does nothing.
 fn have_eight_bits(bytes: &[u8])
     ensures { All (λ w. w ≤ 255) bytes.now }
 {

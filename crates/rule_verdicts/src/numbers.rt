@@ -1,4 +1,4 @@
-//! What holds of rules with consecutive numbers, a byte for each.
+//! The verdicts of rules with consecutive numbers, with a byte for each.
 ghost use Rattle.std.specs.Prelude.{◌≡◌, ℕ, ◌+◌, ◌-◌, ◌^◌, ◌<◌, ◌≤◌, None, Some, length, reverse, slice_index, sum, MatchResult};
 ghost use Rattle.word_image.specs.LocalRules.{IsRule, IsWord, value, most_windows};
 ghost use Rattle.rule_text.specs.RuleTexts.{rule_of_table};
@@ -9,10 +9,9 @@ use flux_conserve::{is_mean, letter_sum};
 use rule_text::{TextFault, numbered};
 use word_image::MOST_ENTRIES;
 
-/// Writes what holds of the rules of k states, width m and offset 0 with the numbers from `first` on, as
-/// many as there are bytes: into byte i, as `Truths::byte` gives it, that of the rule with the number
-/// first + i. Where a number has no rule it gives the first fault, and writes nothing. It takes no
-/// memory.
+/// Writes the verdicts of the rules of k states, width m and offset 0 with consecutive numbers, starting at `first`:
+/// byte i is `Truths::byte` of the rule with the number first + i. If some number has no rule, returns the first
+/// fault and writes nothing. Needs no memory.
 pub fn verdict_bytes(k: u8, m: u8, first: u128, bytes: &mut [u8]) -> Result<(), TextFault>
     requires { 1 ≤ length bytes.old }
     ensures { MatchResult result
@@ -31,7 +30,7 @@ pub fn verdict_bytes(k: u8, m: u8, first: u128, bytes: &mut [u8]) -> Result<(), 
     Ok(())
 }
 
-/// The first fault of numbers of which the last is so great that no shape has it, 2^128 or more.
+/// Returns the first fault of numbers of which the last is 2^128 or more, so that no table has it.
 pub fn fault_past_all(k: u8, m: u8) -> TextFault
     ensures { (first count : ℕ) → 2 ^ 128 ≤ first + count - 1 → numbers_fault k m first count ≡ Some result }
 {
@@ -41,8 +40,8 @@ pub fn fault_past_all(k: u8, m: u8) -> TextFault
     }
 }
 
-/// Writes what holds of the rules with the numbers from that of this table on. The table goes on with
-/// them.
+/// Writes the verdicts of the rules with consecutive numbers, starting with the number of this table. The table
+/// changes along with them.
 fn write_bytes(k: u8, m: u8, table: &mut [u8], bytes: &mut [u8])
     requires rule { IsRule (rule_of_table k m table.old) }
     requires room { value k (reverse table.old) + length bytes.old ≤ k ^ length table.old }
@@ -55,21 +54,21 @@ fn write_bytes(k: u8, m: u8, table: &mut [u8], bytes: &mut [u8])
     }
 }
 
-/// What holds of the rule of this table, of which the sum is known.
+/// Returns the verdicts of the rule of this table, whose letters have the sum `total`.
 fn verdict_byte(k: u8, m: u8, table: &[u8], total: u16) -> u8
     requires rule { IsRule (rule_of_table k m table.now) }
     requires total { total ≡ sum table.now }
     ensures { IsVerdictByte (rule_of_table k m table.now) result }
 {
-    // Neither a surjective rule nor a conserving one has another sum of the table.
+    // The table of a surjective rule has this sum, and so has the table of a conserving one.
     if !is_mean(k, table.len() as u16, total) {
         return Truths::not_surjective(false).byte();
     }
     Truths::past_sum(k, m, table).byte()
 }
 
-/// Makes of a table that of the next number, the first letter the least significant; of the last one
-/// the first. Gives the sum of its letters, from that of the old ones.
+/// Turns a table into the table of the next number, where the first letter is the least significant digit, or the
+/// last table into the first. `total` is the sum of its letters. Returns the new sum.
 pub fn next_table(k: u8, table: &mut [u8], total: u16) -> u16
     requires word { IsWord k table.old }
     requires few { length table.old ≤ most_windows }

@@ -1,4 +1,4 @@
-//! The evidence of one verdict: what a decider finds, as the part of a certificate that says it.
+//! The evidence for one verdict: the result of a decider as a part of a certificate.
 ghost use Rattle.std.specs.Prelude.{◌≡◌, length, slice_index, take, true, IfOk};
 ghost use Rattle.word_image.specs.LocalRules.{LocalRule, IsRule, node_count};
 ghost use Rattle.word_image.specs.Words.{IsSurjective};
@@ -23,14 +23,14 @@ use pair_rank::Ranks;
 use std::alloc::{AllocError, Global};
 use word_image::{FluxRow, MOST_NODES, Rule, SetList, Weights, Word};
 
-/// The least word that has no preimage; `None` exactly where the rule is surjective.
+/// Returns the least orphan, or None if the rule is surjective. The only error is lack of memory.
 pub fn least_orphan(alloc: Global, rule: &Rule) -> Result<Option<Word>, AllocError>
     ensures { IfOk result (IsOrphanPart rule.now) }
 {
     first_orphan(alloc, &Graph::of(rule))
 }
 
-/// The same, by the graph of the rule.
+/// Does the same for the graph of a rule.
 pub(crate) fn first_orphan(alloc: Global, graph: &Graph) -> Result<Option<Word>, AllocError>
     ensures { IfOk result (IsOrphanPart graph.now) }
 {
@@ -42,8 +42,8 @@ pub(crate) fn first_orphan(alloc: Global, graph: &Graph) -> Result<Option<Word>,
     Ok(Some(Word::of(search.word().to_vec(alloc)?)))
 }
 
-/// The least determined window exactly where the rule is injective, else its least twins. A window has
-/// at most 240 letters of the image.
+/// Returns the least determined window if the rule is injective, otherwise its least twins. A window has at most 240
+/// letters of the image.
 pub fn injectivity(alloc: Global, rule: &Rule) -> Result<InjectivePart, AllocError>
     ensures least { IfOk result (λ part. IsInjectivePart rule.now (injective_of part)) }
     ensures most { IfOk result (λ part. HasShortWindow (injective_of part)) }
@@ -54,7 +54,7 @@ pub fn injectivity(alloc: Global, rule: &Rule) -> Result<InjectivePart, AllocErr
     injective_part(alloc, &pairs, &ranks, &mut walker)
 }
 
-/// The same, by the pairs and the ranks of the rule.
+/// Does the same for the pairs and the ranks of a rule.
 pub(crate) fn injective_part(
     alloc: Global,
     pairs: &Pairs,
@@ -77,7 +77,7 @@ pub(crate) fn injective_part(
     }
 }
 
-/// What a certificate says of a side.
+/// Returns the part of a certificate for a side.
 pub(crate) fn side_part(found: Closing) -> SidePart
     ensures right { (r : LocalRule) → IsRightAnswer r found → IsRightPart r (side_of result) × IsOver r.states result }
     ensures left { (r : LocalRule) → IsLeftAnswer r found → IsLeftPart r (side_of result) × IsOver r.states result }
@@ -88,8 +88,8 @@ pub(crate) fn side_part(found: Closing) -> SidePart
     }
 }
 
-/// The flux of the rule exactly where it is conserving with these weights of its letters, else its least
-/// ring that doesn't keep its sum.
+/// Returns the flux of the rule if it is conserving under these weights, otherwise the least ring that doesn't keep
+/// its sum.
 pub(crate) fn sum_part(alloc: Global, rule: &Rule, weights: &Weights) -> Result<SumPart, AllocError>
     requires { length weights.now ≡ rule.now.states }
     ensures { IfOk result (λ part. IsConservingPart (slice_index weights.now) rule.now (sum_of part)) }
@@ -100,7 +100,7 @@ pub(crate) fn sum_part(alloc: Global, rule: &Rule, weights: &Weights) -> Result<
     }
 }
 
-/// The first flows of the row, one for each node of the rule.
+/// Returns the first numbers of the row, one for each node of the rule.
 fn flux_row(alloc: Global, rule: &Rule, flows: &[i32; MOST_NODES]) -> Result<FluxRow, AllocError>
     ensures row { IfOk result (λ row. row ≡ take (node_count rule.now) flows.now) }
     ensures rule { IsRule rule.now }
@@ -109,15 +109,15 @@ fn flux_row(alloc: Global, rule: &Rule, flows: &[i32; MOST_NODES]) -> Result<Flu
     Ok(FluxRow::of(flows[..nodes].to_vec(alloc)?))
 }
 
-/// The letters of a ring as a word.
+/// Returns the letters of a ring as a word.
 fn ring_word(alloc: Global, ring: &SmallRing) -> Result<Word, AllocError>
     ensures { IfOk result (λ word. word ≡ ring.now) }
 {
     Ok(Word::of(ring.letters().to_vec(alloc)?))
 }
 
-/// What a certificate of this version says of surjectivity, of the rule of these pairs with this least
-/// orphan or none.
+/// Returns the part of a certificate of this version about surjectivity, for the rule of these pairs. `orphan` is its
+/// least orphan, if there is one.
 pub(crate) fn surjective_part(
     alloc: Global,
     version: CertVersion,
@@ -135,7 +135,7 @@ pub(crate) fn surjective_part(
     }
 }
 
-/// What shows that a rule is surjective: in version 2 its cover list, in version 3 its reached pairs.
+/// Returns the evidence that a rule is surjective: in version 2 its cover list, in version 3 its reached pairs.
 fn list_part(
     alloc: Global,
     version: CertVersion,
@@ -152,7 +152,7 @@ fn list_part(
     Ok(SurjectivePart::Sets(covers(alloc, pairs.graph())?))
 }
 
-/// The cover list of a surjective rule.
+/// Returns the cover list of a surjective rule.
 fn covers(alloc: Global, graph: &Graph) -> Result<SetList, AllocError>
     requires { IsSurjective graph.now }
     ensures { IfOk result (IsCoverList graph.now) }

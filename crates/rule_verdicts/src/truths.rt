@@ -1,4 +1,4 @@
-//! What holds of a rule, each letter of which weighs its own value.
+//! The verdicts of a rule, if each letter weighs its own value.
 ghost use Rattle.std.specs.Prelude.{◌≡◌, ◌↔◌, ◌&&◌, slice_index, IsTrue};
 ghost use Rattle.word_image.specs.LocalRules.{LocalRule, IsRule};
 ghost use Rattle.word_image.specs.Words.{IsSurjective};
@@ -16,46 +16,46 @@ use pair_graph::Pairs;
 use pair_rank::Endless;
 use word_image::{Rule, Weights};
 
-/// What holds of a rule, each letter of which weighs its own value.
+/// The verdicts of a rule, if each letter weighs its own value.
 #[derive(Clone, Copy, Debug, PartialEq, Eq)]
 pub struct Truths {
     /// Whether every word has a preimage.
     pub surjective: bool,
     /// Whether no two different configurations share an image.
     pub injective: bool,
-    /// Whether no two that agree on the left do.
+    /// Whether no two different configurations that agree on the left share an image.
     pub right: bool,
-    /// Whether no two that agree on the right do.
+    /// Whether no two different configurations that agree on the right share an image.
     pub left: bool,
     /// Whether every ring keeps the sum of its letters.
     pub conserving: bool,
 }
 
 impl Truths {
-    /// Decides all questions about a rule. It takes no memory.
+    /// Decides all questions about a rule. Needs no memory.
     pub fn of(rule: &Rule) -> Truths
         ensures { AreTruths rule.now result }
     {
-        // Neither a surjective rule nor a conserving one has another sum of the table.
+        // The table of a surjective rule has this sum, and so has the table of a conserving one.
         if !has_mean(rule.k(), rule.table()) {
             return Truths::not_surjective(false);
         }
         decided(rule, may_be_surjective(rule.k(), rule.table()))
     }
 
-    /// What holds of the rule of k states, width m and offset 0 with this table. It takes no memory.
+    /// Returns the verdicts of the rule of k states, width m and offset 0 with this table. Needs no memory.
     pub fn of_table(k: u8, m: u8, table: &[u8]) -> Truths
         requires { IsRule (texts.rule_of_table k m table.now) }
         ensures { AreTruths (texts.rule_of_table k m table.now) result }
     {
-        // Most tables are done with before there is a rule of them.
+        // Most tables are decided here, before a rule is made.
         if !has_mean(k, table) {
             return Truths::not_surjective(false);
         }
         Truths::past_sum(k, m, table)
     }
 
-    /// The same of a table whose sum was looked at before.
+    /// Does the same for a table whose sum is right.
     pub(crate) fn past_sum(k: u8, m: u8, table: &[u8]) -> Truths
         requires { IsRule (texts.rule_of_table k m table.now) }
         ensures { AreTruths (texts.rule_of_table k m table.now) result }
@@ -67,7 +67,7 @@ impl Truths {
         decided(&rule_of_table(k, m, table), even)
     }
 
-    /// What a byte says that has all in one number.
+    /// Returns the verdicts that a byte stands for.
     pub fn of_byte(byte: u8) -> Truths
         ensures { (t : Truths) → byte ≡ byte_of t → result ≡ t }
     {
@@ -80,7 +80,7 @@ impl Truths {
         }
     }
 
-    /// What holds of a rule that isn't surjective: no more than that it may be conserving.
+    /// Returns the verdicts of a rule that isn't surjective: only `conserving` may be true.
     pub fn not_surjective(conserving: bool) -> Truths
         ensures { (r : LocalRule) → IsRule r → ¬ IsSurjective r → (IsTrue conserving ↔ IsConserving (slice_index (own_weights r.states)) r) → AreTruths r result }
     {
@@ -93,15 +93,15 @@ impl Truths {
         }
     }
 
-    /// Whether the rule is open, which it is exactly where it closes on both sides.
+    /// Returns whether the rule is open, which means that it closes on both sides.
     pub fn is_open(&self) -> bool
         ensures { result ≡ (self.now.right && self.now.left) }
     {
         self.right && self.left
     }
 
-    /// All in one number: 1 for surjective, 2 for injective, 4 for right, 8 for left, 16 for open and 32
-    /// for conserving, of those that hold.
+    /// Returns the verdicts as a sum: 1 for surjective, 2 for injective, 4 for right, 8 for left, 16 for open and 32
+    /// for conserving.
     pub fn byte(&self) -> u8
         ensures { result ≡ byte_of self.now }
     {
@@ -114,7 +114,7 @@ impl Truths {
     }
 }
 
-/// The rule of k states, width m and offset 0 with this table.
+/// Returns the rule of k states, width m and offset 0 with this table.
 pub fn rule_of_table(k: u8, m: u8, table: &[u8]) -> Rule
     requires { IsRule (texts.rule_of_table k m table.now) }
     ensures { result ≡ texts.rule_of_table k m table.now }
@@ -122,18 +122,18 @@ pub fn rule_of_table(k: u8, m: u8, table: &[u8]) -> Rule
     Rule::by(k, m, 0, |window| table[usize::from(window)])
 }
 
-/// Whether a rule of k states with this table may be surjective, by how often letters stand in the table, and by
-/// how many words have the image 0 0.
+/// Returns false only if no rule of k states with this table is surjective. Looks at how often letters occur in the
+/// table, and at the number of words with the image 0 0.
 fn may_be_surjective(k: u8, table: &[u8]) -> bool
     requires { (r : LocalRule) × IsRule r × (r.states ≡ k) × (r.table ≡ table.now) }
     ensures { (r : LocalRule) → IsRule r → r.states ≡ k → r.table ≡ table.now → IsSurjective r → IsTrue result }
 {
     let nodes = (table.len() / usize::from(k)) as u8;
-    // Of two letters the sum tells how often each stands there.
+    // The sum tells how often each of two letters occurs.
     (k == 2 || is_even(k, table)) && is_even_at_zeros(k, nodes, table)
 }
 
-/// What holds of a rule, of which it is known if it can't be surjective.
+/// Returns the verdicts of a rule. `may_be_surjective` is false only if it isn't surjective.
 fn decided(rule: &Rule, may_be_surjective: bool) -> Truths
     requires { IsSurjective rule.now → IsTrue may_be_surjective }
     ensures { AreTruths rule.now result }
@@ -157,7 +157,7 @@ fn decided(rule: &Rule, may_be_surjective: bool) -> Truths
     }
 }
 
-/// Whether every ring keeps the sum of its letters. It takes no memory.
+/// Returns whether every ring keeps the sum of its letters. Needs no memory.
 pub fn keeps_sums(rule: &Rule) -> bool
     ensures sums { IsTrue result ↔ IsConserving (slice_index (own_weights rule.now.states)) rule.now }
     ensures rule { IsRule rule.now }
