@@ -1,13 +1,13 @@
-//! There is at most one right reply: the words, and what the source has left, determine the value that is
-//! said to them, and with it the status and each byte of every form in which it is written. That there is one isn't
-//! a law here: [`ca_cli::run`] gives one unless a read, a write or a request for memory fails.
+//! Laws that say that words have at most one right reply. The words and the bytes that the source has left determine
+//! the reply as a value, and so the status and each byte of every form of the reply. That there is a reply isn't a
+//! law of this crate: [`ca_cli::run`] gives one unless a read, a write or a request for memory fails.
 //!
-//! A command asks at most one question, of accepted rules. A question has at most one right finding, and if nothing
-//! fits, at most one cause: what is found of a rule is the least of its kind, or a number that the rule determines, or a rule
-//! that is told by its images, or a list of all of a kind in their order. Of two that come no later than
-//! each other in a total order both are one.
+//! A command asks at most one question, about accepted rules. A question has at most one right finding, or, if
+//! nothing fits, at most one cause. The reason is that a finding is the least of its kind, a number that the rule
+//! determines, a rule that is determined by its images, or the list of all of a kind in their order. If each of two
+//! values isn't greater than the other in a total order, they are equal.
 //!
-//! The functions here do nothing. They carry the laws by their contracts.
+//! The functions of this crate do nothing. The contract of each states a law.
 #![tactic(auto)]
 
 ghost use Rattle.std.specs.Prelude.{◌≡◌, ℕ, List, Option, Some};
@@ -17,8 +17,8 @@ ghost use Rattle.ca_findings.specs.Replies.{Reply};
 ghost use Rattle.ca_cli.specs.Readings.{ReadsNothing};
 ghost use Rattle.ca_cli.specs.RightAnswers.{IsAnswer, IsReplyTo};
 
-/// Words have at most one right reply: over any source if they are no command or one that reads nothing, and over
-/// a source that tells what it has left for all words.
+/// Law: words have at most one right reply. This holds over any source if they are no command or a command that reads
+/// nothing, and for all words over a source that tells its bytes.
 pub fn one_reply()
     ensures unread { (words : List (List ℕ)) (input : Option (List ℕ)) (reply other : Reply)
         → ((c : Command) → IsCommand words c → ReadsNothing c)
@@ -27,8 +27,8 @@ pub fn one_reply()
         → IsReplyTo words (Some left) reply → IsReplyTo words (Some left) other → reply ≡ other }
 {}
 
-/// Words have at most one right output with each status: over any source if they are no command or one that reads
-/// nothing, and over a source that tells what it has left for all words.
+/// Law: words have at most one right output for each status. This holds over any source if they are no command or a
+/// command that reads nothing, and for all words over a source that tells its bytes.
 pub fn one_output()
     ensures unread { (words : List (List ℕ)) (input : Option (List ℕ)) (s : Status) (out other : List ℕ)
         → ((c : Command) → IsCommand words c → ReadsNothing c)

@@ -1,4 +1,4 @@
--- Within the crate: what is kept for the question of classes: the counts, and what holds of the least rules.
+-- Within the crate: the state while classes are counted: the counts, and the verdicts of the least rules.
 use Rattle.std.specs.Prelude.{◌≡◌, ℕ, List, ◌++◌, [], ◌∷◌, map, All, Contains}
 use Rattle.word_image.specs.LocalRules.{LocalRule, IsRule, wolfram_number}
 use Rattle.rule_verdicts.specs.declared.truths.Truths.{Truths}
@@ -8,15 +8,15 @@ use Rattle.ca_findings.specs.Counts.{AreCounts, AreLeastRules}
 use Rattle.ca_findings.specs.Values.{counts_of}
 use Rattle.ca_answers.specs.declared.class_tally.ClassTally.{ClassTally}
 
--- the rule of k states, width m and offset 0 that an entry is about
+-- the rule of k states, width m and offset 0 of an entry
 abbrev pub rule_in : ℕ → ℕ → ℕ × Truths → LocalRule
 rule_in k m entry = numbered_rule k m entry.0
 
--- the rules that are decided
+-- the rules that have been decided
 abbrev pub rules_in : ℕ → ℕ → List (ℕ × Truths) → List LocalRule
 rules_in k m entries = map (rule_in k m) entries
 
--- what holds of an accepted rule, under its number
+-- the verdicts of an accepted rule, under its number
 pub record IsDecided (k m : ℕ) (entry : ℕ × Truths) : Type 0 where
   pub accepted : IsRule (rule_in k m entry)
   pub number : wolfram_number (rule_in k m entry) ≡ entry.0
@@ -27,7 +27,7 @@ pub data IsRuleAdded (g : LocalRule) : List LocalRule → List LocalRule → Typ
   Old : (rules : List LocalRule) → Contains rules g → IsRuleAdded g rules rules
   New : (rules : List LocalRule) → ¬ Contains rules g → IsRuleAdded g rules (rules ++ g ∷ [])
 
--- the rules are counted, and the least rules of their classes are decided
+-- the rules have been counted, and the least rules of their classes have been decided
 pub record IsClassTally (k m : ℕ) (rules : List LocalRule) (t : ClassTally) : Type 0 where
   pub counts : AreCounts rules (counts_of t.counts)
   pub decided : All (IsDecided k m) (t.leasts).entries

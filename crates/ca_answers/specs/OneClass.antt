@@ -2,6 +2,6 @@
 use Rattle.std.specs.Prelude.{ℕ, None, replicate}
 use Rattle.image_minimal.specs.ImageLanguages.{Automaton}
 
--- one class, to which each letter leads, and which isn't that of an orphan
+-- one class, which follows itself on each letter and has no orphans
 abbrev pub one_class : ℕ → Automaton
 one_class k = record { states = k; classes = 1; next = replicate k 0; dead = None }

@@ -1,4 +1,4 @@
-//! The answer to a question: each is asked of the function that finds it.
+//! The answer to a question: one function for each kind of question.
 ghost use Rattle.std.specs.Prelude.{◌≡◌, option_copied};
 ghost use Rattle.ca_findings.specs.QuestionValues.{IsWhole, question_of};
 ghost use Rattle.ca_findings.specs.Questions as questions;
@@ -14,7 +14,7 @@ use crate::summaries::{classes, sample, survey};
 use ca_findings::{Cause, Found, Question, ShortList, Stop};
 use std::alloc::Global;
 
-/// Returns what is found for a question, or why nothing is.
+/// Returns the finding for a question, or the reason why there is none.
 pub fn answer(alloc: Global, question: &Question) -> Result<Found, Stop>
     requires { IsWhole question.now }
     ensures { Answers (question_of question.now) result }
@@ -46,7 +46,7 @@ pub fn answer(alloc: Global, question: &Question) -> Result<Found, Stop>
     }
 }
 
-/// Returns what comes of a question that is settled without memory.
+/// Turns the answer to a question that needs no memory into the answer to a question.
 fn settled(found: Result<Found, Cause>) -> Result<Found, Stop>
     ensures { (q : questions.Question) → Settles q found → Answers q result }
 {
@@ -56,7 +56,7 @@ fn settled(found: Result<Found, Cause>) -> Result<Found, Stop>
     }
 }
 
-/// Returns the weights that are named, as numbers.
+/// Returns the named weights as a slice.
 fn named(weights: &Option<ShortList>) -> Option<&[u8]>
     ensures { option_copied result ≡ weights.now }
 {

@@ -1,4 +1,4 @@
-//! Of how many rules each verdict is true, where a class is decided once.
+//! Counts of rules with each property. Each class of rules is decided only once.
 ghost use Rattle.std.specs.Prelude.{◌≡◌, ◌<◌, ◌≤◌, ◌+◌, ℕ, List, [], ◌∷◌, ◌++◌, length, nat_eq, None, All, IfOk, OnOk, pos};
 ghost use Rattle.indexmap.specs.IndexMap.{get};
 ghost use Rattle.word_image.specs.LocalRules.{LocalRule, IsRule};
@@ -18,16 +18,16 @@ use rule_verdicts::{Truths, keeps_sums};
 use std::alloc::{AllocError, Global};
 use word_image::Rule;
 
-/// How many of some rules have each property, and what holds of the least rules of their classes.
+/// The counts of some rules, and the verdicts of the least rules of their classes.
 #[derive(Drop)]
 pub struct ClassTally {
     counts: Counts,
-    // By Wolfram number, in the order in which they came.
+    // By Wolfram number, in the order in which they were added.
     leasts: IndexMap<u128, Truths>,
 }
 
 impl ClassTally {
-    /// The counts of no rules.
+    /// Returns the counts of no rules.
     pub fn new(alloc: Global) -> ClassTally
         ensures { (k m : ℕ) → IsClassTally k m [] result }
     {
@@ -37,7 +37,7 @@ impl ClassTally {
         }
     }
 
-    /// Counts one rule more.
+    /// Counts one more rule.
     pub fn add(&mut self, rule: &Rule) -> Result<(), AllocError>
         requires states { rule.now.states ≤ 6 }
         requires tally { (rules : List LocalRule) × IsClassTally rule.now.states rule.now.width rules self.old × (length rules < 4096) }
@@ -50,7 +50,7 @@ impl ClassTally {
         Ok(())
     }
 
-    /// What is counted, and how many classes there are.
+    /// Returns the counts and the number of classes.
     pub fn found(&self) -> Found
         ensures { (k m : ℕ) (rules : List LocalRule) → IsClassTally k m rules self.now → IsFinding (Question.Classes rules) (finding_of result) }
     {
@@ -58,7 +58,7 @@ impl ClassTally {
     }
 }
 
-/// What holds of a rule, which is kept under its number.
+/// Returns the verdicts of a rule, and stores them under its number.
 fn decided(known: &mut IndexMap<u128, Truths>, rule: &Rule) -> Result<Truths, AllocError>
     requires states { rule.now.states ≤ 6 }
     requires offset { rule.now.offset ≡ pos 0 }
@@ -77,7 +77,7 @@ fn decided(known: &mut IndexMap<u128, Truths>, rule: &Rule) -> Result<Truths, Al
     Ok(truths)
 }
 
-/// Keeps what holds of a rule under a number that has nothing.
+/// Stores the verdicts of a rule under a number that has none yet.
 fn keep(known: &mut IndexMap<u128, Truths>, number: u128, truths: &Truths) -> Result<(), AllocError>
     requires { get nat_eq known.old number ≡ None }
     ensures { OnOk result (known.new.entries ≡ known.old.entries ++ (number, truths.now) ∷ []) }
@@ -86,8 +86,8 @@ fn keep(known: &mut IndexMap<u128, Truths>, number: u128, truths: &Truths) -> Re
     Ok(())
 }
 
-/// What holds of a rule, by what holds of the least rule of its class. Of the sums of rings that says
-/// nothing, since other names of the letters change them.
+/// Returns the verdicts of a rule, from those of the least rule of its class. The sums of rings are decided anew,
+/// since other names for the letters change them.
 fn of_member(rule: &Rule, mirrored: bool, least: &Truths) -> Truths
     ensures rule { IsRule rule.now }
     ensures truths { (g : LocalRule) → HaveOneVerdict rule.now mirrored g → AreTruths g least.now → AreTruths rule.now result }

@@ -14,7 +14,7 @@ use rule_verdicts::injectivity;
 use std::alloc::Global;
 use word_image::Rule;
 
-/// The map that gives the cells of a configuration back from its image, over the least determined window.
+/// Returns the inverse map of a rule over its least determined window, or the cause why there is none.
 pub fn inverse(alloc: Global, rule: &Rule) -> Result<Found, Stop>
     ensures { Answers (Question.Inverse rule.now) result }
 {
@@ -25,7 +25,7 @@ pub fn inverse(alloc: Global, rule: &Rule) -> Result<Found, Stop>
     }
 }
 
-/// The inverse of a rule over its least determined window.
+/// Returns the inverse map of a rule over its least determined window.
 fn inverse_over(alloc: Global, rule: &Rule, at: WindowAt) -> Result<Found, Stop>
     requires injective { IsInjective rule.now }
     requires least { IsLeastDetermined rule.now at.n at.c }
@@ -48,7 +48,7 @@ fn inverse_over(alloc: Global, rule: &Rule, at: WindowAt) -> Result<Found, Stop>
     }
 }
 
-/// The map as a rule, where it keeps the limits of rules.
+/// Returns the map as a rule, if it keeps the limits of rules.
 fn map_rule(map: &InverseMap) -> Option<Rule>
     ensures { IsMapRule map.now result }
 {

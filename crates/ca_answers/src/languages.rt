@@ -1,4 +1,4 @@
-//! The words that are images.
+//! Questions about the words that have a preimage.
 ghost use Rattle.std.specs.Prelude.{◌≤◌, IfOk, ◌≡◌};
 ghost use Rattle.image_minimal.specs.ImageLanguages.{IsLeastAutomaton};
 ghost use Rattle.ca_findings.specs.Questions.{Question};
@@ -13,7 +13,7 @@ use least_walk::Walker;
 use std::alloc::{AllocError, Global};
 use word_image::Rule;
 
-/// The least automaton of the words that have a preimage.
+/// Returns the least automaton of the words that have a preimage.
 pub fn language(alloc: Global, rule: &Rule) -> Result<Found, Stop>
     ensures { Answers (Question.Language rule.now) result }
 {
@@ -24,7 +24,7 @@ pub fn language(alloc: Global, rule: &Rule) -> Result<Found, Stop>
     Ok(Found::Language(automaton(alloc, &minimal)?))
 }
 
-/// The automaton of a surjective rule of k states.
+/// Returns the automaton of a surjective rule of k states.
 fn one_class(alloc: Global, k: u8) -> Result<Automaton, AllocError>
     ensures { IfOk result (λ m. automaton_of m ≡ one.one_class k) }
 {
@@ -36,7 +36,7 @@ fn one_class(alloc: Global, k: u8) -> Result<Automaton, AllocError>
     })
 }
 
-/// An automaton with all its rows.
+/// Returns an automaton with all its rows.
 fn automaton(alloc: Global, minimal: &Minimal) -> Result<Automaton, AllocError>
     ensures { IfOk result (λ m. IsLeastAutomaton minimal.now (automaton_of m)) }
 {
@@ -48,8 +48,7 @@ fn automaton(alloc: Global, minimal: &Minimal) -> Result<Automaton, AllocError>
     })
 }
 
-/// Whether the two rules have the same orphans, with the first word that is one of exactly one of them
-/// where they haven't.
+/// Returns the least word that is an orphan of exactly one of the two rules, if there is one.
 pub fn same(alloc: Global, first: &Rule, second: &Rule) -> Result<Found, Stop>
     ensures { Answers (Question.Same first.now second.now) result }
 {
@@ -60,7 +59,7 @@ pub fn same(alloc: Global, first: &Rule, second: &Rule) -> Result<Found, Stop>
     }
 }
 
-/// The least erasable pair, where the rule isn't surjective.
+/// Returns the least erasable pair, if the rule isn't surjective.
 pub fn erase(alloc: Global, rule: &Rule) -> Result<Found, Stop>
     ensures { Answers (Question.Erase rule.now) result }
 {

@@ -1,19 +1,19 @@
-//! What is found when a question is asked of rules. No text is read or written here.
+//! The answers to questions about rules. No text is read or written here.
 //!
-//! [`answer`] takes a question as a value, and asks the function that finds its answer. Its contract is `Answers` of
-//! ca_findings: it gives a right *finding*, or a right cause for which nothing fits, as `IsFinding` and `IsUnfitFor`
-//! say, or that there was no memory.
+//! [`answer`] takes a question as a value, and calls the function that answers it. Its contract is `Answers` of
+//! ca_findings: it returns a right *finding*, or a right cause why nothing fits, by the definitions `IsFinding` and
+//! `IsUnfitFor`, or that there was no memory.
 //!
-//! Each of the other functions takes the parts of one question. A function that asks for no memory gives a cause and
-//! no [`Stop`](ca_findings::Stop), and one that always has a finding gives a [`Found`](ca_findings::Found). So
-//! [`shift`] of rule 110 by 1 gives the rule with offset 0, and by 16 the cause that the offset breaks a limit;
-//! [`orphan`] of rule 110 gives 01010, and of rule 90 none.
+//! Each other function takes the parts of one question. If it needs no memory, it can't return a
+//! [`Stop`](ca_findings::Stop) but only a cause, and if it always has a finding, it returns a
+//! [`Found`](ca_findings::Found). For example, [`shift`] of rule 110 by 1 is the rule with offset 0, and [`shift`] by
+//! 16 is the cause that the offset breaks a limit. [`orphan`] of rule 110 is 01010, and rule 90 has none.
 //!
-//! [`survey`] and [`classes`] count the rules with consecutive numbers, and [`sample`] those that a
-//! seed stands for: a linear congruential generator draws the letters of their tables, by the upper 31 bits of
-//! its states (Knuth 1969).
+//! [`survey`] and [`classes`] count the rules with consecutive numbers. [`sample`] counts rules that a seed
+//! determines: a linear congruential generator draws the letters of their tables, by the upper 31 bits of its states
+//! (Knuth 1969).
 //!
-//! Nothing is decided here. The deciders below do that, and each function takes the time and the memory of its decider.
+//! The deciders are in crates below. Each function takes the time and the memory of its decider.
 #![tactic(auto)]
 
 mod algebra;

@@ -1,4 +1,4 @@
-//! What holds of a rule, with evidence.
+//! Questions about the verdicts of a rule.
 ghost use Rattle.std.specs.Prelude.{◌≡◌, length, true, option_copied, IfNone, IfOk, IfSome};
 ghost use Rattle.cert_values.specs.Versions.{names_weights};
 ghost use Rattle.ca_findings.specs.Questions.{Question};
@@ -11,8 +11,8 @@ use rule_verdicts::{Evidence, least_orphan};
 use std::alloc::{AllocError, Global};
 use word_image::{Rule, Weights};
 
-/// The verdicts of a rule, each with the least evidence, where its letters have these weights; without
-/// any, each letter weighs its own value.
+/// Returns the verdicts of a rule, each with the least evidence, under these weights. Without weights, each letter
+/// weighs its own value. Returns the cause `Weights` if there isn't one weight for each letter.
 pub fn report(alloc: Global, rule: &Rule, weights: Option<&[u8]>) -> Result<Found, Stop>
     ensures { Answers (Question.Report rule.now (option_copied weights.entry)) result }
 {
@@ -25,7 +25,8 @@ pub fn report(alloc: Global, rule: &Rule, weights: Option<&[u8]>) -> Result<Foun
     }
 }
 
-/// Returns the weights that are named, if there is one for each letter of the rule, or its letters' own values.
+/// Returns the named weights if there is one for each letter of the rule, or the letters' own values if no weights
+/// are named.
 pub fn weights_for(rule: &Rule, weights: Option<&[u8]>) -> Option<Weights>
     ensures each { IfSome result (λ each. AreFor (option_copied weights.entry) rule.now) }
     ensures weights { IfSome result (λ each. each ≡ weights_by (option_copied weights.entry) rule.now) }
@@ -41,7 +42,8 @@ pub fn weights_for(rule: &Rule, weights: Option<&[u8]>) -> Option<Weights>
     }
 }
 
-/// The certificate of this version, which is 2 or 3, of the rule and such weights.
+/// Returns the certificate of this version, which is 2 or 3, of the rule and these weights. Returns the cause
+/// `Weights` if there isn't one weight for each letter.
 pub fn certificate(
     alloc: Global,
     version: CertVersion,
@@ -60,14 +62,14 @@ pub fn certificate(
     }
 }
 
-/// The least orphan; none where the rule is surjective.
+/// Returns the least orphan, or None if the rule is surjective.
 pub fn orphan(alloc: Global, rule: &Rule) -> Result<Found, Stop>
     ensures { Answers (Question.Orphan rule.now) result }
 {
     Ok(Found::Orphan(least_orphan(alloc, rule)?))
 }
 
-/// The Wolfram number, of a rule of at most six states.
+/// Returns the Wolfram number of a rule, or None if it has 7 states or more.
 pub fn number(rule: &Rule) -> Found
     ensures { IsFinding (Question.Number rule.now) (finding_of result) }
 {

@@ -1,4 +1,4 @@
-//! How many of many rules have each property.
+//! Counts of rules with each property.
 ghost use Rattle.std.specs.Prelude.{◌≡◌, ℕ, List, ◌+◌, ◌^◌, ◌<◌, ◌≤◌, None, length, reverse, IfOk, pos};
 ghost use Rattle.word_image.specs.LocalRules.{LocalRule, IsRule, IsShape, value};
 ghost use Rattle.rule_verdicts.specs.Numbers.{numbered_rule, numbers_fault, AreVerdictBytes};
@@ -21,10 +21,10 @@ use rule_verdicts::{Truths, next_table, rule_of_table, verdict_bytes};
 use std::alloc::{AllocError, Global};
 use word_image::{MOST_ENTRIES, Rule};
 
-/// The most rules of a summary.
+/// The greatest number of rules of a summary.
 const MOST_RULES: usize = 4096;
 
-/// How many of the rules with these numbers have each property. It takes no memory.
+/// Counts the rules with these numbers that have each property. Needs no memory.
 pub fn survey(rules: Numbered) -> Found
     requires { AreNumbered rules }
     ensures { IsFinding (Question.Summary (survey_rules rules.states rules.width rules.first rules.count)) (finding_of result) }
@@ -32,7 +32,7 @@ pub fn survey(rules: Numbered) -> Found
     summary(counts_of_numbers(rules.states, rules.width, rules.first, rules.count))
 }
 
-/// How many of the first rules that a seed stands for have each property. It takes no memory.
+/// Counts the first rules that a seed determines that have each property. Needs no memory.
 pub fn sample(rules: Drawn) -> Found
     requires { AreDrawn rules }
     ensures { IsFinding (Question.Summary (sample_rules rules.states rules.width rules.seed rules.count)) (finding_of result) }
@@ -40,14 +40,14 @@ pub fn sample(rules: Drawn) -> Found
     summary(counts_of_draws(rules.states, rules.width, rules.seed, rules.count))
 }
 
-/// What is found of some rules with these counts.
+/// Makes a finding of counts.
 fn summary(counts: Counts) -> Found
     ensures { (rules : List LocalRule) → AreCounts rules (counts_of counts) → IsFinding (Question.Summary rules) (finding_of result) }
 {
     Found::Summary(counts)
 }
 
-/// The same as `survey`, and how many classes the rules have, each of which is decided once.
+/// Counts like `survey`, and counts the classes of the rules, too. Each class is decided only once.
 pub fn classes(alloc: Global, rules: Numbered) -> Result<Found, AllocError>
     requires { AreNumbered rules }
     ensures { IfOk result (λ found. IsFinding (Question.Classes (survey_rules rules.states rules.width rules.first rules.count)) (finding_of found)) }
@@ -56,7 +56,7 @@ pub fn classes(alloc: Global, rules: Numbered) -> Result<Found, AllocError>
     Ok(tally.found())
 }
 
-/// Counts what holds of the rules with so many numbers from this one on.
+/// Counts the verdicts of the rules with `count` consecutive numbers, starting at `first`.
 fn counts_of_numbers(k: u8, m: u8, first: u128, count: u16) -> Counts
     requires accepted { numbers_fault k m first count ≡ None }
     requires some { 1 ≤ count }
@@ -69,7 +69,7 @@ fn counts_of_numbers(k: u8, m: u8, first: u128, count: u16) -> Counts
     counts_of_bytes(k, m, first, bytes)
 }
 
-/// Counts what holds of the rules with the numbers from this one on, of which each byte says it.
+/// Counts the verdicts of the rules with consecutive numbers, starting at `first`, with a byte for each rule.
 fn counts_of_bytes(k: u8, m: u8, first: u128, bytes: &[u8]) -> Counts
     requires accepted { numbers_fault k m first (length bytes.now) ≡ None }
     requires bytes { AreVerdictBytes k m first bytes.now }
@@ -83,7 +83,7 @@ fn counts_of_bytes(k: u8, m: u8, first: u128, bytes: &[u8]) -> Counts
     counts
 }
 
-/// Counts by their classes what holds of the rules with so many numbers from this one on.
+/// Counts the verdicts of the rules with `count` consecutive numbers by their classes, starting at `first`.
 fn classes_of_numbers(
     alloc: Global,
     k: u8,
@@ -103,7 +103,7 @@ fn classes_of_numbers(
     classes_from(alloc, k, m, table, count)
 }
 
-/// The first rule of so many that have a number.
+/// Returns the first of some rules that have numbers.
 fn first_rule(k: u8, m: u8, first: u128, count: u16) -> Rule
     requires accepted { numbers_fault k m first count ≡ None }
     requires some { 1 ≤ count }
@@ -115,8 +115,8 @@ fn first_rule(k: u8, m: u8, first: u128, count: u16) -> Rule
     }
 }
 
-/// Counts by their classes what holds of so many rules, those with the numbers from that of this table
-/// on. The table goes on with them.
+/// Counts the verdicts of rules with consecutive numbers by their classes, starting with the number of this table.
+/// The table changes along with them.
 fn classes_from(
     alloc: Global,
     k: u8,
@@ -139,7 +139,7 @@ fn classes_from(
     Ok(tally)
 }
 
-/// Counts what holds of the first rules that a seed stands for.
+/// Counts the verdicts of the first rules that a seed determines.
 fn counts_of_draws(k: u8, m: u8, seed: u64, count: u16) -> Counts
     requires shape { IsShape k m (pos 0) }
     requires few { count ≤ 4096 }
@@ -150,7 +150,7 @@ fn counts_of_draws(k: u8, m: u8, seed: u64, count: u16) -> Counts
     counts_in(k, m, seed, count, &mut table[..size])
 }
 
-/// The same, where each table is drawn in the place of the one before.
+/// Does the same. Each table is drawn over the one before.
 fn counts_in(k: u8, m: u8, seed: u64, count: u16, table: &mut [u8]) -> Counts
     requires shape { IsShape k m (pos 0) }
     requires few { count ≤ 4096 }

@@ -1,4 +1,4 @@
--- Within the crate: what comes of words.
+-- Within the crate: the result of answering words.
 use Rattle.std.specs.Prelude.{ℕ, List, Result, MatchResult}
 use Rattle.ca_words.specs.Asking.{Ask, IsStop}
 use Rattle.ca_findings.specs.declared.found.Found.{Found}
@@ -7,6 +7,6 @@ use Rattle.ca_findings.specs.Findings.{IsFinding}
 use Rattle.ca_findings.specs.Questions.{Question}
 use Rattle.ca_findings.specs.Values.{finding_of}
 
--- what is found is right for the question of the words, or nothing is found
+-- a finding that is right for the question of the words, or a reason why there is none
 abbrev pub IsOutcome : List (List ℕ) → Result Found Stop → Type 0
 IsOutcome words result = MatchResult result (λ f. (q : Question) × Ask words q × IsFinding q (finding_of f)) (IsStop words)

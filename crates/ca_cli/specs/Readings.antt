@@ -1,4 +1,4 @@
--- How much of its input a command reads, and what is then left of the source.
+-- How many bytes a command reads, and how many are left in the source.
 use Rattle.std.specs.Prelude.{◌≡◌, ℕ, ◌+◌, ◌≤◌, List, length, Option, is_some, ⊤, ◌≢◌}
 use Rattle.std.specs.Io.KnownBytes.{Consumes, IsAtEnd}
 use Rattle.ca_io.specs.Faults.{Rose}
@@ -8,19 +8,19 @@ use Rattle.ca_cli.specs.Inputs.{most_input}
 use Rattle.ca_words.specs.declared.names.Name.TheVariants as name
 use Rattle.ca_words.specs.Commands.{Command}
 
--- at most this many bytes were taken, those that came first
+-- at most this many of the first bytes were taken
 pub record TakesAtMost (most : ℕ) (before after : Option (List ℕ)) : Type 0 where
   pub bytes : List ℕ
   pub few : length bytes ≤ most
   pub first : Consumes before after bytes
 
--- exactly this many bytes were taken, those that came first
+-- exactly this many of the first bytes were taken
 pub record TakesExactly (count : ℕ) (before after : Option (List ℕ)) : Type 0 where
   pub bytes : List ℕ
   pub many : length bytes ≡ count
   pub first : Consumes before after bytes
 
--- what `check` has read where it ends with this status: all that there was, or one byte more than is judged
+-- the bytes that `check` has read when it ends with this status: all of them, or one more than the judge accepts
 abbrev pub IsReadFor : Status → Option (List ℕ) → Option (List ℕ) → Type 0
 IsReadFor status.Done before after = IsAtEnd after
 IsReadFor status.Refused before after = IsAtEnd after
@@ -32,7 +32,7 @@ IsReadFor status.ReadFault before after = ⊤
 IsReadFor status.WriteFault before after = ⊤
 IsReadFor status.Memory before after = ⊤
 
--- what a call did to a source in which a read may have failed: what it has left, and its count of faults
+-- the effect of a call on a source in which a read may have failed: the bytes left, and its count of faults
 pub record Reading (failed : Type 0) (before after : Option (List ℕ)) (faults faults_after : ℕ) : Type 0 where
   pub most : TakesAtMost (most_input + 1) before after
   pub counted : failed → Rose faults faults_after

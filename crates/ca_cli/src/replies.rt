@@ -1,4 +1,4 @@
-//! From the words to what is said to them, as a value.
+//! From words to a reply as a value.
 ghost use Rattle.std.specs.Prelude.{◌≡◌, ℕ, List, Option, IfOk, map, string_bytes};
 ghost use Rattle.ca_words.specs.Commands.{IsCommand, check_command};
 ghost use Rattle.ca_findings.specs.Values.{reply_of};
@@ -14,8 +14,8 @@ use ca_io::{InputFault, Source};
 use ca_words::{is_check, question};
 use std::alloc::{AllocError, Global};
 
-/// Returns the reply to these words and to what the source has left, which only `check` reads. There is none if a
-/// read failed, or if there was no memory.
+/// Returns the reply to these words and to the bytes that the source has left, which only `check` reads. Returns an
+/// error if a read fails, or if there is no memory.
 pub fn reply<S: Source>(
     alloc: Global,
     words: &[String],
@@ -41,7 +41,7 @@ pub fn reply<S: Source>(
     Ok(said(found)?)
 }
 
-/// Returns what is said if this comes of the words. Want of memory is no reply.
+/// Returns the reply for a finding or for the reason why there is none. Lack of memory is no reply.
 fn said(found: Result<Found, Stop>) -> Result<Reply, AllocError>
     ensures { (words : List (List ℕ)) (input : Option (List ℕ)) → IsOutcome words found →
         IfOk result (λ reply. IsReplyTo words input (reply_of reply)) }

@@ -5,20 +5,20 @@ ghost use Rattle.ca_cli.specs.Statuses.{code_of, reply_status};
 
 use ca_findings::Reply;
 
-/// How the program ended.
+/// The status with which the program ends.
 #[derive(Clone, Copy, Debug, PartialEq, Eq)]
 pub enum Status {
-    /// The command was carried out and its output taken whole.
+    /// The command was carried out, and its output was written as a whole.
     Done,
-    /// The input was judged and refused.
+    /// The judge refuses the input.
     Refused,
     /// The words are no command.
     Usage,
-    /// A rule operand was refused.
+    /// An operand isn't the text of a rule.
     RuleFault,
-    /// No rule can be made as the words ask.
+    /// Nothing fits the question that the words ask.
     NotFit,
-    /// The input was longer than any that is judged.
+    /// The input is longer than the judge accepts.
     TooLong,
     /// A read of the input failed.
     ReadFault,
@@ -29,7 +29,7 @@ pub enum Status {
 }
 
 impl Status {
-    /// The status that belongs to a reply.
+    /// Returns the status of a reply.
     pub fn of(reply: &Reply) -> Status
         ensures { result ≡ reply_status (reply_of reply.now) }
     {
@@ -43,7 +43,7 @@ impl Status {
         }
     }
 
-    /// The exit status of the program.
+    /// Returns the exit status of the program.
     pub fn code(&self) -> u8
         ensures { result ≡ code_of self.now }
     {

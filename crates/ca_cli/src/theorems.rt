@@ -1,5 +1,5 @@
-//! What the relation between words, status and output says, as laws for all commands together: each
-//! is the contract of a function with nothing to run.
+//! Laws about words, status and output, for all commands together. Each is the contract of a function that does
+//! nothing.
 ghost use Rattle.std.specs.Prelude.{◌≡◌, ◌↔◌, ◌+◌, ◌≤◌, ◌⊎◌, ℕ, List, Option, Some, length};
 ghost use Rattle.word_image.specs.LocalRules.{LocalRule};
 ghost use Rattle.cert_conditions.specs.Accepted.{AreTrue, IsAccepted};
@@ -22,8 +22,8 @@ ghost use Rattle.ca_cli.specs.RightAnswers.{IsAnswer, IsReplyOf, IsReplyTo};
 use crate::status::Status;
 use ca_findings::{found_or_unfit, right_findings_are_writable};
 
-/// Words have at most one right status: over any source if they are no command or one that reads
-/// nothing, and over a source that tells what it has left for all words.
+/// Law: words have at most one right status. This holds over any source if they are no command or a command that
+/// reads nothing, and for all words over a source that tells its bytes.
 pub fn one_status()
     ensures unread { (words : List (List ℕ)) (input : Option (List ℕ)) (s t : Status) (out other : List ℕ)
         → ((c : Command) → IsCommand words c → ReadsNothing c)
@@ -34,15 +34,15 @@ pub fn one_status()
     found_or_unfit();
 }
 
-/// Usage is right exactly where the words are no command, with the line `usage error`.
+/// Law: the status Usage is right if and only if the words are no command. Its output is the line `usage error`.
 pub fn usage_exactly()
     ensures { (words : List (List ℕ)) (input : Option (List ℕ)) (out : List ℕ)
         → IsAnswer words input Status.Usage out
         ↔ (((c : Command) → ¬ IsCommand words c) × (out ≡ usage_line)) }
 {}
 
-/// RuleFault is right exactly where the words are a command one of whose operands is refused, with
-/// the line that names the first such operand and its first fault.
+/// Law: the status RuleFault is right if and only if the words are a command with a refused operand. Its output is
+/// the line with the number of the first such operand and its first fault.
 pub fn rule_fault_exactly()
     ensures { (words : List (List ℕ)) (input : Option (List ℕ)) (out : List ℕ)
         → IsAnswer words input Status.RuleFault out
@@ -50,15 +50,15 @@ pub fn rule_fault_exactly()
         × IsOperandFault c operand f × (out ≡ operand_fault_line operand f)) }
 {}
 
-/// Of words that are a command exactly what is right for it is a right answer: the status and the text of
-/// what is found for its question, of why nothing fits, of the fault of an operand, or of a judged input.
+/// Law: for words that are a command, exactly the answers to this command are right: the status and the text of the
+/// finding for its question, of the cause why nothing fits, of the fault of an operand, or of a judged input.
 pub fn right_exactly()
     ensures { (words : List (List ℕ)) (input : Option (List ℕ)) (c : Command) (s : Status) (out : List ℕ)
         → IsCommand words c → IsAnswer words input s out ↔ IsReplyOf input c s out }
 {}
 
-/// To a command that reads nothing, none of whose operands is refused, no status but NotFit is right where
-/// nothing fits, and none but Done where something does.
+/// Law: for a command that reads nothing and has no refused operand, only NotFit is right if nothing fits its
+/// question, and only Done if something does.
 pub fn done_or_not_fit()
     ensures done { (words : List (List ℕ)) (input : Option (List ℕ)) (c : Command) (s : Status) (out : List ℕ)
         → IsCommand words c → ReadsNothing c → ((operand : ℕ) (f : TextFault) → ¬ IsOperandFault c operand f)
@@ -70,9 +70,9 @@ pub fn done_or_not_fit()
     found_or_unfit();
 }
 
-/// Over a source that tells what it has left, `check` has exactly one right answer: Done with the verdicts of an
-/// accepted input, Refused with the reason of one that isn't, and TooLong if there is more than is judged. Over
-/// any source no other status is right.
+/// Law: over a source that tells its bytes, `check` has exactly one right answer: Done with the verdicts of an
+/// accepted input, Refused with the reason for another one, and TooLong if there are more bytes than the judge
+/// accepts. Over any source no other status is right.
 pub fn check_exactly()
     ensures done { (words : List (List ℕ)) (left : List ℕ) (v : Verdicts) (s : Status) (out : List ℕ)
         → IsCommand words check_command → length left ≤ most_input → IsAccepted left v
@@ -88,9 +88,9 @@ pub fn check_exactly()
         → (s ≡ Status.Done) ⊎ ((s ≡ Status.Refused) ⊎ (s ≡ Status.TooLong)) }
 {}
 
-/// What is written for a command that asks for a certificate of a rule, with weights or without, `check`
-/// accepts: over a source that tells exactly these bytes, Done is right with the lines of true verdicts on
-/// that rule and these weights, and nothing else is.
+/// Law: `check` accepts the certificate that the program writes for a rule, with or without weights. Over a source
+/// that tells exactly these bytes, only Done is right, with the lines of true verdicts about that rule and these
+/// weights.
 pub fn certified_is_accepted()
     ensures { (input : Option (List ℕ)) (c : Command) (version : CertVersion) (r : LocalRule) (weights : Option (List ℕ)) (out : List ℕ)
         → IsAsked c (Question.Certify version r weights) → IsReplyOf input c Status.Done out
@@ -99,7 +99,7 @@ pub fn certified_is_accepted()
         ↔ ((s ≡ Status.Done) × (lines ≡ accepted_lines v))) }
 {}
 
-/// What is right for words can be written: its letters have a digit each, and an automaton has its rows.
+/// Law: right replies to words can be written: each letter has a digit, and an automaton has all its rows.
 pub fn right_replies_are_writable()
     ensures { (words : List (List ℕ)) (input : Option (List ℕ)) (reply : Reply) → IsReplyTo words input reply → IsWritableReply reply }
 {

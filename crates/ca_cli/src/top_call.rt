@@ -13,13 +13,12 @@ use crate::status::Status;
 use ca_io::{Failed, InputFault, Sink, Source, write_all};
 use std::alloc::Global;
 
-/// Carries out the command that the words are, and writes its output to the sink. `words` are those
-/// of the command line without the program's name. Only `check` reads from the source: to its end, or
-/// one byte more than is judged.
+/// Carries out the command in `words` and writes its output to the sink. `words` are those of the command line
+/// without the program's name. Only `check` reads from the source: to its end, or one byte more than the judge
+/// accepts.
 ///
-/// `ReadFault` comes where a read failed, before the first write; `WriteFault` where a write of the
-/// output failed, in place of the status to which the output belongs; `Memory` where memory was
-/// refused, before the first write.
+/// Returns `ReadFault` if a read fails, before the first write; `WriteFault` if a write of the output fails, instead
+/// of the status of this output; and `Memory` if there is no memory, before the first write.
 pub fn run<S: Source, T: Sink>(
     alloc: Global,
     words: &[String],

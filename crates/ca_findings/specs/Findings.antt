@@ -1,4 +1,4 @@
--- What is found, in values, and when it is right for a question; why nothing fits a question.
+-- Findings as values, which of them are right for a question, and the causes why nothing fits.
 use Rattle.std.specs.Prelude.{◌≡◌, ◌≢◌, ℕ, ◌^◌, ◌<◌, ◌≤◌, List, length, slice_index, Bool, Option, Some, None, ℤ, ⊤}
 use Rattle.word_image.specs.LocalRules.{LocalRule, IsRule, mirrored}
 use Rattle.word_image.specs.Words.{IsSurjective}
@@ -28,7 +28,7 @@ use Rattle.ca_findings.specs.Questions.{Question}
 use Rattle.rule_text.specs.PrintedRules.{number_found}
 use Rattle.ca_findings.specs.Counts.{Counts, AreCounts, AreLeastRules}
 
--- what is found
+-- a finding
 pub data Finding : Type 0 where
   Report : (evidence : Evidence) → Finding
   Written : (certificate : Certificate) → Finding
@@ -44,7 +44,7 @@ pub data Finding : Type 0 where
   Summary : (counts : Counts) → Finding
   Classes : (counts : Counts) (classes : ℕ) → Finding
 
--- why nothing fits
+-- a cause why nothing fits
 pub data Unfit : Type 0 where
   Twins : (x y : List ℕ) → Unfit
   Wide : (n : ℕ) → Unfit
@@ -57,29 +57,29 @@ pub data Unfit : Type 0 where
 
 -- Weights
 
--- what each letter weighs, by the weights that are named or by its own value
+-- the weight of each letter: the named one, or its own value if no weights are named
 abbrev pub weight_by : Option (List ℕ) → ℕ → ℕ
 weight_by None = λ a. a
 weight_by (Some weights) = slice_index weights
 
--- the weights of the letters of a rule
+-- the weights of all letters of a rule
 abbrev pub weights_by : Option (List ℕ) → LocalRule → List ℕ
 weights_by None r = own_weights r.states
 weights_by (Some weights) r = weights
 
--- where weights are named there is one for each letter
+-- if weights are named, there is one for each letter
 abbrev pub AreFor : Option (List ℕ) → LocalRule → Type 0
 AreFor None r = ⊤
 AreFor (Some weights) r = length weights ≡ r.states
 
 -- What is right
 
--- the map is this rule, or it breaks a limit of rules
+-- the map is this rule, or no rule because it breaks a limit of rules
 abbrev pub IsMapRule : WindowMap → Option LocalRule → Type 0
 IsMapRule g None = ¬ IsRule (map_rule g)
 IsMapRule g (Some r) = IsRule (map_rule g) × (r ≡ map_rule g)
 
--- the rule is injective, and this is its inverse over the least determined window
+-- the rule is injective, and this is its inverse map over the least determined window
 pub record IsInverseFound (r : LocalRule) (n c : ℕ) (g : WindowMap) (rule : Option LocalRule) : Type 0 where
   pub injective : IsInjective r
   pub least : IsLeastDetermined r n c
@@ -88,12 +88,12 @@ pub record IsInverseFound (r : LocalRule) (n c : ℕ) (g : WindowMap) (rule : Op
   pub gives_back : GivesBack r n c g
   pub as_rule : IsMapRule g rule
 
--- the two rules have the same orphans, or this is the first word that is an orphan of one alone
+-- the two rules have the same orphans, or this is the least word that is an orphan of only one of them
 abbrev pub IsSameFound : LocalRule → LocalRule → Option (List ℕ) → Type 0
 IsSameFound r s None = HaveSameOrphans r s
 IsSameFound r s (Some w) = Separates r s w
 
--- the rule is surjective, and no pair is erasable; or this is the least erasable pair
+-- the rule is surjective and has no erasable pair, or this is the least erasable pair
 abbrev pub IsErasedFound : LocalRule → Option (List ℕ × List ℕ) → Type 0
 IsErasedFound r None = IsSurjective r × ((x y : List ℕ) → ¬ IsErasable r x y)
 IsErasedFound r (Some pair) = ¬ IsSurjective r × IsLeastErasable r pair.0 pair.1
@@ -129,7 +129,7 @@ pub data IsFinding : Question → Finding → Type 0 where
   Classes : (rules leasts : List LocalRule) (counts : Counts) → AreCounts rules counts → AreLeastRules rules leasts
       → IsFinding (Question.Classes rules) (Finding.Classes counts (length leasts))
 
--- nothing fits the question, for this cause
+-- nothing fits the question, because of this cause
 pub data IsUnfitFor : Question → Unfit → Type 0 where
   Report : (r : LocalRule) (weights : List ℕ) → length weights ≢ r.states → IsUnfitFor (Question.Report r (Some weights)) Unfit.Weights
   Written : (v : CertVersion) (r : LocalRule) (weights : List ℕ) → length weights ≢ r.states → IsUnfitFor (Question.Certify v r (Some weights)) Unfit.Weights

@@ -1,4 +1,4 @@
--- Which question a value of the code is, and what its parts must have in common.
+-- The question that a value of the code stands for, and the conditions on its parts.
 use Rattle.std.specs.Prelude.{◌≡◌, ◌≤◌, None, true, pos, ⊤}
 use Rattle.word_image.specs.LocalRules.{IsShape}
 use Rattle.cert_values.specs.Versions.{names_weights}
@@ -10,7 +10,7 @@ use Rattle.ca_findings.specs.declared.question.Drawn.{Drawn}
 use Rattle.ca_findings.specs.Questions.{Question}
 use Rattle.ca_findings.specs.Samples.{survey_rules, sample_rules}
 
--- the question that a value is
+-- the question that a value stands for
 abbrev pub question_of : code.Question → Question
 question_of (asked.Report r weights) = Question.Report r weights
 question_of (asked.Certify v r weights) = Question.Certify v r weights
@@ -34,18 +34,18 @@ question_of (asked.Survey n) = Question.Summary (survey_rules n.states n.width n
 question_of (asked.Sample d) = Question.Summary (sample_rules d.states d.width d.seed d.count)
 question_of (asked.Classes n) = Question.Classes (survey_rules n.states n.width n.first n.count)
 
--- each of these numbers has a rule, and they are neither none nor too many
+-- each of these numbers has a rule, and there are from 1 to 4,096
 pub record AreNumbered (n : Numbered) : Type 0 where
   pub accepted : numbers_fault n.states n.width n.first n.count ≡ None
   pub some : 1 ≤ n.count
   pub few : n.count ≤ 4096
 
--- there are rules of this shape, and these aren't too many
+-- there are rules of this shape, and at most 4,096 are drawn
 pub record AreDrawn (d : Drawn) : Type 0 where
   pub shape : IsShape d.states d.width (pos 0)
   pub few : d.count ≤ 4096
 
--- the parts of a question belong together
+-- the parts of a question fit together
 abbrev pub IsWhole : code.Question → Type 0
 IsWhole (asked.Certify v r weights) = names_weights v ≡ true
 IsWhole (asked.Preimage r t) = r.states ≡ t.states

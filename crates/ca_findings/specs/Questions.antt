@@ -1,10 +1,10 @@
--- What is asked, in values: rules, weights, numbers and configurations, and no text.
+-- Questions as values: rules, weights, numbers and configurations, without texts.
 use Rattle.std.specs.Prelude.{ℕ, List, Option, ℤ, All}
 use Rattle.word_image.specs.LocalRules.{LocalRule, IsRule}
 use Rattle.tail_config.specs.Tails.{TailConfig}
 use Rattle.cert_values.specs.declared.cert_version.CertVersion.{CertVersion}
 
--- a question; where weights are none, each letter weighs its own value
+-- a question; if it has no weights, each letter weighs its own value
 pub data Question : Type 0 where
   Report : (r : LocalRule) (weights : Option (List ℕ)) → Question
   Certify : (version : CertVersion) (r : LocalRule) (weights : Option (List ℕ)) → Question
@@ -27,7 +27,7 @@ pub data Question : Type 0 where
   Summary : (rules : List LocalRule) → Question
   Classes : (rules : List LocalRule) → Question
 
--- the rules of a question are accepted ones
+-- the rules of a question are accepted
 abbrev pub AreRules : Question → Type 0
 AreRules (Report r weights) = IsRule r
 AreRules (Certify version r weights) = IsRule r

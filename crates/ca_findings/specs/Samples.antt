@@ -1,4 +1,4 @@
--- The rules of `survey` and of `sample`: those with consecutive numbers, and those that a linear congruential generator draws (Knuth 1969).
+-- The rules of `survey` have consecutive numbers, and the rules of `sample` are drawn by a linear congruential generator (Knuth 1969).
 use Rattle.std.specs.Prelude.{ℕ, zero, suc, ◌+◌, ◌*◌, ◌/◌, ◌%◌, ◌^◌, List, [], ◌∷◌, map, pos, Option}
 use Rattle.std.specs.List.{range_with_len}
 use Rattle.std.specs.Option.{option_map}
@@ -8,7 +8,7 @@ use Rattle.rule_text.specs.RuleTexts.{in_text}
 use Rattle.rule_text.specs.declared.text_fault.TextFault.{TextFault}
 use Rattle.rule_verdicts.specs.Numbers.{numbered_rule}
 
--- the rules with count numbers, from this one on
+-- the rules with `count` consecutive numbers, starting at `from`
 abbrev pub survey_rules : ℕ → ℕ → ℕ → ℕ → List LocalRule
 survey_rules k m from count = map (numbered_rule k m) (range_with_len from count)
 
@@ -21,19 +21,19 @@ unfoldable pub state_after : ℕ → ℕ → ℕ
 state_after s zero = s
 state_after s (suc n) = next_state (state_after s n)
 
--- the letter below k that draw i gives from a state on, the first draw being 0
+-- the letter below k of draw i, starting at this state and counting from 0
 unfoldable pub drawn : ℕ → ℕ → ℕ → ℕ
 drawn k s i = (state_after s (i + 1) / 2 ^ 33) % k
 
--- the rule of k states, width m and offset 0 whose letters the next k ^ m draws give, by the value of their window
+-- the rule of k states, width m and offset 0 whose table has the letters of the next k ^ m draws
 abbrev pub drawn_rule : ℕ → ℕ → ℕ → LocalRule
 drawn_rule k m s = record { states = k; width = m; offset = pos 0; table = map (drawn k s) (range_with_len 0 (k ^ m)) }
 
--- the first rules from a state on: each goes on from the state that the one before it left
+-- the first rules that are drawn, starting at this state: each begins with the state after the one before it
 unfoldable pub sample_rules : ℕ → ℕ → ℕ → ℕ → List LocalRule
 sample_rules k m s zero = []
 sample_rules k m s (suc count) = drawn_rule k m s ∷ sample_rules k m (state_after s (k ^ m)) count
 
--- the first fault of the shape of a sample
+-- the first fault of the shape of a sample, if there is one
 abbrev pub sample_fault : ℕ → ℕ → Option TextFault
 sample_fault k m = option_map (in_text 0) (shape_fault k m (pos 0))

@@ -1,4 +1,4 @@
--- What can be written: each letter has a digit, and an automaton has its rows.
+-- Values that can be written: each letter has a digit, and an automaton has all its rows.
 use Rattle.std.specs.Prelude.{◌≡◌, ◌*◌, ◌≤◌, ℕ, List, Option, length, IfSome, ⊤}
 use Rattle.word_image.specs.LocalRules.{IsWord}
 use Rattle.tail_config.specs.Tails.{TailConfig}
@@ -7,7 +7,7 @@ use Rattle.cert_values.specs.Evidence.{InjectiveEvidence, SumEvidence, Window, T
 use Rattle.ca_findings.specs.Findings.{Finding, Unfit}
 use Rattle.ca_findings.specs.Replies.{Reply}
 
--- the letters of a word, where there is one, have digits
+-- the letters of a word, if there is one, have digits
 abbrev pub HasDigits : Option (List ℕ) → Type 0
 HasDigits word = IfSome word (IsWord 16)
 
@@ -29,7 +29,7 @@ HasRingDigits (Ring p) = IsWord 16 p
 abbrev pub HasTailDigits : TailConfig → Type 0
 HasTailDigits t = IsWord 16 t.left × IsWord 16 t.middle × IsWord 16 t.right
 
--- there is a class for each class and letter, of which there are at most 16
+-- there is a following class for each class and each letter, and there are at most 16 letters
 pub record HasRows (m : Automaton) : Type 0 where
   pub some : 1 ≤ m.states
   pub most : m.states ≤ 16

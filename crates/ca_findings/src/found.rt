@@ -1,4 +1,4 @@
-//! What is found, and why nothing fits.
+//! The findings for questions, and the causes why nothing fits.
 use cert_conditions::Report;
 use cert_values::Cert;
 use inverse_table::InverseMap;
@@ -10,36 +10,36 @@ use tail_config::TailFault;
 use tail_preimage::Pre;
 use word_image::{Rule, Word};
 
-/// What is found.
+/// The finding for a question.
 #[derive(Drop)]
 pub enum Found {
     /// The verdicts of a rule, each with the least evidence.
     Report(Report),
     /// The certificate of a rule.
     Written(Cert),
-    /// The least orphan; none where the rule is surjective.
+    /// The least orphan, or None if the rule is surjective.
     Orphan(Option<Word>),
-    /// The Wolfram number, of a rule of at most six states.
+    /// The Wolfram number, or None if the rule has 7 states or more.
     Number(Option<u128>),
     /// The rule that was made.
     Rule(Rule),
     /// The inverse of a rule.
     Inverse(Inverse),
-    /// The least automaton of the words that are images.
+    /// The least automaton of the words that have a preimage.
     Language(Automaton),
-    /// The first word that is an orphan of exactly one of two rules.
+    /// The least word that is an orphan of exactly one of two rules, or None if there is none.
     Same(Option<Word>),
-    /// The least erasable pair.
+    /// The least erasable pair, or None if the rule is surjective.
     Erased(Option<Pair>),
-    /// What maps to a configuration, or why nothing does.
+    /// A preimage of a configuration, or the reason why there is none.
     Preimage(Pre),
     /// How many of some rules have each property.
     Summary(Counts),
-    /// The same, and how many classes they have.
+    /// The same, and the number of their classes.
     Classes(Counts, usize),
 }
 
-/// An inverse map over the window (n, c), and the map as a rule where it is one.
+/// An inverse map over the window (n, c), and the map as a rule, if it keeps the limits of rules.
 #[derive(Drop)]
 pub struct Inverse {
     pub n: u16,
@@ -48,7 +48,7 @@ pub struct Inverse {
     pub rule: Option<Rule>,
 }
 
-/// Classes by number: the class after class i on letter a stands at i k + a.
+/// An automaton whose classes are numbers. The class that follows class i on letter a is at place i k + a.
 #[derive(Drop)]
 pub struct Automaton {
     pub states: u8,
@@ -76,20 +76,20 @@ pub struct Counts {
     pub conserving: u16,
 }
 
-/// Why nothing fits.
+/// The cause why nothing fits a question.
 #[derive(Drop)]
 pub enum Cause {
     /// The rule has these twins, and so no inverse.
     Twins(Pair),
-    /// Its inverse reads so many letters, which are too many.
+    /// Its inverse reads this many letters, which are too many.
     Wide(u16),
-    /// It has too many states for a search over the names of its letters.
+    /// It has too many states to search through all names of its letters.
     Colours,
     /// It has no lift.
     Lift(LiftFault),
-    /// No rule is made.
+    /// No rule can be made.
     Algebra(AlgebraFault),
-    /// The parts make no configuration.
+    /// The parts don't form a configuration.
     Tail(TailFault),
     /// There isn't one weight for each letter.
     Weights,
@@ -97,14 +97,14 @@ pub enum Cause {
     States,
 }
 
-/// Why nothing is found for the words of a command line, or for a question.
+/// Why nothing was found, for words or for a question.
 #[derive(Drop)]
 pub enum Stop {
     /// The words are no command.
     Usage,
-    /// The operand with this number, starting at 1, is refused for this fault.
+    /// The operand with this number, starting at 1, is refused because of this fault.
     RuleFault(u8, TextFault),
-    /// Nothing fits the question, for this cause.
+    /// Nothing fits the question, because of this cause.
     Unfit(Cause),
     /// There was no memory.
     Memory(AllocError),

@@ -1,24 +1,24 @@
-//! What is asked of rules, what is found, and why nothing fits: values, and no text.
+//! Questions about rules, their findings, and the causes why nothing fits. All are values, without texts.
 //!
-//! A question names its rules, and beside them weights, numbers, letters or a configuration. A *finding* is a
-//! value that may answer it: verdicts with their evidence, a certificate, a rule, an automaton, a word or none,
-//! counts. A question doesn't *fit* where it can have no finding, for a cause. The question for the inverse of
-//! rule 170 has the map 0 1 over the window (1, 2); that for the inverse of rule 90 doesn't fit, since the rings
-//! 0 and 1 have one image, and the cause is these twins.
+//! A question names its rules and, if needed, weights, numbers, letters or a configuration. A *finding* is a value
+//! that answers it: for example verdicts with their evidence, a certificate, a rule, an automaton, a word, or counts.
+//! If a question can have no finding, nothing *fits* it, and there is a cause. The question for the inverse of rule
+//! 170 has a finding: the map 0 1 over the window (1, 2). Nothing fits the question for the inverse of rule 90. The
+//! cause is the twins 0 and 1, whose rings have the same image.
 //!
-//! `IsFinding` of specs/Findings.antt says which finding is right for which question, and `IsUnfitFor` which
-//! cause; nothing else says it. [`found_or_unfit`] is their law. A function that answers a question has the
-//! contract `Answers` of specs/Values.antt, and what is written of a finding is made of the value alone.
+//! Only two definitions of specs/Findings.antt say which finding is right for which question, `IsFinding`, and which
+//! cause, `IsUnfitFor`. [`found_or_unfit`] is a law about them. The contract of a function that answers a question is
+//! `Answers` of specs/Values.antt. Texts of findings only depend on these values.
 //!
-//! A *reply* is all that can be said to the words of a command line: a finding, a cause, the fault of an operand, what is
-//! said of a judged input, or that they are no command. Text and JSON are forms of a reply.
+//! A *reply* to the words of a command line is a finding, a cause, the fault of an operand, the result of judging an
+//! input, or that the words are no command. Text and JSON are forms of a reply.
 //!
-//! [`Question`], [`Found`], [`Cause`] and [`Reply`] are these values in code. Each is a plain enum, and `question_of`,
-//! `finding_of`, `unfit_of` and `reply_of` say what it is seen as. [`Stop`] says why nothing is found, for words or for
-//! a question.
+//! [`Question`], [`Found`], [`Cause`] and [`Reply`] are these values in code, as plain enums. `question_of`,
+//! `finding_of`, `unfit_of` and `reply_of` map them to the values of the definitions. [`Stop`] says why nothing was
+//! found, for words or for a question.
 //!
-//! A text or JSON has a hexadecimal digit for each letter of a word, so only what has letters below 16 can be written.
-//! Each right finding about accepted rules has, which is the law [`right_findings_are_writable`].
+//! A text or JSON has a hexadecimal digit for each letter of a word, so letters must be below 16. The law
+//! [`right_findings_are_writable`] says that they are, in each right finding about accepted rules.
 #![tactic(auto)]
 
 mod found;
@@ -36,12 +36,12 @@ pub use question::{Drawn, Numbered, Question};
 pub use reply::Reply;
 pub use short_list::ShortList;
 
-/// No question has both a right finding and a cause for which nothing fits.
+/// Law: no question has both a right finding and a right cause why nothing fits.
 pub fn found_or_unfit()
     ensures { (q : questions.Question) (f : Finding) (u : Unfit) → IsFinding q f → ¬ IsUnfitFor q u }
 {}
 
-/// What is right for accepted rules can be written.
+/// Law: right findings and causes for accepted rules can be written.
 pub fn right_findings_are_writable()
     ensures found { (q : questions.Question) (f : Finding) → AreRules q → IsFinding q f → IsWritable f }
     ensures unfit { (q : questions.Question) (u : Unfit) → AreRules q → IsUnfitFor q u → IsWritableUnfit u }

@@ -1,4 +1,4 @@
-//! What is asked.
+//! Questions as values.
 ghost use Rattle.std.specs.Prelude.{◌≡◌, ◌≤◌, ◌^◌, ℕ, None, Some, IfOk, MatchOption, MatchResult};
 ghost use Rattle.rule_verdicts.specs.Numbers.{numbers_fault};
 ghost use Rattle.ca_findings.specs.QuestionValues.{AreDrawn, AreNumbered};
@@ -11,10 +11,10 @@ use rule_verdicts::fault_past_all;
 use tail_config::Tail;
 use word_image::Rule;
 
-/// A question. Where weights are none, each letter weighs its own value.
+/// A question. If it has no weights, each letter weighs its own value.
 #[derive(Drop)]
 pub enum Question {
-    /// Which verdicts hold of a rule, each with the least evidence.
+    /// The verdicts of a rule, each with the least evidence.
     Report(Rule, Option<ShortList>),
     /// The certificate of a rule.
     Certify(CertVersion, Rule, Option<ShortList>),
@@ -26,33 +26,33 @@ pub enum Question {
     Reflect(Rule),
     /// The rule without the cells that it ignores.
     Trim(Rule),
-    /// The rule that reads so many cells further to the right.
+    /// The rule whose window is this many cells further to the right.
     Shift(Rule, i8),
     /// The rule at this width.
     Widen(Rule, u8),
-    /// The rule in which each letter has the name that stands at its place.
+    /// The rule with new names for its letters: letter a gets the name at place a.
     Permute(Rule, ShortList),
-    /// The second rule after the first.
+    /// The composition of two rules: the second after the first.
     Compose(Rule, Rule),
     /// The rule of its class with the least Wolfram number.
     Least(Rule),
-    /// The second-order rule of pairs of its letters.
+    /// The second-order lift, whose letters are pairs of its letters.
     Lift(Rule),
-    /// The rule that undoes it.
+    /// The rule that undoes this lift.
     Unlift(Rule),
-    /// What gives the cells of a configuration back from its image.
+    /// The map that computes the cells of a configuration from its image.
     Inverse(Rule),
-    /// The least automaton of the words that are images.
+    /// The least automaton of the words that have a preimage.
     Language(Rule),
-    /// Whether the same words are images.
+    /// Whether both rules have the same orphans.
     Same(Rule, Rule),
     /// The least erasable pair.
     Erase(Rule),
-    /// What maps to a configuration over the rule's letters.
+    /// A preimage of a configuration over the rule's letters.
     Preimage(Rule, Tail),
     /// How many of the rules with these numbers have each property.
     Survey(Numbered),
-    /// How many of the rules that a seed stands for have each property.
+    /// How many of the rules that a seed determines have each property.
     Sample(Drawn),
     /// How many of the rules with these numbers have each property, and how many classes they have.
     Classes(Numbered),
@@ -68,8 +68,8 @@ pub struct Numbered {
 }
 
 impl Numbered {
-    /// Returns `count` numbers starting at `first`, or the first fault of the shape or of the last number. `None` stands
-    /// for the numbers from 2^128 on.
+    /// Returns `count` consecutive numbers, starting at `first`, or the first fault of the shape or of the last
+    /// number. None stands for the numbers of 2^128 or more.
     pub fn of(k: u8, m: u8, first: Option<u128>, count: u16) -> Result<Numbered, TextFault>
         requires some { 1 ≤ count }
         requires few { count ≤ 4096 }
@@ -94,7 +94,7 @@ impl Numbered {
     }
 }
 
-/// The first rules that a seed stands for, all of one shape, whose offset is 0.
+/// The first rules that a seed determines, all of one shape, whose offset is 0.
 #[derive(Clone, Copy, Debug)]
 pub struct Drawn {
     pub states: u8,
@@ -104,7 +104,7 @@ pub struct Drawn {
 }
 
 impl Drawn {
-    /// Returns the first `count` rules that the seed stands for, or the first fault of the shape.
+    /// Returns the first `count` rules that the seed determines, or the first fault of the shape.
     pub fn of(k: u8, m: u8, seed: u64, count: u16) -> Result<Drawn, TextFault>
         requires few { count ≤ 4096 }
         ensures accepted { IfOk result AreDrawn }

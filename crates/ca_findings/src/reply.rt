@@ -1,23 +1,23 @@
-//! All that can be said to words.
+//! Replies to words.
 use crate::found::{Cause, Found};
 use cert_conditions::{Refusal, Verdicts};
 use rule_text::TextFault;
 
-/// What is said to the words of a command line.
+/// The reply to the words of a command line.
 #[derive(Drop)]
 pub enum Reply {
-    /// What is found for the question that they ask.
+    /// The finding for their question.
     Found(Found),
-    /// Nothing fits the question, for this cause.
+    /// Nothing fits their question, because of this cause.
     NoFit(Cause),
-    /// The operand with this number, from 1 on, isn't the text of a rule, or the shape of many rules has this
-    /// fault and counts as operand 1.
+    /// The operand with this number, starting at 1, isn't the text of a rule. Or the shape of many rules has this
+    /// fault, which counts as one of operand 1.
     RuleFault(u8, TextFault),
-    /// The input is a certificate that is accepted, with these verdicts.
+    /// The input is an accepted certificate with these verdicts.
     Accepted(Verdicts),
-    /// The input was judged and refused, for this cause.
+    /// The judge refuses the input, for this reason.
     Refused(Refusal),
-    /// The input is longer than any that is judged.
+    /// The input is longer than the judge accepts.
     TooLong,
     /// The words are no command.
     Usage,

@@ -1,4 +1,4 @@
-//! Short lists, which take no memory.
+//! Short lists, which need no memory.
 ghost use Rattle.std.specs.Prelude.{◌≡◌, ◌<◌, ◌++◌, ◌∷◌, [], length};
 
 use std::marker::Model;
@@ -8,7 +8,7 @@ use word_image::MOST_STATES;
 #[derive(Drop)]
 pub struct ShortList {
     items: [u8; MOST_STATES],
-    // How many of the items count, at most all.
+    // The number of items that count.
     count: usize,
 }
 
@@ -33,7 +33,7 @@ impl ShortList {
         }
     }
 
-    /// Puts a number behind the others. There are at most 15 before.
+    /// Appends a number to a list of at most 15 numbers.
     pub fn push(&mut self, item: u8)
         requires { length self.old < 16 }
         ensures { self.new ≡ self.old ++ item ∷ [] }
@@ -42,7 +42,7 @@ impl ShortList {
         self.count += 1;
     }
 
-    /// Returns the numbers, the first one first.
+    /// Returns the numbers in their order.
     pub fn as_slice(&self) -> &[u8]
         ensures { result.now ≡ self.now }
     {

@@ -1,4 +1,4 @@
-//! What words ask: each operand is read once, when its form is tested.
+//! From words to the question that they ask: each operand is read once.
 ghost use Rattle.std.specs.Prelude.{◌≡◌, ◌≢◌, ◌∷◌, ◌↔◌, [], ℕ, IsTrue, List, length, map, string_bytes, MatchOption, MatchResult};
 ghost use Rattle.rule_text.specs.RuleTexts.{IsRuleText};
 ghost use Rattle.ca_words.specs.declared.names.Name.TheVariants as names;
@@ -42,7 +42,7 @@ pub fn question(alloc: Global, words: &[String]) -> Result<Question, Stop>
     }
 }
 
-/// Returns the question that the words behind a name ask.
+/// Returns the question that the words after a name ask.
 #[tactic(auto, using(crate::proofs::laws::Asking::asking))]
 fn behind(alloc: Global, name: Name, rest: &[String]) -> Result<Question, Stop>
     requires { name ≡ names.Check → rest.now ≢ [] }
@@ -104,7 +104,7 @@ fn one_rule(name: Name, rest: &[String]) -> Result<Rule, Stop>
     }
 }
 
-/// Reads two rules. A fault of the first comes first.
+/// Reads two rules, and returns the first fault.
 fn two_rules(name: Name, rest: &[String]) -> Result<(Rule, Rule), Stop>
     requires two { rule_count name ≡ 2 }
     requires none { form_of name ≡ Form.Nothing }
@@ -120,7 +120,7 @@ fn two_rules(name: Name, rest: &[String]) -> Result<(Rule, Rule), Stop>
     Ok((first, second))
 }
 
-/// Reads a rule, and the weights if a second word is left.
+/// Reads a rule, and weights if there is a second word.
 fn rule_and_weights(name: Name, rest: &[String]) -> Result<(Rule, Option<ShortList>), Stop>
     requires one { rule_count name ≡ 1 }
     requires weights { form_of name ≡ Form.Weights }
@@ -248,14 +248,14 @@ fn drawn(rest: &[String]) -> Result<Drawn, Stop>
     }
 }
 
-/// Reads the rule of which the operand with this number is a text.
+/// Reads the rule whose text is the operand with this number.
 fn rule_operand(number: u8, text: &[u8]) -> Result<Rule, Stop>
     ensures { MatchResult result (IsRuleText text.now) (IsRuleFault number text.now) }
 {
     rule_text::parse(text).map_err(|fault| Stop::RuleFault(number, fault))
 }
 
-/// Returns the word, if it is one.
+/// Returns the word if there is exactly one.
 fn one(words: &[String]) -> Option<&[u8]>
     ensures { MatchOption result (length words.now ≢ 1) (λ text. map string_bytes words.now ≡ text.now ∷ []) }
 {
@@ -265,7 +265,7 @@ fn one(words: &[String]) -> Option<&[u8]>
     }
 }
 
-/// Returns the words, if they are two.
+/// Returns the words if there are exactly two.
 fn two(words: &[String]) -> Option<(&[u8], &[u8])>
     ensures { MatchOption result (length words.now ≢ 2) (λ texts. map string_bytes words.now ≡ texts.0.now ∷ texts.1.now ∷ []) }
 {
@@ -275,7 +275,7 @@ fn two(words: &[String]) -> Option<(&[u8], &[u8])>
     }
 }
 
-/// Returns the words, if they are four.
+/// Returns the words if there are exactly four.
 fn four(words: &[String]) -> Option<(&[u8], &[u8], &[u8], &[u8])>
     ensures { MatchOption result (length words.now ≢ 4) (λ texts. map string_bytes words.now ≡ texts.0.now ∷ texts.1.now ∷ texts.2.now ∷ texts.3.now ∷ []) }
 {
