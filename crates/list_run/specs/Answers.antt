@@ -1,4 +1,4 @@
--- Which status and which output are right for the words of the command line.
+-- The status and the output that are right for the words of the command line.
 use Rattle.std.specs.Prelude.{◌≡◌, ℕ, List, [], ◌∷◌, codes}
 use Rattle.rule_text.specs.declared.text_fault.TextFault.{TextFault}
 use Rattle.rule_text.specs.declared.beginnings.Beginning.{Beginning}
@@ -23,7 +23,7 @@ name_of Conserving = codes "conserving"
 abbrev pub IsListing : List (List ℕ) → Property → List ℕ → Type 0
 IsListing words property text = words ≡ name_of property ∷ text ∷ []
 
--- the words are no listing, or their text is no beginning, or the output is the list
+-- the words aren't a property and a text, or their text isn't a beginning, or the output is the list
 pub data IsAnswer (words : List (List ℕ)) : Status → List ℕ → Type 0 where
   Usage : ((property : Property) (text : List ℕ) → ¬ IsListing words property text) → IsAnswer words status.Usage usage_line
   RuleFault : (property : Property) (text : List ℕ) (f : TextFault) → IsListing words property text → IsBeginningFault text f → IsAnswer words status.RuleFault (fault_line f)

@@ -1,4 +1,4 @@
--- The lines that the program writes.
+-- The lines of the output.
 use Rattle.std.specs.Prelude.{◌≡◌, ℕ, ◌-◌, ◌^◌, List, [], ◌∷◌, ◌++◌, length, min, codes}
 use Rattle.std.specs.Fmt.{decimal}
 use Rattle.word_image.specs.LocalRules.{LocalRule}
@@ -6,15 +6,15 @@ use Rattle.rule_text.specs.PrintedRules.{printed_rule}
 use Rattle.rule_text.specs.declared.text_fault.TextFault.{TextFault}
 use Rattle.rule_text.specs.FaultTexts.{fault_text}
 
--- a text, and the byte that ends a line
+-- a text and the byte at the end of a line
 abbrev pub line : List ℕ → List ℕ
 line text = text ++ 10 ∷ []
 
--- the words are no listing
+-- the words aren't a property and a text
 abbrev pub usage_line : List ℕ
 usage_line = line (codes "usage error")
 
--- the beginning, the one operand that is a text of a rule, has this fault
+-- the beginning, which is the only operand, has this fault
 abbrev pub fault_line : TextFault → List ℕ
 fault_line f = line (codes "rule fault 1 " ++ fault_text f)
 
@@ -26,20 +26,20 @@ with_table shape table = record { states = shape.states; width = shape.width; of
 abbrev pub rule_line : LocalRule → LocalRule → List ℕ
 rule_line shape r = line (printed_rule (with_table shape r.table))
 
--- the lines of all, one after another
+-- the lines of all rules
 abbrev pub rule_lines : LocalRule → List LocalRule → List ℕ
 rule_lines shape [] = []
 rule_lines shape (r ∷ rs) = rule_line shape r ++ rule_lines shape rs
 
--- the line that says how many rules are listed
+-- the line with the number of rules
 abbrev pub count_line : ℕ → List ℕ
 count_line count = line (codes "rules " ++ decimal count)
 
--- the last line of a list: how many rules there are; the count stops at 2^64 - 1
+-- the last line of a list, with the number of rules; the count stops at 2^64 - 1
 abbrev pub last_line : List LocalRule → List ℕ
 last_line rules = count_line (min (length rules) (2 ^ 64 - 1))
 
--- the line of a rule of this shape, whatever its letters
+-- the line of any rule of this shape
 pub record IsLineOf (shape : LocalRule) (bytes : List ℕ) : Type 0 where
   pub table : List ℕ
   pub long : length table ≡ shape.states ^ shape.width

@@ -11,7 +11,7 @@ code_of RuleFault = 3
 code_of WriteFault = 7
 code_of Memory = 8
 
--- the status says what came of the words, and not what failed on the way
+-- the status belongs to an answer, and isn't a failure on the way
 abbrev pub IsAnswered : Status → Type 0
 IsAnswered Done = ⊤
 IsAnswered Usage = ⊤

@@ -1,8 +1,8 @@
-//! Why a list was cut off.
+//! Why a list wasn't written to its end.
 use ca_io::Failed;
 use std::alloc::AllocError;
 
-/// Why a list was not written whole.
+/// Why a list wasn't written to its end.
 #[derive(Clone, Copy, Debug, PartialEq, Eq)]
 pub enum Cut {
     /// A write failed.

@@ -9,7 +9,7 @@ use rule_text::{TextFault, fault_kind, print};
 use std::alloc::{AllocError, Global};
 use word_image::{Rule, digit};
 
-/// The line that says which fault a beginning has.
+/// Returns the line with the fault of a beginning.
 pub fn fault_line(alloc: Global, fault: TextFault) -> Result<String, AllocError>
     ensures { IfOk result (λ text. string_bytes text ≡ fault_line fault) }
 {
@@ -17,7 +17,7 @@ pub fn fault_line(alloc: Global, fault: TextFault) -> Result<String, AllocError>
     format!(in alloc; "rule fault 1 {kind}\n")
 }
 
-/// The line of a rule.
+/// Returns the line of a rule.
 pub fn first_line(alloc: Global, rule: &Rule) -> Result<Vec<u8>, AllocError>
     requires { IsRule rule.now }
     ensures { IfOk result (λ line. IsLineOf rule.now line.items) }
@@ -27,14 +27,14 @@ pub fn first_line(alloc: Global, rule: &Rule) -> Result<Vec<u8>, AllocError>
     Ok(line)
 }
 
-/// The line that says how many rules there are.
+/// Returns the line with the number of rules.
 pub fn last_line(alloc: Global, count: u64) -> Result<String, AllocError>
     ensures { IfOk result (λ text. string_bytes text ≡ count_line count) }
 {
     format!(in alloc; "rules {count}\n")
 }
 
-/// Makes a line that of a rule, at the offset of the rule with its shape. It takes no memory.
+/// Changes a line into the line of a rule, at the offset of the rule with its shape. Needs no memory.
 pub fn set_table(line: &mut [u8], shape: &Rule, rule: &Rule)
     requires line { IsLineOf shape.now line.old }
     requires states { rule.now.states ≡ shape.now.states }

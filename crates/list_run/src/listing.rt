@@ -1,4 +1,4 @@
-//! The list, written as it is found.
+//! Writes the list while it is found.
 ghost use Rattle.std.specs.Prelude.{◌≡◌, ◌≢◌, ◌⊎◌, ℕ, ◌^◌, ◌<◌, ◌≤◌, List, ◌++◌, length, take, is_some, IfOk, OnOk, OnErr, Err};
 ghost use Rattle.std.specs.Io.KnownBytes.{Appends};
 ghost use Rattle.word_image.specs.LocalRules.{IsRule};
@@ -15,7 +15,7 @@ use rule_text::Beginning;
 use std::alloc::{AllocError, Global};
 use word_image::MOST_ENTRIES;
 
-/// Writes the list of a beginning. Nothing is written before there is memory for a line of it.
+/// Writes the list of a beginning. It allocates the memory for a line of it before it writes anything.
 pub fn write_list<T: Sink>(
     alloc: Global,
     property: Property,
@@ -42,7 +42,7 @@ pub fn write_list<T: Sink>(
     Ok(())
 }
 
-/// Writes a line for each rule of the list, and answers how many there are; the count stops at 2^64 - 1.
+/// Writes a line for each rule of the list, and returns the number of rules; the count stops at 2^64 - 1.
 fn write_rules<T: Sink>(
     property: Property,
     beginning: &Beginning,
@@ -77,7 +77,7 @@ fn write_rules<T: Sink>(
     Ok(count)
 }
 
-/// The letters that a beginning gives, and no letter elsewhere.
+/// Returns the letters of a beginning, and no letter elsewhere.
 fn given_letters(beginning: &Beginning) -> Letters
     ensures letters { AreGiven beginning.now result }
     ensures rule { IsRule beginning.now.rule }

@@ -2,14 +2,14 @@
 ghost use Rattle.std.specs.Prelude.{◌≡◌};
 ghost use Rattle.list_run.specs.Statuses.{code_of};
 
-/// How the program ended.
+/// The status with which the program ends.
 #[derive(Clone, Copy, Debug, PartialEq, Eq)]
 pub enum Status {
-    /// The list was taken whole.
+    /// The list was written to its end.
     Done,
-    /// The words are no property and one text.
+    /// The words aren't a property and a text.
     Usage,
-    /// The text is no beginning of a table text that is accepted.
+    /// The text isn't an accepted beginning of a table text.
     RuleFault,
     /// A write of the output failed.
     WriteFault,
@@ -18,7 +18,7 @@ pub enum Status {
 }
 
 impl Status {
-    /// The exit status of the program.
+    /// Returns the exit status of the program.
     pub fn code(&self) -> u8
         ensures { result ≡ code_of self.now }
     {

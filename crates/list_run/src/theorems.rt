@@ -1,4 +1,4 @@
-//! That what is printed has the property. The function here does nothing: it carries a law by its contract.
+//! A law about the printed rules.
 ghost use Rattle.std.specs.Prelude.{◌≡◌, ◌^◌, List, ℕ};
 ghost use Rattle.word_image.specs.LocalRules.{LocalRule, IsRule};
 ghost use Rattle.rule_lists.specs.Listed.{IsListed};
@@ -7,8 +7,8 @@ ghost use Rattle.rule_lists.specs.Tables.{HasLetters};
 ghost use Rattle.rule_lists.specs.declared.properties.Property.{Property};
 ghost use Rattle.list_run.specs.Lines.{with_table};
 
-/// A listed rule has offset 0, and its line has the offset of the beginning: the rule of the line has the property, and each
-/// rule of that offset that has it and the letters is that of a line.
+/// Law: a listed rule has offset 0, and its line has the offset of the beginning. The rule of the line has the
+/// property, and each rule of that offset with the property and the given letters has a line.
 pub fn printed_rules_have_the_property()
     ensures printed { (property : Property) (shape r : LocalRule) (letters : List ℕ) → IsRule shape → IsListed property shape.states shape.width letters r
         → IsRule (with_table shape r.table) × Has property (with_table shape r.table) }

@@ -15,8 +15,8 @@ use rule_lists::Property;
 use rule_text::parse_beginning;
 use std::alloc::{AllocError, Global};
 
-/// Writes the list that the words ask for: a property, and the beginning of a table text. `words` are
-/// those of the command line without the program's name.
+/// Writes the list that the words ask for: a property, and the beginning of a table text. `words` are those of the
+/// command line without the program's name.
 pub fn run<T: Sink>(alloc: Global, words: &[String], sink: &mut T) -> Status
     // Every status but WriteFault and Memory is right for the words. The sink took exactly an output that
     // is right with it, where it tells its bytes.
@@ -44,7 +44,7 @@ pub fn run<T: Sink>(alloc: Global, words: &[String], sink: &mut T) -> Status
     }
 }
 
-/// Writes what is right for the words, and answers with the status that belongs to it.
+/// Writes what is right for the words, and returns its status.
 fn answer<T: Sink>(alloc: Global, words: &[String], sink: &mut T) -> Result<Status, Cut>
     ensures answered { IfOk result IsAnswered }
     ensures whole { IfOk result (λ status. (out : List ℕ) × IsAnswer (map string_bytes words.now) status out
@@ -77,7 +77,7 @@ fn answer<T: Sink>(alloc: Global, words: &[String], sink: &mut T) -> Result<Stat
     }
 }
 
-/// The property and the text that the words are, if they are a listing.
+/// Returns the property and the text, if the words are these two.
 fn asked(words: &[String]) -> Option<(Property, &[u8])>
     ensures { MatchOption result
         ((property : Property) (text : List ℕ) → ¬ IsListing (map string_bytes words.now) property text)
@@ -89,7 +89,7 @@ fn asked(words: &[String]) -> Option<(Property, &[u8])>
     }
 }
 
-/// The property with this name.
+/// Returns the property with this name.
 fn named(name: &str) -> Option<Property>
     ensures { MatchOption result
         ((property : Property) → ¬ (name_of property ≡ name.now))

@@ -1,4 +1,4 @@
--- What fixed letters bar, whatever the other letters are.
+-- Properties that fixed letters rule out, whatever the other letters are.
 use Rattle.std.specs.Prelude.{ℕ, List}
 use Rattle.word_image.specs.LocalRules.{LocalRule}
 use Rattle.word_image.specs.declared.side.Side.{Side}
@@ -7,10 +7,10 @@ use Rattle.rule_lists.specs.Properties.{Has}
 use Rattle.rule_lists.specs.Completions.{IsCompletion}
 use Rattle.rule_lists.specs.declared.properties.Property.{Property}
 
--- no rule that has the fixed letters has the property
+-- no rule with the fixed letters has the property
 abbrev pub Bars : Property → ℕ → ℕ → List ℕ → Type 0
 Bars property k m letters = (s : LocalRule) → IsCompletion k m letters s → ¬ Has property s
 
--- no rule that has the fixed letters closes on this side
+-- no rule with the fixed letters closes on this side
 abbrev pub BarsClosing : Side → ℕ → ℕ → List ℕ → Type 0
 BarsClosing side k m letters = (s : LocalRule) → IsCompletion k m letters s → ¬ IsClosing side s

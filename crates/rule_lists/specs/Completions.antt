@@ -1,16 +1,16 @@
--- Tables of which only some letters are fixed, and the rules that have these letters.
+-- Tables with some fixed letters, and the rules that have these letters.
 use Rattle.std.specs.Prelude.{◌≡◌, ℕ, ◌^◌, List}
 use Rattle.word_image.specs.LocalRules.{LocalRule, IsRule}
 use Rattle.word_image.specs.Words.{IsSurjective}
 use Rattle.rule_lists.specs.Tables.{HasLetters}
 
--- a rule of this many states and this width that has each fixed letter
+-- a rule with this number of states and this width that has each fixed letter
 pub record IsCompletion (k m : ℕ) (letters : List ℕ) (s : LocalRule) : Type 0 where
   pub rule : IsRule s
   pub states : s.states ≡ k
   pub width : s.width ≡ m
   pub fixed : HasLetters k (k ^ m) letters s.table
 
--- no rule that has the fixed letters is surjective
+-- no rule with the fixed letters is surjective
 abbrev pub IsLost : ℕ → ℕ → List ℕ → Type 0
 IsLost k m letters = (s : LocalRule) → IsCompletion k m letters s → ¬ IsSurjective s

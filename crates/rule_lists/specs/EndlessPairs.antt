@@ -1,4 +1,4 @@
--- Pairs of nodes that go on, or come from far, by fixed letters alone.
+-- Pairs of nodes from which, or to which, fixed letters lead on for ever.
 use Rattle.std.specs.Prelude.{◌≡◌, ◌≢◌, ℕ, ◌^◌, ◌<◌, ◌⊎◌, List, slice_index}
 use Rattle.word_image.specs.LocalRules.{LocalRule, node_count}
 use Rattle.word_image.specs.Ends.{window_with}
@@ -7,7 +7,7 @@ use Rattle.word_image.specs.declared.side.Side.{Side}
 use Rattle.pair_laws.specs.FirstWindows.{with_end, end_pair}
 use Rattle.word_image.specs.declared.side.Side.TheVariants.{Right, Left}
 
--- two letters lead from one pair to another, along two windows with one fixed letter; the rule gives the shape alone
+-- two letters lead from one pair to another, along two windows with equal fixed letters; only the shape of the rule matters
 pub record IsFixedStep (r : LocalRule) (letters : List ℕ) (p q : ℕ) : Type 0 where
   pub a : ℕ
   pub b : ℕ
@@ -18,7 +18,7 @@ pub record IsFixedStep (r : LocalRule) (letters : List ℕ) (p q : ℕ) : Type 0
   pub one : slice_index letters (window_with Right r (first_of r p) a) ≡ slice_index letters (window_with Right r (second_of r p) b)
   pub to : pair_of r (next r (first_of r p) a) (next r (second_of r p) b) ≡ q
 
--- the step goes on to the right, or back to the left
+-- a step forward on the right, or backward on the left
 abbrev pub FixedLeadsOn : Side → LocalRule → List ℕ → ℕ → ℕ → Type 0
 FixedLeadsOn Right r letters p q = IsFixedStep r letters p q
 FixedLeadsOn Left r letters p q = IsFixedStep r letters q p
@@ -27,7 +27,7 @@ FixedLeadsOn Left r letters p q = IsFixedStep r letters q p
 abbrev pub AreEndlessOn : Side → LocalRule → List ℕ → (ℕ → Type 0) → Type 0
 AreEndlessOn side r letters Set = (p : ℕ) → Set p → (p < pair_count r) × ((first_of r p ≡ second_of r p) ⊎ ((q : ℕ) × FixedLeadsOn side r letters p q × Set q))
 
--- two windows that differ in the letter at their end have one fixed letter, and their ends are a pair of the set
+-- two windows that differ in the letter at their end have equal fixed letters, and their ends are a pair of the set
 pub record IsFixedEndless (side : Side) (r : LocalRule) (letters : List ℕ) (Set : ℕ → Type 0) (w a : ℕ) : Type 0 where
   pub window : w < r.states ^ r.width
   pub letter : a < r.states
@@ -37,7 +37,7 @@ pub record IsFixedEndless (side : Side) (r : LocalRule) (letters : List ℕ) (Se
   pub inside : with_end side r w a < r.states ^ r.width
   pub endless : Set (end_pair side r w a)
 
--- two different letters lead from one node to the pair, along two windows with one fixed letter
+-- two different letters lead from one node to the pair, along two windows with equal fixed letters
 pub record IsFixedFirst (r : LocalRule) (letters : List ℕ) (p : ℕ) : Type 0 where
   pub node : ℕ
   pub a : ℕ

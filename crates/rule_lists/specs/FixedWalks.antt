@@ -1,23 +1,23 @@
--- Walks of pairs of nodes by fixed letters alone.
+-- Walks of pairs of nodes by fixed letters.
 use Rattle.std.specs.Prelude.{◌≡◌, ◌≢◌, ℕ, ◌<◌, List}
 use Rattle.word_image.specs.LocalRules.{LocalRule}
 use Rattle.word_image.specs.Graphs.{first_of, second_of, pair_count}
 use Rattle.word_image.specs.declared.side.Side.{Side}
 use Rattle.rule_lists.specs.EndlessPairs.{FixedLeadsOn}
 
--- fixed letters lead on from one pair to another, in any number of steps
+-- fixed letters lead from one pair to another, in any number of steps
 pub data IsFixedWalk (side : Side) (r : LocalRule) (letters : List ℕ) : ℕ → ℕ → Type 0 where
   Here : (p : ℕ) → p < pair_count r → IsFixedWalk side r letters p p
   Step : (p q z : ℕ) → p < pair_count r → FixedLeadsOn side r letters p q → IsFixedWalk side r letters q z → IsFixedWalk side r letters p z
 
--- fixed letters lead on from a pair and back to it
+-- fixed letters lead from a pair back to it
 pub record IsFixedRound (side : Side) (r : LocalRule) (letters : List ℕ) (p : ℕ) : Type 0 where
   pub next : ℕ
   pub inside : p < pair_count r
   pub on : FixedLeadsOn side r letters p next
   pub back : IsFixedWalk side r letters next p
 
--- fixed letters lead on to a pair from a node with itself, first to two different nodes
+-- fixed letters lead to a pair from a node with itself, first to two different nodes
 pub record IsFixedTail (side : Side) (r : LocalRule) (letters : List ℕ) (p : ℕ) : Type 0 where
   pub from : ℕ
   pub first : ℕ

@@ -1,27 +1,27 @@
--- What fixed letters tell of the flux of a conserving rule.
+-- What fixed letters say about the flux of a conserving rule.
 use Rattle.std.specs.Prelude.{◌≡◌, ◌≢◌, ◌≤◌, ℕ, ◌+◌, ◌/◌, ◌%◌, ◌<◌, List, slice_index, slice_index_or, ℤ, pos, ◌-ℤ◌}
 use Rattle.word_image.specs.LocalRules.{LocalRule, node_count, most_nodes}
 use Rattle.word_image.specs.Rings.{IsFlux}
 use Rattle.rule_lists.specs.Completions.{IsCompletion}
 
--- the levels of two nodes of one tree differ as the numbers of a list do
+-- the levels of two nodes of the same tree differ by the same amount as the numbers of a list
 abbrev pub AreLevels : ℕ → List ℕ → List ℕ → List ℤ → Type 0
 AreLevels n trees levels phi = (u v : ℕ) → u < n → v < n → slice_index trees u ≡ slice_index trees v
     → (slice_index_or phi u (pos 0) -ℤ slice_index_or phi v (pos 0)) ≡ pos (slice_index levels u) -ℤ pos (slice_index levels v)
 
--- the levels of two nodes of one tree differ as the numbers of each flux of a rule do that has the fixed letters
+-- the levels of two nodes of the same tree differ by the same amount as each flux of a rule with the fixed letters
 abbrev pub AreKnown : LocalRule → List ℕ → List ℕ → List ℕ → Type 0
 AreKnown r letters trees levels = (s : LocalRule) (phi : List ℤ) → IsCompletion r.states r.width letters s → IsFlux (λ a. a) s phi → AreLevels (node_count r) trees levels phi
 
--- no level of a node is greater than the most
+-- no level is greater than this one
 abbrev pub AreUpTo : ℕ → List ℕ → Type 0
 AreUpTo most levels = (v : ℕ) → v < most_nodes → slice_index levels v ≤ most
 
--- with this letter the window gains the difference of a list at its two nodes
+-- with this letter the gain of the window is the difference of a list at its two nodes
 abbrev pub GainsWith : LocalRule → ℕ → ℕ → List ℤ → Type 0
 GainsWith r w letter phi = (pos letter -ℤ pos (w / node_count r)) ≡ slice_index_or phi (w / r.states) (pos 0) -ℤ slice_index_or phi (w % node_count r) (pos 0)
 
--- a node's tree and level, before and after one tree goes into another and each of the two rises
+-- a node's tree and level, before and after one tree is joined to another and the levels of each are raised
 pub data IsMoved (kept rise gone other tree level : ℕ) : ℕ → ℕ → Type 0 where
   Kept : tree ≡ kept → IsMoved kept rise gone other tree level kept (level + rise)
   Gone : tree ≡ gone → IsMoved kept rise gone other tree level kept (level + other)

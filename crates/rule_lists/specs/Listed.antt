@@ -6,7 +6,7 @@ use Rattle.rule_lists.specs.Ranks.{rank}
 use Rattle.rule_lists.specs.Tables.{IsTable, HasLetters, IsPast, IsFurther}
 use Rattle.rule_lists.specs.declared.properties.Property.{Property}
 
--- the rule with the same table, whose windows begin so far from their cells
+-- the rule with the same table at another offset
 abbrev pub at_offset : LocalRule → ℤ → LocalRule
 at_offset r o = record { states = r.states; width = r.width; offset = o; table = r.table }
 
@@ -17,37 +17,37 @@ pub record IsOfShape (k m : ℕ) (r : LocalRule) : Type 0 where
   pub width : r.width ≡ m
   pub offset : r.offset ≡ pos 0
 
--- one that has the property, and each letter that is fixed from the beginning
+-- a rule of the shape that has the property and each fixed letter
 pub record IsListed (property : Property) (k m : ℕ) (begin : List ℕ) (r : LocalRule) : Type 0 where
   pub shape : IsOfShape k m r
   pub has : Has property r
   pub begins : HasLetters k (k ^ m) begin r.table
 
--- a listed rule from somewhere on, and of these the first
+-- the first listed rule with a property From
 pub record IsFirst (property : Property) (k m : ℕ) (begin order : List ℕ) (From : LocalRule → Type 0) (r : LocalRule) : Type 0 where
   pub listed : IsListed property k m begin r
   pub from : From r
   pub least : (q : LocalRule) → IsListed property k m begin q → From q → rank k order r.table ≤ rank k order q.table
 
--- no listed rule is from there on
+-- no listed rule has this property
 abbrev pub NoneIs : Property → ℕ → ℕ → List ℕ → (LocalRule → Type 0) → Type 0
 NoneIs property k m begin From = (q : LocalRule) → IsListed property k m begin q → ¬ From q
 
--- no rule with these letters at the first n windows, and those that are fixed from the beginning, has the property
+-- no rule with these letters at the first n windows and all fixed letters has the property
 abbrev pub Forbids : Property → ℕ → ℕ → List ℕ → List ℕ → List ℕ → ℕ → Type 0
 Forbids property k m begin order table n = (q : LocalRule) → IsOfShape k m q → HasLetters k (k ^ m) begin q.table → ((i : ℕ) → i < n → slice_index q.table (slice_index order i) ≡ slice_index table (slice_index order i)) → ¬ Has property q
 
--- the letter stands at window v: it is that of the table at one of the first n windows, or that of the beginning
+-- the letter at window v is known: it is the table's at one of the first n windows, or fixed
 abbrev pub IsStanding : List ℕ → List ℕ → List ℕ → ℕ → ℕ → ℕ → Type 0
 IsStanding begin order table n v a = ((i : ℕ) × (i < n) × (slice_index order i ≡ v) × (a ≡ slice_index table v)) ⊎ (a ≡ slice_index begin v)
 
--- all letters stand, and this is their rule, which has the property
+-- all letters are known, and their rule has the property
 pub record IsFilled (property : Property) (k m : ℕ) (begin table : List ℕ) (n : ℕ) (r : LocalRule) : Type 0 where
   pub full : n ≡ k ^ m
   pub listed : IsListed property k m begin r
   pub letters : (v : ℕ) → v < k ^ m → slice_index r.table v ≡ slice_index table v
 
--- the search went on from n letters that stand: the same rules are still to come
+-- the search continued from n known letters: the same rules are still to come
 pub record IsOn (property : Property) (k m : ℕ) (begin order old : List ℕ) (n : ℕ) (new : List ℕ) (next : Option ℕ) : Type 0 where
   pub table : IsTable k (k ^ m) new
   pub within : IfSome next (λ i. i ≤ k ^ m)

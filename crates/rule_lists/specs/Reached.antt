@@ -1,15 +1,15 @@
--- The pairs that the fixed letters of a table already make reached.
+-- Pairs of nodes that the fixed letters of a table already reach.
 use Rattle.std.specs.Prelude.{ℕ, List}
 use Rattle.word_image.specs.LocalRules.{LocalRule}
 use Rattle.eden_laws.specs.ReachedPairs.{IsReached}
 use Rattle.rule_lists.specs.Completions.{IsCompletion}
 use Rattle.rule_lists.specs.EndlessPairs.{IsFixedStep, IsFixedFirst}
 
--- fixed letters alone lead to the pair from one node, by two different letters first
+-- fixed letters lead to the pair from one node, by two different letters first
 pub data IsFixedReached (r : LocalRule) (letters : List ℕ) : ℕ → Type 0 where
   First : (p : ℕ) → IsFixedFirst r letters p → IsFixedReached r letters p
   On : (p q : ℕ) → IsFixedReached r letters p → IsFixedStep r letters p q → IsFixedReached r letters q
 
--- the pair is reached in each rule that has the fixed letters
+-- each rule with the fixed letters reaches the pair
 abbrev pub IsSure : ℕ → ℕ → List ℕ → ℕ → Type 0
 IsSure k m letters p = (s : LocalRule) → IsCompletion k m letters s → IsReached s p

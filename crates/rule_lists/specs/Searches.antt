@@ -1,4 +1,4 @@
--- What a search gives, call by call.
+-- The rules that a search returns, call by call.
 use Rattle.std.specs.Prelude.{◌≡◌, ℕ, ◌+◌, ◌-◌, ◌^◌, List, Option, Some, None, IfSome, MatchOption}
 use Rattle.word_image.specs.LocalRules.{LocalRule}
 use Rattle.rule_lists.specs.Ranks.{IsOrder, rank}
@@ -8,11 +8,11 @@ use Rattle.rule_lists.specs.Calls.{IsAfter}
 use Rattle.rule_lists.specs.declared.asked.Asked.{Asked}
 use Rattle.rule_lists.specs.declared.search.Search.{Search}
 
--- how many windows the shape has
+-- the number of windows of the shape
 abbrev pub size_of : Asked → ℕ
 size_of a = a.shape.now.states ^ a.shape.now.width
 
--- the windows of the shape are in an order
+-- the list is an order of the shape's windows
 abbrev pub IsOrdered : Asked → Type 0
 IsOrdered a = IsOrder (size_of a) a.order.now
 
@@ -20,42 +20,42 @@ IsOrdered a = IsOrder (size_of a) a.order.now
 abbrev pub AreEntries : Asked → List ℕ → Type 0
 AreEntries a entries = IsTable a.shape.now.states (size_of a) entries
 
--- no rule with these letters at the first n windows, and those that are fixed from the beginning, has the property
+-- no rule with these letters at the first n windows and all fixed letters has the property
 abbrev pub AreForbidden : Asked → List ℕ → ℕ → Type 0
 AreForbidden a entries n = Forbids a.property a.shape.now.states a.shape.now.width a.begin.now a.order.now entries n
 
--- of the listed rules from somewhere on the first, and none exactly if there is none
+-- the first listed rule with a property From, or None if there is none
 abbrev pub IsFirstListed : Asked → (LocalRule → Type 0) → Option LocalRule → Type 0
 IsFirstListed a From next =
     MatchOption next
     (NoneIs a.property a.shape.now.states a.shape.now.width a.begin.now From)
     (IsFirst a.property a.shape.now.states a.shape.now.width a.begin.now a.order.now From)
 
--- of the listed rules after the last one the first, and none exactly if none is after it
+-- the first listed rule after the last one, or None if there is none
 abbrev pub IsNextListed : Asked → Option LocalRule → Option LocalRule → Type 0
 IsNextListed a last next = IsFirstListed a (IsAfter a.shape.now.states a.order.now last) next
 
--- the rule has the states and the width
+-- the rule has the asked number of states and the asked width
 pub record HasShape (a : Asked) (r : LocalRule) : Type 0 where
   pub states : r.states ≡ a.shape.now.states
   pub width : r.width ≡ a.shape.now.width
 
--- the search is for what is asked, and goes on behind this rule, or begins
+-- the search answers this question, and continues after this rule, or is at its beginning
 abbrev pub IsBehind : Asked → Option LocalRule → Search → Type 0
 IsBehind a last s = (s.asked ≡ a) × (s.last ≡ last)
 
--- the windows are in an order, and the rule behind which the search goes on is one of the shape
+-- the windows are in an order, and the rule after which the search continues has the shape
 pub record CanGoOn (s : Search) : Type 0 where
   pub ordered : IsOrdered s.asked
   pub fits : IfSome s.last (HasShape s.asked)
 
--- a call gave the next listed rule, and the search goes on behind it; where none is left it stays as it was
+-- a call returned the next listed rule, and the search continues after it; if none is left, the search stays as it was
 pub record GivesNext (s : Search) (next : Option LocalRule) (t : Search) : Type 0 where
   pub asked : t.asked ≡ s.asked
   pub listed : IsNextListed s.asked s.last next
   pub last : MatchOption next (t.last ≡ s.last) (λ r. t.last ≡ Some r)
 
--- how many ranks are greater than that of the last rule
+-- the number of ranks that are greater than the rank of the last rule
 abbrev pub ranks_left : Asked → Option LocalRule → ℕ
 ranks_left a None = a.shape.now.states ^ size_of a
 ranks_left a (Some r) = a.shape.now.states ^ size_of a - (rank a.shape.now.states a.order.now r.table + 1)

@@ -1,17 +1,17 @@
-//! What a search is asked for.
+//! The question that a search answers.
 use crate::letters::Letters;
 use crate::properties::Property;
 use word_image::Rule;
 
-/// Asks for the rules of one shape, at offset 0, that have a property and each fixed letter.
+/// Asks for the rules of one shape, at offset 0, that have a property and all fixed letters.
 #[derive(Clone, Copy)]
 pub struct Asked<'a> {
     /// The property.
     pub property: Property,
-    /// Any rule of the shape: only its states and its width count.
+    /// Any rule of the shape. Only its states and its width matter.
     pub shape: &'a Rule,
-    /// The letters that are fixed.
+    /// The fixed letters.
     pub begin: &'a Letters,
-    /// The windows in the order by which rules are ranked.
+    /// The windows in the order that ranks rules.
     pub order: &'a [u8],
 }

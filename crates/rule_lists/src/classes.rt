@@ -1,4 +1,4 @@
-//! The classes of windows, by which they are put in order.
+//! The classes of windows, which put them in order.
 ghost use Rattle.std.specs.Prelude.{◌≡◌, ◌≤◌, ◌<◌, ◌+◌, ◌*◌, ◌-◌, ◌/◌, ◌%◌, ◌^◌, ◌==◌, ◌↔◌, ℕ, IsTrue, slice_index};
 ghost use Rattle.word_image.specs.LocalRules.{IsRule, most_windows};
 ghost use Rattle.rule_lists.specs.Orders.{class_of, ring_class, ring_number, turned, has_period, weight_class};
@@ -6,7 +6,7 @@ ghost use Rattle.rule_lists.specs.Orders.{class_of, ring_class, ring_number, tur
 use crate::properties::Property;
 use word_image::{MOST_ENTRIES, Rule};
 
-/// The class of each window.
+/// Returns the class of each window.
 pub(crate) fn classes_of(property: Property, shape: &Rule) -> [u32; MOST_ENTRIES]
     ensures { (w : ℕ) → w < shape.now.states ^ shape.now.width → slice_index result w ≡ class_of property shape.now.states shape.now.width w }
 {
@@ -17,7 +17,7 @@ pub(crate) fn classes_of(property: Property, shape: &Rule) -> [u32; MOST_ENTRIES
     classes
 }
 
-/// The class of a window for this property.
+/// Returns the class of a window for this property.
 fn class_for(property: Property, shape: &Rule, window: u16) -> u32
     ensures { result ≡ class_of property shape.now.states shape.now.width window }
 {
@@ -27,7 +27,7 @@ fn class_for(property: Property, shape: &Rule, window: u16) -> u32
     }
 }
 
-/// How many letters the shortest ring with the window has, and the least number of its rotations.
+/// Returns the length of the shortest ring that contains the window, combined with the least number of its rotations.
 fn ring_class(shape: &Rule, window: u16) -> u32
     ensures { result ≡ ring_class shape.now.states shape.now.width window }
 {
@@ -39,7 +39,7 @@ fn ring_class(shape: &Rule, window: u16) -> u32
     ring_number(shape, window, shape.m())
 }
 
-/// The length of the ring of the first letters of a window, and the least number of its rotations.
+/// Returns the length of the ring of the first letters of a window, combined with the least number of its rotations.
 fn ring_number(shape: &Rule, window: u16, length: u8) -> u32
     requires { length ≤ shape.now.width }
     ensures { result ≡ ring_number shape.now.states shape.now.width window length }
@@ -52,7 +52,7 @@ fn ring_number(shape: &Rule, window: u16, length: u8) -> u32
     u32::from(length) * 256 + least
 }
 
-/// The number of a ring of so many letters, read from one of them on.
+/// Returns the number of a ring of `length` letters that is read from the letter at `from`.
 fn turned(shape: &Rule, ring: u32, length: u8, from: u8) -> u32
     requires small { ring < 2 ^ 16 }
     requires within { length ≤ shape.now.width }
@@ -63,7 +63,7 @@ fn turned(shape: &Rule, ring: u32, length: u8, from: u8) -> u32
     ring % behind * power(shape, from) + ring / behind
 }
 
-/// Whether each letter of the window is the one that stands so many before it, where there is one.
+/// Returns whether each letter of the window equals the letter `length` places before it, if there is one.
 fn has_period(shape: &Rule, window: u16, length: u8) -> bool
     requires { length ≤ shape.now.width }
     ensures { result ≡ has_period shape.now.states shape.now.width window length }
@@ -73,7 +73,7 @@ fn has_period(shape: &Rule, window: u16, length: u8) -> bool
     first == last
 }
 
-/// The greatest letter of the window, and how many aren't 0.
+/// Returns the greatest letter of the window, combined with the number of its letters other than 0.
 fn weight_class(shape: &Rule, window: u16) -> u32
     ensures { result ≡ weight_class shape.now.states shape.now.width window }
 {
@@ -87,7 +87,7 @@ fn weight_class(shape: &Rule, window: u16) -> u32
     greatest * 8 + some
 }
 
-/// How many words of so many letters there are.
+/// Returns the number of words of this length.
 fn power(shape: &Rule, length: u8) -> u32
     requires { length ≤ shape.now.width }
     ensures power { result ≡ shape.now.states ^ length }

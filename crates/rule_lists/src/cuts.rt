@@ -1,4 +1,4 @@
-//! Whether letters that stand forbid a property, whatever the others are.
+//! Tests whether some letters of a table rule out a property, whatever the other letters are.
 ghost use Rattle.std.specs.Prelude.{◌≡◌, ◌≢◌, ◌^◌, ◌<◌, ◌≤◌, ℕ, IsTrue, ◌-◌, length, slice_index};
 ghost use Rattle.word_image.specs.LocalRules.{IsRule, most_windows};
 ghost use Rattle.rule_lists.specs.Searches.{AreEntries, AreForbidden, IsOrdered, size_of};
@@ -16,8 +16,8 @@ use crate::tables::Entries;
 use crate::walks::{has_one_node, is_round, is_tail};
 use word_image::{Rule, Side};
 
-/// Whether the letters at the first n windows forbid the property. Those at all but the last are the ones
-/// of which hints were asked before.
+/// Returns whether the letters at the first n windows rule out the property. The hints have seen all of these letters
+/// except the last one.
 pub(crate) fn forbids(asked: &Asked, entries: &Entries, n: u16, hints: &mut Hints) -> bool
     requires order { IsOrdered asked.now }
     requires table { AreEntries asked.now entries.now }
@@ -34,7 +34,7 @@ pub(crate) fn forbids(asked: &Asked, entries: &Entries, n: u16, hints: &mut Hint
     bars(asked.property, asked.shape, &letters, hints.last())
 }
 
-/// Whether another letter was fixed from the beginning at the last of the first n windows.
+/// Returns whether the letter at the last of the first n windows differs from a fixed letter there.
 fn has_other(asked: &Asked, entries: &Entries, n: u16) -> bool
     requires within { n ≤ length asked.now.order.now }
     ensures rule { IsRule asked.now.shape.now }
@@ -51,7 +51,7 @@ fn has_other(asked: &Asked, entries: &Entries, n: u16) -> bool
     letter < k && letter != entries[window]
 }
 
-/// The letters at the first n windows, and those that are fixed from the beginning elsewhere.
+/// Returns the letters at the first n windows, and the fixed letters at the other ones.
 fn standing(begin: &Letters, order: &[u8], entries: &Entries, n: u16) -> Letters
     requires { n ≤ length order.now }
     ensures { (v : ℕ) → v < most_windows → IsStanding begin.now order.now entries.now n v (slice_index result v) }
@@ -64,7 +64,7 @@ fn standing(begin: &Letters, order: &[u8], entries: &Entries, n: u16) -> Letters
     letters
 }
 
-/// Whether the fixed letters bar the property, by a hint.
+/// Returns whether the fixed letters rule out the property, as a hint suggests.
 fn bars(property: Property, shape: &Rule, letters: &Letters, hint: &Hint) -> bool
     ensures { IsTrue result → Bars property shape.now.states shape.now.width letters.now }
 {
@@ -78,7 +78,7 @@ fn bars(property: Property, shape: &Rule, letters: &Letters, hint: &Hint) -> boo
     }
 }
 
-/// Whether they lead from a node, by different letters, to a pair of two equal nodes.
+/// Returns whether they lead from a node, by different letters, to a pair of two equal nodes.
 fn is_lost(shape: &Rule, letters: &Letters, hint: &Hint) -> bool
     ensures { IsTrue result → IsLost shape.now.states shape.now.width letters.now }
 {
@@ -92,7 +92,8 @@ fn is_lost(shape: &Rule, letters: &Letters, hint: &Hint) -> bool
     is_tail(Side::Right, shape, letters, hint.before(), pair)
 }
 
-/// Whether they bar that the rule is injective: such a pair, or two different nodes that they lead round.
+/// Returns whether they rule out that the rule is injective: by such a pair, or by two different nodes from which
+/// they lead around a loop.
 fn bars_injective(shape: &Rule, letters: &Letters, hint: &Hint) -> bool
     ensures { IsTrue result → Bars Injective shape.now.states shape.now.width letters.now }
 {
@@ -109,8 +110,8 @@ fn bars_injective(shape: &Rule, letters: &Letters, hint: &Hint) -> bool
     is_round(Side::Right, shape, letters, hint.after(), pair)
 }
 
-/// Whether they bar that the rule closes on this side: they lead from a node, by different letters, to a
-/// pair of two equal nodes, or to one that they lead round.
+/// Returns whether they rule out that the rule closes on this side: they lead from a node, by different letters, to a
+/// pair of two equal nodes, or to a pair from which they lead around a loop.
 fn bars_closing(side: Side, shape: &Rule, letters: &Letters, hint: &Hint) -> bool
     ensures { IsTrue result → BarsClosing side shape.now.states shape.now.width letters.now }
 {
@@ -127,7 +128,7 @@ fn bars_closing(side: Side, shape: &Rule, letters: &Letters, hint: &Hint) -> boo
     is_round(side, shape, letters, hint.after(), pair)
 }
 
-/// Whether they bar that the rule is open.
+/// Returns whether they rule out that the rule is open.
 fn bars_open(shape: &Rule, letters: &Letters, hint: &Hint) -> bool
     ensures { IsTrue result → Bars Open shape.now.states shape.now.width letters.now }
 {

@@ -1,28 +1,28 @@
-//! The edges of the windows whose letters stand, and steps along them.
+//! The edges of the windows whose letters are known, and steps along them.
 use word_image::{EdgeRows, MOST_ENTRIES, MOST_NODES, MOST_STATES, Rule, Side};
 
-/// The edges of the windows whose letters stand, read to one side: along them to the right, and against
-/// them to the left. Nothing is said of them: what is found by them is looked at afterwards.
+/// The edges of the windows whose letters are known: forward edges on the right side, backward edges on the left.
+/// They have no contracts, since everything found with them is tested afterwards.
 #[derive(Drop)]
 pub(crate) struct Edges {
-    /// The node where each window begins.
+    /// The node at which each window begins.
     from: [u8; MOST_ENTRIES],
-    /// The node where it ends.
+    /// The node at which each window ends.
     to: [u8; MOST_ENTRIES],
-    /// How far apart the windows of two nodes that follow each other are.
+    /// The difference between the windows of two consecutive nodes.
     node_step: u8,
-    /// The same of two letters.
+    /// The difference between the windows of two consecutive letters.
     letter_step: u8,
-    /// How many letters there are.
+    /// The number of letters.
     k: u8,
-    /// How many nodes there are.
+    /// The number of nodes.
     nodes: u8,
-    /// For each label and node the set of the nodes where edges lead.
+    /// For each label and node, the set of nodes to which edges lead.
     ends: EdgeRows,
 }
 
 impl Edges {
-    /// No edges yet.
+    /// Returns no edges.
     pub(crate) fn of(side: Side, shape: &Rule) -> Edges {
         let mut from = [0; MOST_ENTRIES];
         let mut to = [0; MOST_ENTRIES];
@@ -46,38 +46,38 @@ impl Edges {
         }
     }
 
-    /// How many letters there are.
+    /// Returns the number of letters.
     pub(crate) fn k(&self) -> u8 {
         self.k
     }
 
-    /// The node where a window begins.
+    /// Returns the node at which a window begins.
     pub(crate) fn from(&self, window: u8) -> u8 {
         self.from[usize::from(window)]
     }
 
-    /// The node where it ends.
+    /// Returns the node at which a window ends.
     pub(crate) fn to(&self, window: u8) -> u8 {
         self.to[usize::from(window)]
     }
 
-    /// The window of a node and a letter.
+    /// Returns the window of a node and a letter.
     pub(crate) fn window(&self, node: u8, letter: u8) -> u8 {
         node.wrapping_mul(self.node_step)
             .wrapping_add(letter.wrapping_mul(self.letter_step))
     }
 
-    /// The number of the pair of two nodes.
+    /// Returns the number of the pair of two nodes.
     pub(crate) fn pair(&self, first: u8, second: u8) -> u8 {
         first.wrapping_mul(self.nodes).wrapping_add(second)
     }
 
-    /// Where the edges with a label lead from a node.
+    /// Returns the nodes to which the edges with a label lead from a node.
     pub(crate) fn ends(&self, label: u8, node: u8) -> u16 {
         self.ends[usize::from(label % 16)][usize::from(node % 16)]
     }
 
-    /// Where they lead from the nodes of a set.
+    /// Returns the nodes to which the edges with a label lead from the nodes of a set.
     pub(crate) fn all_ends(&self, label: u8, nodes: u16) -> u16 {
         let mut ends = 0;
         for node in 0..self.nodes {
@@ -95,7 +95,7 @@ impl Edges {
         self.ends[usize::from(label % 16)][node] |= end;
     }
 
-    /// Takes it away.
+    /// Removes the edge of a window with this label.
     pub(crate) fn take(&mut self, window: u8, label: u8) {
         let node = usize::from(self.from(window) % 16);
         let end = bit(self.to(window));
@@ -103,12 +103,12 @@ impl Edges {
     }
 }
 
-/// The set of one node.
+/// Returns the set of one node.
 pub(crate) fn bit(node: u8) -> u16 {
     1u16 << (node % 16)
 }
 
-/// The first node of a set.
+/// Returns the first node of a set.
 pub(crate) fn first_node(set: u16) -> u8 {
     set.trailing_zeros() as u8
 }

@@ -1,4 +1,4 @@
-//! What fixed letters tell of the flux of a conserving rule.
+//! What fixed letters say about the flux of a conserving rule.
 ghost use Rattle.std.specs.Prelude.{◌≡◌, ◌+◌, ◌*◌, ◌^◌, ◌<◌, ◌≤◌, ℕ, ℤ, List, slice_index};
 ghost use Rattle.word_image.specs.LocalRules.{node_count, most_nodes, most_windows};
 ghost use Rattle.rule_lists.specs.Forests.{AreKnown, AreLevels, AreUpTo, GainsWith, IsMoved};
@@ -6,8 +6,8 @@ ghost use Rattle.rule_lists.specs.Forests.{AreKnown, AreLevels, AreUpTo, GainsWi
 use crate::letters::Letters;
 use word_image::{MOST_NODES, Rule, Side};
 
-/// Trees of nodes. Under each conserving rule that has the fixed letters the flux at two nodes of one
-/// tree differs as their levels do.
+/// Trees of nodes. Under each conserving rule with the fixed letters, the flux at two nodes of the same tree differs
+/// by the difference of their levels.
 #[derive(Clone, Copy, Debug)]
 pub(crate) struct Forest {
     /// The tree of each node.
@@ -16,11 +16,11 @@ pub(crate) struct Forest {
     pub(crate) levels: [u32; MOST_NODES],
 }
 
-/// Two trees aren't made one where a level would grow by more. With 16 nodes of 16 letters no level
-/// comes to half of this.
+/// Two trees aren't joined if a level would grow by more than this. With 16 nodes and 16 letters no level reaches
+/// half of it.
 const MOST_RISE: u32 = 1 << 20;
 
-/// The trees of the nodes that windows with fixed letters join.
+/// Returns the trees of the nodes that windows with fixed letters join.
 pub(crate) fn forest_of(shape: &Rule, letters: &Letters) -> Forest
     ensures known { AreKnown shape.now letters.now result.trees result.levels }
     ensures small { AreUpTo (most_windows * 1048576) result.levels }
@@ -32,7 +32,7 @@ pub(crate) fn forest_of(shape: &Rule, letters: &Letters) -> Forest
     forest
 }
 
-/// Each node is a tree.
+/// Returns trees with one node each.
 fn single_nodes() -> Forest
     ensures trees { (v : ℕ) → v < most_nodes → slice_index result.trees v ≡ v }
     ensures levels { AreUpTo 0 result.levels }
@@ -47,7 +47,7 @@ fn single_nodes() -> Forest
     }
 }
 
-/// The trees with those of a window's nodes joined, if its letter is fixed.
+/// Joins the trees of a window's nodes if its letter is fixed.
 fn with_letter(shape: &Rule, letters: &Letters, window: u16, forest: &Forest) -> Forest
     requires window { window < shape.now.states ^ shape.now.width }
     requires known { AreKnown shape.now letters.now forest.now.trees forest.now.levels }
@@ -63,8 +63,7 @@ fn with_letter(shape: &Rule, letters: &Letters, window: u16, forest: &Forest) ->
     with_window(shape, window, letter, forest)
 }
 
-/// Makes one tree of those of a window's nodes: the window with this letter says how the flux differs at
-/// them.
+/// Joins the trees of a window's nodes. The letter of the window gives the difference of the flux at these nodes.
 fn with_window(shape: &Rule, window: u16, letter: u8, forest: &Forest) -> Forest
     requires window { window < shape.now.states ^ shape.now.width }
     requires small { AreUpTo (window * 1048576) forest.now.levels }
@@ -89,7 +88,7 @@ fn with_window(shape: &Rule, window: u16, letter: u8, forest: &Forest) -> Forest
     joined(forest, kept, rise, gone, other)
 }
 
-/// The trees after one goes into another, and each of the two rises.
+/// Returns the trees after one is joined to another, and the levels of each are raised.
 fn joined(forest: &Forest, kept: u8, rise: u32, gone: u8, other: u32) -> Forest
     requires levels { (v : ℕ) → v < most_nodes → slice_index forest.now.levels v < 2 ^ 31 }
     requires first { rise < 2 ^ 31 }
@@ -113,7 +112,7 @@ fn joined(forest: &Forest, kept: u8, rise: u32, gone: u8, other: u32) -> Forest
     Forest { trees, levels }
 }
 
-/// The tree and the level of a node after that.
+/// Returns the tree and the level of a node after that.
 fn moved(tree: u8, level: u32, kept: u8, rise: u32, gone: u8, other: u32) -> (u8, u32)
     requires level { level < 2 ^ 31 }
     requires first { rise < 2 ^ 31 }

@@ -1,4 +1,4 @@
-//! What the letters that stand may forbid, found letter by letter.
+//! Hints that the known letters rule out a property, found letter by letter.
 ghost use Rattle.std.specs.Prelude.{◌≤◌, length};
 ghost use Rattle.word_image.specs.LocalRules.{most_windows};
 
@@ -10,31 +10,31 @@ use crate::rounds::Rounds;
 use crate::tables::Entries;
 use word_image::{MOST_ENTRIES, Rule, Side};
 
-/// Walks of pairs of nodes, read to one side, that may forbid a property. What a letter leads to is kept for
-/// each number of letters that stand, so that only the last one is looked at. Nothing is said of a hint: it
-/// is looked at before it is followed.
+/// Walks of pairs of nodes, followed to one side, that may rule out a property. For each number of known letters it
+/// stores what they reach, so that it only looks at the last letter. It has no contract: each hint is tested before
+/// it is used.
 #[derive(Drop)]
 pub(crate) struct Hint {
     /// The property.
     property: Property,
     /// The side.
     pub(crate) side: Side,
-    /// The letters that stand, and 255 elsewhere.
+    /// The known letters, and 255 elsewhere.
     letters: Letters,
-    /// At how many windows of the order one stands.
+    /// The number of windows of the order with a known letter.
     placed: u16,
-    /// Whether those that are fixed from the beginning give a hint.
+    /// Whether the fixed letters give a hint.
     begun: bool,
-    /// What they lead to.
+    /// The pairs that they reach.
     reach: Reach,
-    /// The round that was found last.
+    /// The loop that was found last.
     rounds: Rounds,
     /// The pair that was found last.
     pair: u8,
 }
 
 impl Hint {
-    /// Only with the letters that are fixed from the beginning.
+    /// Starts with only the fixed letters.
     fn of(side: Side, asked: &Asked) -> Hint {
         let shape = asked.shape;
         let mut hint = Hint {
@@ -57,23 +57,23 @@ impl Hint {
         hint
     }
 
-    /// The pair that was found last.
+    /// Returns the pair that was found last.
     pub(crate) fn pair(&self) -> u16 {
         u16::from(self.pair)
     }
 
-    /// The pair from which a step led to each pair first.
+    /// Returns for each pair the pair from which it was first reached.
     pub(crate) fn before(&self) -> &Links {
         &self.reach.before
     }
 
-    /// The pair to which the last round goes on from each pair of it.
+    /// Returns for each pair of the last loop the next pair.
     pub(crate) fn after(&self) -> &Links {
         &self.rounds.after
     }
 
-    /// Whether there is a hint that the letters at the first n windows forbid the property, if it is looked
-    /// for. Those at all but the last are the ones that were seen before.
+    /// Returns whether there is a hint that the letters at the first n windows rule out the property, if `looking` is
+    /// true. It has seen all of these letters except the last one.
     fn see(&mut self, asked: &Asked, entries: &Entries, n: u16, looking: bool) -> bool
         requires within { n ≤ length asked.now.order.now }
         requires few { length asked.now.order.now ≤ most_windows }
@@ -91,7 +91,7 @@ impl Hint {
         hint
     }
 
-    /// Takes the letters away that stand behind the first n windows.
+    /// Removes the letters after the first n windows.
     fn forget(&mut self, asked: &Asked, n: u16) {
         for place in usize::from(n)..usize::from(self.placed).min(asked.order.len()) {
             let window = asked.order[place];
@@ -103,7 +103,7 @@ impl Hint {
         }
     }
 
-    /// Sets a letter, and answers whether this gives a hint.
+    /// Sets a letter, and returns whether this gives a hint.
     fn set(&mut self, window: u8, letter: u8, looking: bool) -> bool {
         self.letters[usize::from(window)] = letter;
         if let Some(pair) = self.reach.add(&self.letters, window, letter) {
@@ -120,7 +120,7 @@ impl Hint {
         false
     }
 
-    /// A pair from which the letters lead round since one stands at a window, where the property forbids it.
+    /// Returns a pair on a loop that the last letter closes, if the property rules such a loop out.
     fn round(&mut self, window: u8, letter: u8) -> Option<u8> {
         let from = self.reach.edges.from(window);
         let nodes = match self.property {
@@ -134,20 +134,20 @@ impl Hint {
     }
 }
 
-/// What a search keeps from step to step, and from one rule to the next: the hints for a property, on its
-/// side or on both. They change only how soon a rule is found, not which one.
+/// What a search keeps from step to step and from rule to rule: hints for a property, on its side or on both. They
+/// only change how soon a rule is found, and not which one.
 #[derive(Drop)]
 pub struct Hints {
-    /// On the right, or on the one side that the property has.
+    /// On the right, or on the only side of the property.
     first: Hint,
     /// On the left, for open rules.
     second: Option<Hint>,
-    /// Whether the last one is that on the left.
+    /// Whether the last hint is the one on the left.
     turned: bool,
 }
 
 impl Hints {
-    /// Only with the letters that are fixed from the beginning.
+    /// Starts with only the fixed letters.
     pub(crate) fn of(asked: &Asked) -> Hints {
         let side = match asked.property {
             Property::LeftClosing => Side::Left,
@@ -164,8 +164,8 @@ impl Hints {
         }
     }
 
-    /// Sees the letters at the first n windows but the last one, one after another, from those on that
-    /// weren't seen.
+    /// Sees the letters at the first n windows except the last one, one after another, as far as they haven't been
+    /// seen.
     pub(crate) fn catch_up(&mut self, asked: &Asked, entries: &Entries, n: u16)
         requires within { n ≤ length asked.now.order.now }
         requires few { length asked.now.order.now ≤ most_windows }
@@ -175,9 +175,9 @@ impl Hints {
         }
     }
 
-    /// Whether there is a hint that the letters at the first n windows forbid the property, if it is looked
-    /// for. Those at all but the last are the ones that were seen before. Conserving rules are always looked at:
-    /// they have no hints.
+    /// Returns whether there is a hint that the letters at the first n windows rule out the property, if `looking` is
+    /// true. All of these letters except the last one have been seen. For conserving rules it always returns true,
+    /// since they have no hints.
     pub(crate) fn see(&mut self, asked: &Asked, entries: &Entries, n: u16, looking: bool) -> bool
         requires within { n ≤ length asked.now.order.now }
         requires few { length asked.now.order.now ≤ most_windows }
@@ -196,7 +196,7 @@ impl Hints {
         false
     }
 
-    /// The last hint.
+    /// Returns the last hint.
     pub(crate) fn last(&self) -> &Hint {
         match &self.second {
             Some(second) if self.turned => second,

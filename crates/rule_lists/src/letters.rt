@@ -1,13 +1,13 @@
-//! Letters that are fixed of a table.
+//! Letters of a table that are fixed.
 ghost use Rattle.std.specs.Prelude.{◌≡◌, ◌<◌, IsTrue, slice_index};
 ghost use Rattle.word_image.specs.LocalRules.{most_windows};
 
 use word_image::MOST_ENTRIES;
 
-/// Letters of a table, by the values of windows: a letter is fixed where it is below k.
+/// Letters of a table, by the values of windows. A number below k is a fixed letter.
 pub type Letters = [u8; MOST_ENTRIES];
 
-/// Whether two windows are fixed, with one letter.
+/// Returns whether the letters at two windows are fixed and equal.
 pub(crate) fn are_one(k: u8, letters: &Letters, first: u16, second: u16) -> bool
     requires first { first < most_windows }
     requires second { second < most_windows }

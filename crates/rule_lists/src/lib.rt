@@ -1,16 +1,16 @@
 //! All rules of a shape that have a property, one after another.
 //!
-//! A shape has `k^(k^m)` tables, too many to ask each: 7.6 million million of three states and width 3,
-//! of which 1,800 are reversible. So tables are filled letter by letter, the windows in a given order, and
-//! what stands so far may forbid the property for whatever else is filled in: then none of these tables
-//! is tried.
+//! A shape has `k^(k^m)` tables, too many to test each: there are 7.6 million million tables of three states and
+//! width 3, and 1,800 of these rules are reversible. So a search fills tables letter by letter, with the windows in a
+//! given order. If the letters so far rule out the property for all ways to fill in the rest, it tries none of these
+//! tables.
 //!
-//! The rank of a rule is the number of its letters in the order of the windows. A [`Search`] is an iterator:
-//! it gives the rule of least rank that has the property, then the next one, and so on. So it gives each
-//! rule that has the property exactly once.
+//! The rank of a rule is the number whose digits are its letters in the order of the windows. A [`Search`] is an
+//! iterator: it returns the rule of least rank that has the property, then the next one, and so on. So it returns
+//! each rule with the property exactly once.
 //!
-//! With the windows in the order 111, 110, .., 000 the rank is the Wolfram number. The surjective rules of
-//! two states and width 3 are then those with the numbers 15, 30, 45, 51, 60, .., 240: 30 rules.
+//! If the windows are in the order 111, 110, .., 000, the rank is the Wolfram number. Then the search returns the
+//! surjective rules of two states and width 3 as 15, 30, 45, 51, 60, .., 240, which are 30 rules.
 #![tactic(auto)]
 
 mod asked;

@@ -1,4 +1,4 @@
-//! Properties of rules that are listed.
+//! Properties of rules that can be listed.
 ghost use Rattle.std.specs.Prelude.{◌≡◌, ◌↔◌, IsTrue};
 ghost use Rattle.rule_lists.specs.Properties.{Has};
 ghost use Rattle.tail_config.specs.Tails.{IsOpen};
@@ -20,9 +20,9 @@ pub enum Property {
     Surjective,
     /// No two different configurations share an image.
     Injective,
-    /// No two that agree on the left do.
+    /// No two different configurations that agree on the left share an image.
     RightClosing,
-    /// No two that agree on the right do.
+    /// No two different configurations that agree on the right share an image.
     LeftClosing,
     /// The rule closes on both sides.
     Open,
@@ -30,7 +30,7 @@ pub enum Property {
     Conserving,
 }
 
-/// Whether a rule has the property.
+/// Returns whether a rule has the property.
 pub fn has(property: Property, rule: &Rule) -> bool
     ensures { IsTrue result ↔ Has property rule.now }
 {
@@ -44,21 +44,21 @@ pub fn has(property: Property, rule: &Rule) -> bool
     }
 }
 
-/// Whether the rule closes on both sides.
+/// Returns whether the rule closes on both sides.
 fn is_open(endless: &Endless) -> bool
     ensures { IsTrue result ↔ IsOpen endless.now }
 {
     is_right_closing(endless) && is_left_closing(endless)
 }
 
-/// Whether every ring keeps the sum of its letters.
+/// Returns whether every ring keeps the sum of its letters.
 fn keeps_sums(rule: &Rule) -> bool
     ensures { IsTrue result ↔ IsConserving (λ a. a) rule.now }
 {
     is_conserving(rule, &Weights::own(rule.k()))
 }
 
-/// The endless pairs of a rule.
+/// Returns the endless pairs of a rule.
 fn endless(rule: &Rule) -> Endless
     ensures { result ≡ rule.now }
 {

@@ -1,38 +1,38 @@
-//! Pairs of nodes to which the letters that stand lead from a node with itself.
+//! Pairs of nodes that the known letters reach from a node with itself.
 ghost use Rattle.std.specs.Prelude.{◌<◌};
 
 use crate::edges::{Edges, bit, first_node};
 use crate::letters::Letters;
 use word_image::{MOST_NODES, MOST_PAIRS, Rule, Side};
 
-/// For each pair of nodes another one.
+/// For each pair of nodes another pair.
 pub(crate) type Links = [u8; MOST_PAIRS];
 
-/// From no letters to those of all windows.
+/// The numbers of known letters, from none to the letters of all windows.
 const MOST_LEVELS: usize = 257;
 
-/// The pairs of nodes to which letters lead from a node with itself, by two different ones first, in the
-/// order in which they were found: a letter more only adds some, and a letter less takes these away.
+/// The pairs of nodes that known letters reach from a node with itself, by two different letters first, in the order
+/// in which they were found. One more letter only adds pairs, and one letter less removes these.
 #[derive(Drop)]
 pub(crate) struct Reach {
-    /// The edges of the windows whose letters stand.
+    /// The edges of the windows whose letters are known.
     pub(crate) edges: Edges,
-    /// The pair from which a step led to each pair first.
+    /// For each pair the pair from which it was first reached.
     pub(crate) before: Links,
-    /// For each node the nodes with which it is such a pair.
+    /// For each node the nodes with which it forms such a pair.
     rows: [u16; MOST_NODES],
     /// The pairs.
     found: [(u8, u8); MOST_PAIRS],
-    /// How many there are.
+    /// The number of pairs.
     count: u8,
-    /// From how many of them steps were looked for.
+    /// The number of pairs whose steps have been followed.
     looked: u8,
-    /// How many there are for each number of letters.
+    /// The number of pairs for each number of known letters.
     counts: [u8; MOST_LEVELS],
 }
 
 impl Reach {
-    /// No letters yet.
+    /// Starts with no letters.
     pub(crate) fn of(side: Side, shape: &Rule) -> Reach {
         Reach {
             edges: Edges::of(side, shape),
@@ -45,14 +45,14 @@ impl Reach {
         }
     }
 
-    /// Notes that these are the pairs of n letters.
+    /// Stores the number of pairs for n known letters.
     pub(crate) fn settle(&mut self, n: u16)
         requires { n < 257 }
     {
         self.counts[usize::from(n)] = self.count;
     }
 
-    /// Goes back to the pairs of n letters.
+    /// Returns to the pairs of n known letters.
     pub(crate) fn go_back(&mut self, n: u16)
         requires { n < 257 }
     {
@@ -65,13 +65,12 @@ impl Reach {
         self.count = kept;
     }
 
-    /// A node and those with which it is a pair.
+    /// Returns a node and those with which it forms a pair.
     pub(crate) fn partners(&self, node: u8) -> u16 {
         self.rows[usize::from(node % 16)] | bit(node)
     }
 
-    /// Adds what a window with this label leads to, and answers with a pair of two equal nodes where it
-    /// leads to one.
+    /// Adds the pairs that a window with this label reaches. Returns a pair of two equal nodes if it reaches one.
     pub(crate) fn add(&mut self, letters: &Letters, window: u8, label: u8) -> Option<u8> {
         self.edges.add(window, label);
         self.looked = self.count;
@@ -92,7 +91,7 @@ impl Reach {
         self.spread(letters)
     }
 
-    /// Goes on from the pairs from which no steps were looked for.
+    /// Follows the steps from the pairs whose steps haven't been followed.
     fn spread(&mut self, letters: &Letters) -> Option<u8> {
         for _ in 0..MOST_PAIRS {
             if self.looked == self.count {
@@ -107,7 +106,7 @@ impl Reach {
         None
     }
 
-    /// Goes on from a pair.
+    /// Follows the steps from a pair.
     fn spread_from(&mut self, letters: &Letters, pair: (u8, u8)) -> Option<u8> {
         for letter in 0..self.edges.k() {
             let window = self.edges.window(pair.0, letter);
@@ -123,8 +122,8 @@ impl Reach {
         None
     }
 
-    /// Makes pairs of a node and those of a set, to which steps lead from a pair; answers whether the node
-    /// is in the set.
+    /// Adds the pairs of a node and the nodes of a set, which steps reach from a pair. Returns whether the node is in
+    /// the set.
     fn join(&mut self, pair: (u8, u8), to: u8, ends: u16) -> bool {
         let mut rest = ends & !self.rows[usize::from(to % 16)];
         for _ in 0..MOST_NODES {
@@ -138,7 +137,7 @@ impl Reach {
         ends & bit(to) != 0
     }
 
-    /// Makes a pair of two nodes to which a step leads from a pair.
+    /// Adds the pair of two nodes that a step reaches from a pair.
     fn link(&mut self, pair: (u8, u8), to: u8, end: u8) {
         self.rows[usize::from(to % 16)] |= bit(end);
         self.rows[usize::from(end % 16)] |= bit(to);

@@ -1,42 +1,42 @@
-//! Rounds of pairs of different nodes: walks that come back to where they began.
+//! Loops of pairs of different nodes: walks that return to the pair at which they begin.
 use crate::edges::{Edges, bit, first_node};
 use crate::letters::Letters;
 use crate::reach::Links;
 use word_image::{MOST_NODES, MOST_PAIRS};
 
-/// More turns than a search takes: each of at most 120 pairs has 16 letters, and 256 pairs behind it.
+/// More steps than a search takes: each of at most 120 pairs has 16 letters, with up to 256 pairs after each.
 const MOST_TURNS: u16 = 40_000;
 
-/// A pair of a walk, and which ways from it are left.
+/// A pair of a walk, and the ways from it that haven't been tried.
 #[derive(Clone, Copy)]
 struct Stop {
     /// Its nodes.
     pair: (u8, u8),
-    /// The first letter that wasn't tried.
+    /// The first letter that hasn't been tried.
     letter: u8,
-    /// The first node of the pairs to which the letter before it leads.
+    /// The first node of the pairs that the letter before it reaches.
     to: u8,
-    /// The second nodes of those that weren't tried.
+    /// The second nodes of those that haven't been tried.
     rest: u16,
 }
 
-/// A search in depth for a round.
+/// A depth-first search for a loop.
 #[derive(Drop)]
 pub(crate) struct Rounds {
-    /// The pair to which the walk goes on from each pair of it.
+    /// For each pair of the walk the next pair.
     pub(crate) after: Links,
     /// The walk.
     stops: [Stop; MOST_PAIRS],
-    /// How many pairs it has.
+    /// The number of pairs of the walk.
     depth: u8,
-    /// For each node the nodes with which it is a pair of the walk.
+    /// For each node the nodes with which it forms a pair of the walk.
     open: [u16; MOST_NODES],
-    /// The same of the pairs from which all ways were tried.
+    /// For each node the nodes with which it forms a pair whose ways have all been tried.
     done: [u16; MOST_NODES],
 }
 
 impl Rounds {
-    /// No walk yet.
+    /// Starts without a walk.
     pub(crate) fn new() -> Rounds {
         let stop = Stop {
             pair: (0, 0),
@@ -53,7 +53,7 @@ impl Rounds {
         }
     }
 
-    /// Looks for a round behind the pairs of a node and those of a set, and answers with a pair of it.
+    /// Searches for a loop after the pairs of a node and the nodes of a set. Returns a pair of the loop.
     pub(crate) fn find(
         &mut self,
         edges: &Edges,
@@ -97,7 +97,7 @@ impl Rounds {
         None
     }
 
-    /// Goes on to a pair.
+    /// Adds a pair to the walk.
     fn enter(&mut self, pair: (u8, u8)) {
         self.stops[usize::from(self.depth)] = Stop {
             pair,
@@ -110,7 +110,7 @@ impl Rounds {
         self.open[usize::from(pair.1 % 16)] |= bit(pair.0);
     }
 
-    /// Goes on to the next of the pairs to which a letter leads.
+    /// Continues the walk with the next pair that a letter reaches.
     fn go_on(&mut self, top: u8, stop: Stop) {
         let end = first_node(stop.rest);
         self.stops[usize::from(top)].rest = stop.rest & !bit(end);
@@ -119,7 +119,7 @@ impl Rounds {
         }
     }
 
-    /// Goes back from a pair.
+    /// Removes the last pair of the walk.
     fn leave(&mut self, top: u8, stop: Stop) {
         let (u, v) = stop.pair;
         self.depth = top;
@@ -129,7 +129,7 @@ impl Rounds {
         self.done[usize::from(v % 16)] |= bit(u);
     }
 
-    /// Takes the next letter that leads to pairs, and answers whether one of these is of the walk.
+    /// Takes the next letter that reaches pairs. Returns whether one of these is on the walk.
     fn turn(&mut self, edges: &Edges, letters: &Letters, top: u8) -> bool {
         let stop = self.stops[usize::from(top)];
         for letter in stop.letter..edges.k() {
@@ -152,8 +152,7 @@ impl Rounds {
         false
     }
 
-    /// Notes where the walk goes on, now that the last letter leads back to a pair of it, and answers with this
-    /// pair.
+    /// Stores how the walk continues when the last letter leads back to a pair of it. Returns this pair.
     fn closed(&mut self, edges: &Edges, top: u8) -> u8 {
         let stop = self.stops[usize::from(top)];
         let back = stop.rest & self.open[usize::from(stop.to % 16)];
@@ -167,7 +166,7 @@ impl Rounds {
         edges.pair(pair.0, pair.1)
     }
 
-    /// Notes that the walk goes on from one pair to another, and so where they are turned round.
+    /// Stores that the walk continues from one pair to another, and the same for the reversed pairs.
     fn link(&mut self, edges: &Edges, pair: (u8, u8), next: (u8, u8)) {
         let (here, turned) = (edges.pair(pair.0, pair.1), edges.pair(pair.1, pair.0));
         self.after[usize::from(here)] = edges.pair(next.0, next.1);

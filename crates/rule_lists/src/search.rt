@@ -12,25 +12,25 @@ use crate::properties::has;
 use crate::tables::{Entries, advance, has_letters};
 use word_image::{MOST_ENTRIES, Rule};
 
-/// Gives the listed rules one after another, by ascending rank. It takes no memory.
+/// Returns the listed rules one after another, by ascending rank. Needs no memory.
 ///
-/// A search fills a table letter by letter, in the order of the windows. If the letters so far forbid the
-/// property, it doesn't fill the rest and goes on to the next letters. Hints only make it faster, since each
-/// is tested before letters are given up. At worst all `k^(k^m)` tables are filled.
+/// A search fills a table letter by letter, in the order of the windows. If the letters so far rule out the property,
+/// it doesn't fill the rest and continues with the next letters. Hints only make it faster, since each is tested
+/// before letters are given up. In the worst case it fills all `k^(k^m)` tables.
 #[derive(Drop)]
 pub struct Search<'a> {
-    /// What it is asked for.
+    /// The question that it answers.
     asked: Asked<'a>,
-    /// What the letters of the last table lead to.
+    /// The pairs that the letters of the last table reach.
     hints: Hints,
-    /// The rule behind which it goes on. `None`: it begins.
+    /// The rule after which it continues, or None at the beginning.
     last: Option<Rule>,
 }
 
 impl<'a> Search<'a> {
     ghost use Rattle.rule_lists.specs.Searches.{IsBehind};
 
-    /// Begins at the listed rule of least rank.
+    /// Starts at the listed rule of least rank.
     pub fn new(asked: Asked<'a>) -> Search<'a>
         requires { IsOrdered asked }
         ensures { IsBehind asked.entry None result }
@@ -43,8 +43,8 @@ impl<'a> Search<'a> {
         }
     }
 
-    /// Begins behind a rule of the shape: every rule that comes has a greater rank. This rule needn't have the
-    /// property.
+    /// Starts after a rule of the shape, which need not have the property: every rule that it returns has a greater
+    /// rank.
     pub fn after(asked: Asked<'a>, rule: &Rule) -> Search<'a>
         requires order { IsOrdered asked }
         requires shape { HasShape asked rule.now }
@@ -80,7 +80,7 @@ impl<'a> Iterator for Search<'a> {
     }
 }
 
-/// The first listed rule after the last one.
+/// Returns the first listed rule after the last one.
 fn next_listed(asked: &Asked, last: &Option<Rule>, hints: &mut Hints) -> Option<Rule>
     requires order { IsOrdered asked.now }
     requires shape { IfSome last.now (HasShape asked.now) }
@@ -92,7 +92,7 @@ fn next_listed(asked: &Asked, last: &Option<Rule>, hints: &mut Hints) -> Option<
     }
 }
 
-/// The listed rule of least rank.
+/// Returns the listed rule of least rank.
 fn first_rule(asked: &Asked, hints: &mut Hints) -> Option<Rule>
     requires { IsOrdered asked.now }
     ensures { IsNextListed asked.now None result }
@@ -100,7 +100,7 @@ fn first_rule(asked: &Asked, hints: &mut Hints) -> Option<Rule>
     rule_from(asked, entries_of(asked.shape), Some(0), hints)
 }
 
-/// The listed rule of the least rank that is greater than that of this rule.
+/// Returns the listed rule with the least rank that is greater than the rank of this rule.
 fn rule_after(asked: &Asked, rule: &Rule, hints: &mut Hints) -> Option<Rule>
     requires order { IsOrdered asked.now }
     requires shape { HasShape asked.now rule.now }
@@ -112,7 +112,7 @@ fn rule_after(asked: &Asked, rule: &Rule, hints: &mut Hints) -> Option<Rule>
     rule_from(asked, entries, next, hints)
 }
 
-/// The letters of a rule, and anything after them.
+/// Returns the letters of a rule, followed by any numbers.
 fn entries_of(rule: &Rule) -> Entries
     ensures letters { (v : ℕ) → v < rule.now.states ^ rule.now.width → slice_index result v ≡ slice_index rule.now.table v }
     ensures table { IsTable rule.now.states (rule.now.states ^ rule.now.width) result }
@@ -124,7 +124,7 @@ fn entries_of(rule: &Rule) -> Entries
     entries
 }
 
-/// The listed rule of least rank among those whose tables are these letters or come after them.
+/// Returns the listed rule of least rank whose table isn't before these letters.
 fn rule_from(asked: &Asked, start: Entries, first: Option<u16>, hints: &mut Hints) -> Option<Rule>
     requires order { IsOrdered asked.now }
     requires table { AreEntries asked.now start }
@@ -142,7 +142,7 @@ fn rule_from(asked: &Asked, start: Entries, first: Option<u16>, hints: &mut Hint
     None
 }
 
-/// The rule of a table whose letters all stand, if it has the property.
+/// Returns the rule of a complete table if it has the property.
 fn found(asked: &Asked, entries: &Entries, n: u16) -> Option<Rule>
     requires order { IsOrdered asked.now }
     requires table { AreEntries asked.now entries.now }
@@ -163,7 +163,7 @@ fn found(asked: &Asked, entries: &Entries, n: u16) -> Option<Rule>
     Some(rule)
 }
 
-/// The rule of a table.
+/// Returns the rule of a table.
 fn filled(k: u8, m: u8, entries: &Entries) -> Rule
     requires shape { IsShape k m (pos 0) }
     requires table { IsTable k (k ^ m) entries.now }
@@ -174,8 +174,8 @@ fn filled(k: u8, m: u8, entries: &Entries) -> Rule
     Rule::by(k, m, 0, |window| entries[usize::from(window)])
 }
 
-/// Adds a letter at the next window of the order, or goes on to the next letters where all stand, or
-/// where those that stand forbid the property.
+/// Adds a letter at the next window of the order, or continues with the next letters if the table is complete or its
+/// letters rule out the property.
 fn step(asked: &Asked, entries: &mut Entries, n: u16, hints: &mut Hints) -> Option<u16>
     requires order { IsOrdered asked.now }
     requires table { AreEntries asked.now entries.old }

@@ -1,4 +1,4 @@
-//! Whether fixed letters bar that a rule conserves the sum of every ring.
+//! Tests whether fixed letters rule out that a rule conserves the sum of every ring.
 ghost use Rattle.std.specs.Prelude.{◌≡◌, ◌*◌, ◌^◌, ◌<◌, IsTrue};
 ghost use Rattle.word_image.specs.LocalRules.{most_windows};
 ghost use Rattle.rule_lists.specs.Bars.{Bars};
@@ -9,7 +9,7 @@ use crate::forests::{Forest, forest_of};
 use crate::letters::Letters;
 use word_image::{Rule, Side};
 
-/// Whether the fixed letters bar that the rule is conserving, each letter of which weighs its own value.
+/// Returns whether the fixed letters rule out that the rule is conserving, if each letter weighs its own value.
 pub(crate) fn bars_conserving(shape: &Rule, letters: &Letters) -> bool
     ensures { IsTrue result → Bars Conserving shape.now.states shape.now.width letters.now }
 {
@@ -22,8 +22,8 @@ pub(crate) fn bars_conserving(shape: &Rule, letters: &Letters) -> bool
     false
 }
 
-/// Whether the nodes of a window are of one tree, and the letter with which it gains the difference of
-/// their levels is none, or not the one that is fixed.
+/// Returns whether the nodes of a window are in the same tree and the letter that the difference of their levels
+/// demands isn't a letter, or isn't the fixed one.
 fn has_no_letter(shape: &Rule, letters: &Letters, forest: &Forest, window: u16) -> bool
     requires window { window < shape.now.states ^ shape.now.width }
     requires known { AreKnown shape.now letters.now forest.now.trees forest.now.levels }

@@ -7,10 +7,10 @@ ghost use Rattle.rule_lists.specs.Tables.{IsTable, HasLetters, IsPast};
 use crate::letters::Letters;
 use word_image::MOST_ENTRIES;
 
-/// The letters of a table by the values of the windows, and anything after them.
+/// The letters of a table, by the values of the windows, followed by any numbers.
 pub(crate) type Entries = [u8; MOST_ENTRIES];
 
-/// Whether a table has each letter that is fixed from the beginning.
+/// Returns whether a table has all fixed letters.
 pub(crate) fn has_letters(k: u8, begin: &Letters, entries: &Entries, size: u16) -> bool
     requires { size ≤ most_windows }
     ensures { IsTrue result ↔ HasLetters k size begin.now entries.now }
@@ -23,8 +23,8 @@ pub(crate) fn has_letters(k: u8, begin: &Letters, entries: &Entries, size: u16) 
     true
 }
 
-/// Makes the letters at the first n windows of the order the next ones, and answers how many of these stand; `None`
-/// where there are no next ones.
+/// Replaces the letters at the first n windows of the order by the next ones. Returns how many of these are known, or
+/// None if there are no next ones.
 pub(crate) fn advance(k: u8, order: &[u8], entries: &mut Entries, n: u16) -> Option<u16>
     requires states { 2 ≤ k }
     requires order { (size : ℕ) × (size ≤ most_windows) × IsOrder size order.now }

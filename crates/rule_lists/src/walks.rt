@@ -1,4 +1,4 @@
-//! Walks of pairs of nodes by fixed letters alone, looked at step by step.
+//! Walks of pairs of nodes by fixed letters, tested step by step.
 ghost use Rattle.std.specs.Prelude.{◌≡◌, ◌<◌, ◌↔◌, IsTrue, slice_index};
 ghost use Rattle.word_image.specs.Graphs.{pair_count, first_of, second_of};
 ghost use Rattle.rule_lists.specs.EndlessPairs.{FixedLeadsOn, IsFixedStep};
@@ -8,8 +8,8 @@ use crate::letters::{Letters, are_one};
 use crate::reach::Links;
 use word_image::{Rule, Side};
 
-/// Whether the fixed letters lead to a pair from a node with itself, first to two different nodes: back
-/// along links to the pairs before.
+/// Returns whether the fixed letters lead to a pair from a node with itself, first to two different nodes. It follows
+/// links to the pairs before.
 pub(crate) fn is_tail(
     side: Side,
     shape: &Rule,
@@ -34,7 +34,7 @@ pub(crate) fn is_tail(
     false
 }
 
-/// Whether the fixed letters lead from a pair back to it, along links to the pairs behind.
+/// Returns whether the fixed letters lead from a pair back to it. It follows links to the next pairs.
 pub(crate) fn is_round(
     side: Side,
     shape: &Rule,
@@ -59,7 +59,7 @@ pub(crate) fn is_round(
     false
 }
 
-/// Whether a number is that of a pair, and the two nodes are one.
+/// Returns whether a number is the number of a pair of two equal nodes.
 pub(crate) fn has_one_node(shape: &Rule, pair: u16) -> bool
     requires { pair < pair_count shape.now }
     ensures { IsTrue result ↔ (first_of shape.now pair ≡ second_of shape.now pair) }
@@ -68,7 +68,7 @@ pub(crate) fn has_one_node(shape: &Rule, pair: u16) -> bool
     u == v
 }
 
-/// Whether fixed letters lead from one pair to another on this side.
+/// Returns whether fixed letters lead from one pair to another on this side.
 fn leads_on(side: Side, shape: &Rule, letters: &Letters, from: u16, to: u16) -> bool
     ensures from { IsTrue result → from < pair_count shape.now }
     ensures to { IsTrue result → to < pair_count shape.now }
@@ -86,7 +86,7 @@ fn leads_on(side: Side, shape: &Rule, letters: &Letters, from: u16, to: u16) -> 
     }
 }
 
-/// Whether two letters lead from one pair to another, along two windows with one fixed letter.
+/// Returns whether two letters lead from one pair to another, along two windows with equal fixed letters.
 fn is_step(shape: &Rule, letters: &Letters, from: u16, to: u16) -> bool
     requires from { from < pair_count shape.now }
     requires to { to < pair_count shape.now }
