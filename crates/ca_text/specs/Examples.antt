@@ -14,7 +14,7 @@ fault_with_place : operand_fault_line 1 (fault.Form 3) ≡ line (codes "rule fau
 unfolding digits
 fault_with_place = refl
 
--- a fault without a place is its kind alone
+-- a fault without a place is only its kind
 fault_without_place : operand_fault_line 2 fault.Nodes ≡ line (codes "rule fault 2 nodes")
 unfolding digits
 fault_without_place = refl

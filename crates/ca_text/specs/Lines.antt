@@ -1,4 +1,4 @@
--- The lines of what is found but of a report.
+-- The lines of findings, except reports.
 use Rattle.std.specs.Prelude.{ℕ, ◌+◌, ◌-◌, ◌*◌, List, ◌++◌, codes, slice_index, Option, None, Some}
 use Rattle.std.specs.List.{flat_map, range_with_len}
 use Rattle.std.specs.Fmt.{decimal}
@@ -12,31 +12,31 @@ use Rattle.tail_preimage.specs.Preimages.{PlacedConfig}
 use Rattle.ca_findings.specs.Counts.{Counts}
 use Rattle.ca_text.specs.Reports.{line}
 
--- a rule, or that there is none
+-- the text of a rule, or that there is none
 abbrev pub rule_text : Option LocalRule → List ℕ
 rule_text None = codes "none"
 rule_text (Some r) = printed_rule r
 
--- the four lines of a map over a window: the window, where the cells that it reads begin, its letters, and what is said of it as a rule
+-- the four lines of a map over a window: the window, the offset of the map, its letters, and the map as a rule
 abbrev pub map_lines : ℕ → ℕ → WindowMap → Option LocalRule → List ℕ
 map_lines n c g rule =
     line (codes "window " ++ decimal n ++ codes " " ++ decimal c) ++ line (codes "offset " ++ offset_text g.offset)
     ++ line (codes "map " ++ word_text g.table) ++ line (codes "rule " ++ rule_text rule)
 
--- how many classes there are
+-- the line with the number of classes
 abbrev pub classes_line : ℕ → List ℕ
 classes_line n = line (codes "classes " ++ decimal n)
 
--- the class of the orphans
+-- the line with the class of the orphans
 abbrev pub dead_line : Option ℕ → List ℕ
 dead_line None = line (codes "dead none")
 dead_line (Some i) = line (codes "dead " ++ decimal i)
 
--- the class after class i on a letter
+-- the class that follows class i on a letter
 abbrev pub after_class : Automaton → ℕ → ℕ → ℕ
 after_class m i a = slice_index m.next (i * m.states + a)
 
--- the classes after class i, letters ascending, with a blank between
+-- the classes that follow class i, with letters ascending and blanks between them
 abbrev pub class_line : Automaton → ℕ → List ℕ
 class_line m i = line (decimal (after_class m i 0) ++ flat_map (λ a. codes " " ++ decimal (after_class m i a)) (range_with_len 1 (m.states - 1)))
 
@@ -44,11 +44,11 @@ class_line m i = line (decimal (after_class m i 0) ++ flat_map (λ a. codes " " 
 abbrev pub automaton_lines : Automaton → List ℕ
 automaton_lines m = classes_line m.classes ++ dead_line m.dead ++ flat_map (class_line m) (range_with_len 0 m.classes)
 
--- the text of a placed configuration: the place where its middle begins, and the configuration
+-- the text of a placed configuration: the place at which its middle begins, and the configuration
 abbrev pub placed_text : PlacedConfig → List ℕ
 placed_text p = codes "preimage " ++ offset_text p.at ++ codes " " ++ tail.printed p.config
 
--- how many left and right periods the word spans, and the word
+-- the numbers of left and right periods in the stretch, and its word
 abbrev pub gap_text : ℕ → ℕ → List ℕ → List ℕ
 gap_text before after w = codes "no preimage " ++ decimal before ++ codes " " ++ decimal after ++ codes " " ++ word_text w
 

@@ -1,4 +1,4 @@
--- What is written of all that can be said.
+-- The texts of all replies.
 use Rattle.std.specs.Prelude.{ℕ, List}
 use Rattle.ca_findings.specs.Replies.{Reply}
 use Rattle.ca_text.specs.Texts.{text_of, unfit_text}

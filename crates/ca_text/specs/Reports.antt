@@ -8,31 +8,31 @@ use Rattle.rule_text.specs.PrintedRules.{printed_rule, offset_text, number_found
 use Rattle.cert_values.specs.Evidence.{InjectiveEvidence, SideEvidence, SumEvidence, Window, Twins, Ahead, Split, Flux, Ring, says_open}
 use Rattle.certificate_laws.specs.LeastEvidence.{Evidence}
 
--- a text, and the byte that ends a line
+-- a text and the byte at the end of a line
 abbrev pub line : List ℕ → List ℕ
 line text = text ++ 10 ∷ []
 
--- a number, where there is one
+-- a number, or that there is none
 abbrev pub number_line : Option ℕ → List ℕ
 number_line None = line (codes "number none")
 number_line (Some n) = line (codes "number " ++ decimal n)
 
--- every word has a preimage, or else this is an orphan
+-- every word has a preimage, or this is an orphan
 abbrev pub surjective_line : Option (List ℕ) → List ℕ
 surjective_line None = line (codes "surjective yes")
 surjective_line (Some w) = line (codes "surjective no orphan " ++ word_text w)
 
--- a window, or else twins
+-- a window, or twins
 abbrev pub injective_line : InjectiveEvidence → List ℕ
 injective_line (Window n c) = line (codes "injective yes window " ++ decimal n ++ codes " " ++ decimal c)
 injective_line (Twins x y) = line (codes "injective no twins " ++ word_text x ++ codes " " ++ word_text y)
 
--- the line of a side by its name: a look-ahead, or else a split
+-- the line of a side with its name: a look-ahead, or a split
 abbrev pub side_line : List ℕ → SideEvidence → List ℕ
 side_line name (Ahead n) = line (name ++ codes " yes ahead " ++ decimal n)
 side_line name (Split x y) = line (name ++ codes " no split " ++ tail.printed x ++ codes " " ++ tail.printed y)
 
--- a flux, or else a ring
+-- a flux, or a ring
 abbrev pub conserving_line : SumEvidence → List ℕ
 conserving_line (Flux phi) = line (codes "conserving yes flux" ++ flat_map (λ z. codes " " ++ offset_text z) phi)
 conserving_line (Ring p) = line (codes "conserving no ring " ++ word_text p)

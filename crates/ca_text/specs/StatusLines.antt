@@ -1,4 +1,4 @@
--- The lines of the statuses: what is said of words, operands, inputs and certificates.
+-- The lines of the statuses: of words, operands, inputs and certificates.
 use Rattle.std.specs.Prelude.{ℕ, Bool, List, [], ◌++◌, length, codes, bytes_eq, if◌then◌else◌, Option, Some, None}
 use Rattle.std.specs.List.{join_by}
 use Rattle.std.specs.Fmt.{decimal}
@@ -26,7 +26,7 @@ operand_fault_line operand f = line (codes "rule fault " ++ decimal operand ++ c
 abbrev pub too_long_line : List ℕ
 too_long_line = line (codes "too long")
 
--- the line of a cause for which nothing fits
+-- the line of a cause why nothing fits
 abbrev pub unfit_line : List ℕ → List ℕ
 unfit_line text = line (codes "notfit " ++ text)
 
@@ -36,11 +36,11 @@ unfit_line text = line (codes "notfit " ++ text)
 abbrev pub verdict_line : List ℕ → Bool → List ℕ
 verdict_line name verdict = line (name ++ (if verdict then codes " yes" else codes " no"))
 
--- what each letter weighs, exactly where one doesn't weigh its own value
+-- the weight of each letter, if some letter doesn't weigh its own value
 abbrev pub weights_lines : List ℕ → List ℕ
 weights_lines weights = if bytes_eq weights (own_weights (length weights)) then [] else line (codes "weights " ++ join_by decimal (codes ",") weights)
 
--- the seven lines, and that of the weights
+-- the seven lines, and the line of the weights
 abbrev pub accepted_lines : Verdicts → List ℕ
 accepted_lines v =
     line (codes "accepted " ++ printed_rule v.rule) ++ verdict_line (codes "surjective") v.surjective ++ verdict_line (codes "injective") v.injective
@@ -65,6 +65,6 @@ number_parts (numbers.Three a b c) = codes " " ++ decimal a ++ codes " " ++ deci
 abbrev pub refusal_text : Parts → List ℕ
 refusal_text p = p.cause ++ word_part p.side ++ word_part p.because ++ word_part p.key ++ word_part p.fault ++ number_parts p.numbers
 
--- the line
+-- the line of a refused certificate
 abbrev pub refused_line : Refusal → List ℕ
 refused_line f = line (codes "refused " ++ refusal_text (parts_of f))

@@ -1,4 +1,4 @@
--- How findings are written, and why nothing fits.
+-- The texts of findings, and of causes why nothing fits.
 use Rattle.std.specs.Prelude.{ℕ, List, ◌++◌, codes, Option, None, Some}
 use Rattle.std.specs.Fmt.{decimal}
 use Rattle.word_image.specs.Digits.{word_text}
@@ -21,7 +21,7 @@ abbrev pub erased_line : Option (List ℕ × List ℕ) → List ℕ
 erased_line None = line (codes "erase none")
 erased_line (Some pair) = line (codes "erase " ++ word_text pair.0 ++ codes " " ++ word_text pair.1)
 
--- what is written of a finding
+-- the text of a finding
 abbrev pub text_of : Finding → List ℕ
 text_of (Finding.Report e) = report_lines e
 text_of (Finding.Written c) = certificate_text c
@@ -37,14 +37,14 @@ text_of (Finding.Gap before after w) = line (gap_text before after w)
 text_of (Finding.Summary t) = counts_lines t
 text_of (Finding.Classes t n) = counts_lines t ++ count_line (codes "classes") n
 
--- why three parts make no configuration
+-- the words for the reason why three parts don't form a configuration
 abbrev pub tail_text : TailFault → List ℕ
 tail_text tail.LeftEmpty = codes "tail leftempty"
 tail_text tail.RightEmpty = codes "tail rightempty"
 tail_text (tail.Long part) = codes "tail long"
 tail_text (tail.Letter part place) = codes "tail letter"
 
--- why nothing fits
+-- the words for a cause why nothing fits
 abbrev pub unfit_text : Unfit → List ℕ
 unfit_text (Unfit.Twins x y) = codes "twins " ++ word_text x ++ codes " " ++ word_text y
 unfit_text (Unfit.Wide n) = codes "wide " ++ decimal n

@@ -27,7 +27,7 @@ fn write_count(alloc: Global, output: &mut Output, name: &str, count: u16) -> Re
     output.push_line(&format!(in alloc; "{name} {count}")?)
 }
 
-/// Appends the line of how many classes there are.
+/// Appends the line with the number of classes.
 pub fn write_classes(alloc: Global, output: &mut Output, classes: usize) -> Result<(), AllocError>
     ensures { OnOk result (output.new ≡ output.old ++ count_line (codes "classes") classes) }
 {

@@ -2,11 +2,11 @@
 ghost use Rattle.std.specs.Prelude.{◌≡◌, ◌+◌, ◌≤◌, ◌++◌, length, drop};
 ghost use Rattle.std.specs.Fmt.{decimal};
 
-/// The most digits of a number below 2^32.
+/// The greatest number of digits of a number below 2^32.
 pub const MOST_DIGITS: usize = 10;
 
-/// Writes the digits of a number into the bytes, so that they end before place `end`, and gives the place
-/// of the first. What stands from `end` on stays.
+/// Writes the digits of a number so that they end before place `end`, and returns the place of the first digit. The
+/// bytes from `end` on stay unchanged.
 pub fn write_decimal(number: u32, bytes: &mut [u8], end: usize) -> usize
     requires room { length (decimal number) ≤ end }
     requires end { end ≤ length bytes.old }

@@ -1,4 +1,4 @@
-//! What is said of a fault, and why nothing fits.
+//! The lines of faults and of causes why nothing fits.
 ghost use Rattle.std.specs.Prelude.{◌≡◌, IfOk};
 ghost use Rattle.ca_findings.specs.Values.{unfit_of};
 ghost use Rattle.ca_text.specs.StatusLines.{operand_fault_line, unfit_line};
@@ -13,7 +13,7 @@ use rule_text::{TextFault, fault_kind};
 use std::alloc::{AllocError, Global};
 use tail_config::TailFault;
 
-/// The line of a cause for which nothing fits.
+/// Returns the line of a cause why nothing fits.
 pub fn unfit_output(alloc: Global, cause: &Cause) -> Result<Output, AllocError>
     requires { IsWritableUnfit (unfit_of cause.now) }
     ensures { IfOk result (λ output. output ≡ unfit_line (unfit_text (unfit_of cause.now))) }
@@ -32,7 +32,7 @@ pub fn unfit_output(alloc: Global, cause: &Cause) -> Result<Output, AllocError>
     }
 }
 
-/// The line that says which fault the operand with this number has.
+/// Returns the line with the fault of the operand with this number.
 pub fn operand_fault_output(
     alloc: Global,
     operand: u8,
@@ -44,7 +44,7 @@ pub fn operand_fault_output(
     Output::line(alloc, &format!(in alloc; "rule fault {operand} {kind}")?)
 }
 
-/// Why three parts make no configuration.
+/// Returns the words for the reason why three parts don't form a configuration.
 fn tail_name(fault: TailFault) -> &'static str
     ensures { result.now ≡ tail_text fault }
 {

@@ -13,7 +13,7 @@ use inverse_table::InverseMap;
 use std::alloc::{AllocError, Global};
 use word_image::Rule;
 
-/// The four lines of an inverse map over a window.
+/// Returns the four lines of an inverse map over a window.
 pub fn map_output(alloc: Global, inverse: &Inverse) -> Result<Output, AllocError>
     ensures { IfOk result (λ output. output ≡ map_lines inverse.now.n inverse.now.c inverse.now.map inverse.now.rule) }
 {
@@ -32,7 +32,7 @@ fn write_map_window(alloc: Global, output: &mut Output, n: u16, c: u16) -> Resul
     output.push_line(&format!(in alloc; "window {n} {c}")?)
 }
 
-/// Appends the line that says where the window lies.
+/// Appends the line with the offset of the map.
 fn write_offset(alloc: Global, output: &mut Output, map: &InverseMap) -> Result<(), AllocError>
     ensures { OnOk result (output.new ≡ output.old ++ line (codes "offset " ++ offset_text map.now.offset)) }
 {

@@ -1,4 +1,4 @@
-//! The lines that say which words are images.
+//! The lines about the words that have a preimage.
 ghost use Rattle.std.specs.Prelude.{◌≡◌, ℕ, ◌+◌, ◌<◌, ◌≤◌, ◌++◌, drop, length, slice_index, IfOk, OnOk};
 ghost use Rattle.std.specs.Fmt.{decimal};
 ghost use Rattle.image_minimal.specs.ImageLanguages as languages;
@@ -13,13 +13,14 @@ use ca_findings::{Automaton, Pair};
 use std::alloc::{AllocError, Global};
 use word_image::{MOST_STATES, Word};
 
-/// The most bytes of a class in a line: five digits, since it is below 65,536, and a blank or the line end.
+/// The greatest number of bytes of a class in a line: five digits, since it is below 65,536, and a blank or the end
+/// of the line.
 const MOST_PIECE: usize = 6;
 
-/// The most bytes of the line of a class.
+/// The greatest number of bytes of the line of a class.
 const MOST_LINE: usize = MOST_PIECE * MOST_STATES;
 
-/// The lines of an automaton.
+/// Returns the lines of an automaton.
 pub fn automaton_output(alloc: Global, automaton: &Automaton) -> Result<Output, AllocError>
     requires { HasRows (automaton_of automaton.now) }
     ensures { IfOk result (λ output. output ≡ automaton_lines (automaton_of automaton.now)) }
@@ -37,7 +38,7 @@ pub fn automaton_output(alloc: Global, automaton: &Automaton) -> Result<Output, 
     Ok(output)
 }
 
-/// Appends the line that names the class of the orphans.
+/// Appends the line with the class of the orphans.
 fn write_dead(alloc: Global, output: &mut Output, dead: Option<u32>) -> Result<(), AllocError>
     ensures { OnOk result (output.new ≡ output.old ++ dead_line dead) }
 {
@@ -47,7 +48,7 @@ fn write_dead(alloc: Global, output: &mut Output, dead: Option<u32>) -> Result<(
     }
 }
 
-/// Appends the line of the classes to which a class leads.
+/// Appends the line with the classes that follow a class.
 fn write_class(output: &mut Output, automaton: &Automaton, class: u32) -> Result<(), AllocError>
     requires rows { HasRows (automaton_of automaton.now) }
     requires class { class < automaton.now.classes }
@@ -58,7 +59,7 @@ fn write_class(output: &mut Output, automaton: &Automaton, class: u32) -> Result
     write_row(output, automaton.states, &automaton.next[first..first + k])
 }
 
-/// Appends the line of these classes, one for each of k letters.
+/// Appends the line with these classes, one for each of k letters.
 fn write_row(output: &mut Output, k: u8, row: &[u16]) -> Result<(), AllocError>
     requires some { 0 < k }
     requires most { k ≤ 16 }
@@ -76,8 +77,8 @@ fn write_row(output: &mut Output, k: u8, row: &[u16]) -> Result<(), AllocError>
     output.push(&bytes[first..])
 }
 
-/// Writes the digits of a class, at most five, so that they end before place `end`, and gives the place of
-/// the first.
+/// Writes the digits of a class, at most five, so that they end before place `end`. Returns the place of the first
+/// digit.
 fn write_short(class: u16, bytes: &mut [u8], end: usize) -> usize
     requires room { 5 ≤ end }
     requires end { end ≤ length bytes.old }
@@ -88,7 +89,7 @@ fn write_short(class: u16, bytes: &mut [u8], end: usize) -> usize
     write_decimal(u32::from(class), bytes, end)
 }
 
-/// The line of a word that is an orphan of one rule alone, or of none.
+/// Returns the line with a word that is an orphan of only one rule, or of none.
 pub fn same_output(alloc: Global, word: &Option<Word>) -> Result<Output, AllocError>
     requires { HasDigits word.now }
     ensures { IfOk result (λ output. output ≡ same_line word.now) }
@@ -99,7 +100,7 @@ pub fn same_output(alloc: Global, word: &Option<Word>) -> Result<Output, AllocEr
     }
 }
 
-/// The line of an erasable pair, or of none.
+/// Returns the line with an erasable pair, or with none.
 pub fn erased_output(alloc: Global, pair: &Option<Pair>) -> Result<Output, AllocError>
     requires { HavePairDigits (pair_of pair.now) }
     ensures { IfOk result (λ output. output ≡ erased_line (pair_of pair.now)) }

@@ -1,16 +1,17 @@
-//! How findings are written, and all else that the program says.
+//! The texts of findings and of all other replies.
 //!
-//! A text is made of values that are there: it decides nothing. What is written of a reply is the definition `reply_text`
-//! of specs/Replies.antt, and the function [`reply_text`] writes it. Of a finding that is `text_of`, a line for each kind:
-//! the eight lines of a report, the four of an inverse map, the seven of counts, and an eighth where classes are counted,
-//! an automaton's two and one for each class, a certificate as it is, and otherwise one line. Of a cause for which nothing
-//! fits, an operand with a fault, a refused certificate, an input that is too long, and words that are no command it is
-//! one line, and of an accepted certificate seven, and an eighth where a letter doesn't weigh its own value.
+//! This crate only formats values. It decides nothing. The definition `reply_text` of specs/Replies.antt says what
+//! the text of a reply is, and the function [`reply_text`] writes it. A finding has the text `text_of`: eight lines
+//! for a report, four for an inverse map, seven for counts, and an eighth if classes are counted, two for an
+//! automaton and one more for each class, the text of a certificate, and one line for everything else. One line is
+//! written for a cause why nothing fits, an operand with a fault, a refused certificate, an input that is too long,
+//! and words that are no command. An accepted certificate has seven lines, and an eighth if some letter doesn't weigh
+//! its own value.
 //!
-//! A word is written with a hexadecimal digit for each letter, so only what has letters below 16 can be written. Each
-//! right finding about accepted rules has, which is the law `right_findings_are_writable` of ca_findings.
+//! A word is written with a hexadecimal digit for each letter, so letters must be below 16. The law
+//! `right_findings_are_writable` of ca_findings says that they are, in each right finding about accepted rules.
 //!
-//! A text is whole in memory, an [`Output`], and takes time and memory **O(n)** for its n bytes.
+//! A text is in memory as a whole, as an [`Output`], and takes time and memory **O(n)** for its n bytes.
 #![tactic(auto)]
 
 mod counts;

@@ -11,7 +11,7 @@ use std::alloc::{AllocError, Global};
 use std::marker::Model;
 use word_image::word_text;
 
-/// The bytes that go to the sink. Lines are appended to it, and it is seen as the list of its bytes.
+/// The bytes for the sink, to which lines are appended. In contracts it is the list of its bytes.
 #[derive(Debug, Drop)]
 pub struct Output {
     bytes: Vec<u8>,
@@ -26,7 +26,7 @@ impl Model for Output {
 }
 
 impl Output {
-    /// An output of no bytes.
+    /// Makes an empty output.
     pub fn new(alloc: Global) -> Output
         ensures { result ≡ [] }
     {
@@ -35,7 +35,7 @@ impl Output {
         }
     }
 
-    /// An output of no bytes, with room for so many.
+    /// Makes an empty output with capacity for `room` bytes.
     pub fn with_room(alloc: Global, room: usize) -> Result<Output, AllocError>
         ensures { IfOk result (λ output. output ≡ []) }
     {
@@ -43,14 +43,14 @@ impl Output {
         Ok(Output { bytes })
     }
 
-    /// The output of these bytes.
+    /// Makes an output of these bytes.
     pub fn of(bytes: Vec<u8>) -> Output
         ensures { result ≡ bytes.items }
     {
         Output { bytes }
     }
 
-    /// The text as a line.
+    /// Makes an output of a text as a line.
     pub fn line(alloc: Global, text: &str) -> Result<Output, AllocError>
         ensures { IfOk result (λ output. output ≡ line text.now) }
     {
@@ -59,7 +59,7 @@ impl Output {
         Ok(output)
     }
 
-    /// The line that says why nothing can be made.
+    /// Makes the line of a cause why nothing fits.
     pub fn unfit(alloc: Global, cause: &str) -> Result<Output, AllocError>
         ensures { IfOk result (λ output. output ≡ unfit_line cause.now) }
     {
@@ -69,7 +69,7 @@ impl Output {
         Ok(output)
     }
 
-    /// The text with the digits of a word behind it, as a line.
+    /// Makes a line of a text and the digits of a word.
     pub fn line_with_word(alloc: Global, text: &str, word: &[u8]) -> Result<Output, AllocError>
         requires { IsWord 16 word.now }
         ensures { IfOk result (λ output. output ≡ line (text.now ++ word_text word.now)) }
@@ -79,7 +79,7 @@ impl Output {
         Ok(output)
     }
 
-    /// The text with the digits of two words behind it and a blank between, as a line.
+    /// Makes a line of a text and the digits of two words, with a blank between them.
     pub fn line_with_words(
         alloc: Global,
         text: &str,
@@ -127,7 +127,7 @@ impl Output {
         self.push(b"\n")
     }
 
-    /// Appends the text with the digits of a word behind it, as a line.
+    /// Appends a line of a text and the digits of a word.
     pub fn push_line_with_word(
         &mut self,
         alloc: Global,
@@ -142,7 +142,7 @@ impl Output {
         self.push(b"\n")
     }
 
-    /// Appends the text with the digits of two words behind it and a blank between, as a line.
+    /// Appends a line of a text and the digits of two words, with a blank between them.
     pub fn push_line_with_words(
         &mut self,
         alloc: Global,
@@ -161,7 +161,7 @@ impl Output {
         self.push(b"\n")
     }
 
-    /// The bytes so far.
+    /// Returns the bytes so far.
     pub fn as_slice(&self) -> &[u8]
         ensures { result.now ≡ self.now }
     {

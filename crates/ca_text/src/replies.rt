@@ -13,8 +13,8 @@ use ca_findings::Reply;
 use cert_conditions::Verdicts;
 use std::alloc::{AllocError, Global};
 
-/// What is written of a reply: of a finding its text, and otherwise a line, or the seven or eight of a certificate that
-/// is accepted. The only error is want of memory.
+/// Returns the text of a reply: the text of a finding, the lines of an accepted certificate, or otherwise one line.
+/// The only error is lack of memory.
 pub fn reply_text(alloc: Global, reply: &Reply) -> Result<Output, AllocError>
     requires { IsWritableReply (reply_of reply.now) }
     ensures { IfOk result (λ output. output ≡ reply_text (reply_of reply.now)) }
@@ -30,7 +30,7 @@ pub fn reply_text(alloc: Global, reply: &Reply) -> Result<Output, AllocError>
     }
 }
 
-/// The lines of an accepted certificate.
+/// Returns the lines of an accepted certificate.
 fn accepted_output(alloc: Global, verdicts: &Verdicts) -> Result<Output, AllocError>
     ensures { IfOk result (λ output. output ≡ accepted_lines verdicts.now) }
 {

@@ -33,7 +33,7 @@ pub fn write_report(alloc: Global, output: &mut Output, report: &Report) -> Resu
     write_conserving(alloc, output, &report.conserving)
 }
 
-/// Appends the printed rule.
+/// Appends the line of the rule.
 pub fn write_rule(alloc: Global, output: &mut Output, rule: &Rule) -> Result<(), AllocError>
     ensures { OnOk result (output.new ≡ output.old ++ line (codes "rule " ++ printed_rule rule.now)) }
 {
@@ -42,7 +42,7 @@ pub fn write_rule(alloc: Global, output: &mut Output, rule: &Rule) -> Result<(),
     output.push(b"\n")
 }
 
-/// Appends the line of a number, where there is one.
+/// Appends the line of a number, or of none.
 pub fn write_number(
     alloc: Global,
     output: &mut Output,
@@ -56,7 +56,7 @@ pub fn write_number(
     }
 }
 
-/// Appends the line on surjectivity.
+/// Appends the line about surjective.
 pub fn write_surjective(
     alloc: Global,
     output: &mut Output,
@@ -71,7 +71,7 @@ pub fn write_surjective(
     }
 }
 
-/// Appends the line on injectivity.
+/// Appends the line about injective.
 fn write_injective(
     alloc: Global,
     output: &mut Output,
@@ -88,14 +88,14 @@ fn write_injective(
     }
 }
 
-/// Appends the line that names a determined window.
+/// Appends the line with a determined window.
 fn write_determined(alloc: Global, output: &mut Output, n: u16, c: u16) -> Result<(), AllocError>
     ensures { OnOk result (output.new ≡ output.old ++ injective_line (Window n c)) }
 {
     output.push_line(&format!(in alloc; "injective yes window {n} {c}")?)
 }
 
-/// Appends the line of a side.
+/// Appends the line about a side.
 fn write_side(
     alloc: Global,
     output: &mut Output,
@@ -110,7 +110,7 @@ fn write_side(
     }
 }
 
-/// Appends the line that names a split.
+/// Appends the line with a split.
 fn write_split(
     alloc: Global,
     output: &mut Output,
@@ -125,7 +125,7 @@ fn write_split(
     write_texts(output, name, &x, &y)
 }
 
-/// Appends the line of a side that doesn't close, with the texts of two configurations.
+/// Appends the line about a side that doesn't close, with the texts of two configurations.
 fn write_texts(output: &mut Output, name: &str, x: &[u8], y: &[u8]) -> Result<(), AllocError>
     ensures { OnOk result (output.new ≡ output.old ++ line (name.now ++ codes " no split " ++ (x.now ++ codes " " ++ y.now))) }
 {
@@ -137,14 +137,14 @@ fn write_texts(output: &mut Output, name: &str, x: &[u8], y: &[u8]) -> Result<()
     output.push(b"\n")
 }
 
-/// Appends the line that says whether the rule closes on both sides.
+/// Appends the line about open, which means that the rule closes on both sides.
 fn write_open(output: &mut Output, both: bool) -> Result<(), AllocError>
     ensures { OnOk result (output.new ≡ output.old ++ line (if both then codes "open yes" else codes "open no")) }
 {
     output.push_line(if both { "open yes" } else { "open no" })
 }
 
-/// Appends the line on the sum of the letters.
+/// Appends the line about conserving.
 fn write_conserving(alloc: Global, output: &mut Output, found: &SumPart) -> Result<(), AllocError>
     requires { HasRingDigits (sum_of found.now) }
     ensures { OnOk result (output.new ≡ output.old ++ conserving_line (sum_of found.now)) }
@@ -159,7 +159,7 @@ fn write_conserving(alloc: Global, output: &mut Output, found: &SumPart) -> Resu
     }
 }
 
-/// Appends the line that names a flux.
+/// Appends the line with a flux.
 fn write_flux(alloc: Global, output: &mut Output, flows: &[i32]) -> Result<(), AllocError>
     ensures { OnOk result (output.new ≡ output.old ++ line (codes "conserving yes flux" ++ flat_map (λ z. codes " " ++ offset_text z) flows.now)) }
 {

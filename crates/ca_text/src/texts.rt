@@ -22,7 +22,7 @@ use rule_text::print;
 use std::alloc::{AllocError, Global};
 use word_image::{Rule, Word};
 
-/// What is written of a finding.
+/// Returns the text of a finding.
 pub fn text(alloc: Global, found: &Found) -> Result<Output, AllocError>
     requires { IsWritable (finding_of found.now) }
     ensures { IfOk result (λ output. output ≡ text_of (finding_of found.now)) }
@@ -43,7 +43,7 @@ pub fn text(alloc: Global, found: &Found) -> Result<Output, AllocError>
     }
 }
 
-/// The eight lines of a report.
+/// Returns the eight lines of a report.
 fn report_output(alloc: Global, report: &Report) -> Result<Output, AllocError>
     requires { IsWritable (Finding.Report (evidence_of report.now)) }
     ensures { IfOk result (λ output. output ≡ report_lines (evidence_of report.now)) }
@@ -53,7 +53,7 @@ fn report_output(alloc: Global, report: &Report) -> Result<Output, AllocError>
     Ok(output)
 }
 
-/// The line of an orphan, or of none.
+/// Returns the line of an orphan, or of none.
 fn orphan_output(alloc: Global, orphan: &Option<Word>) -> Result<Output, AllocError>
     requires { HasDigits orphan.now }
     ensures { IfOk result (λ output. output ≡ surjective_line orphan.now) }
@@ -63,7 +63,7 @@ fn orphan_output(alloc: Global, orphan: &Option<Word>) -> Result<Output, AllocEr
     Ok(output)
 }
 
-/// The line of a number, where there is one.
+/// Returns the line of a number, or of none.
 fn number_output(alloc: Global, number: Option<u128>) -> Result<Output, AllocError>
     ensures { IfOk result (λ output. output ≡ number_line number) }
 {
@@ -72,7 +72,7 @@ fn number_output(alloc: Global, number: Option<u128>) -> Result<Output, AllocErr
     Ok(output)
 }
 
-/// The text of a rule, as a line.
+/// Returns the text of a rule as a line.
 fn rule_output(alloc: Global, rule: &Rule) -> Result<Output, AllocError>
     ensures { IfOk result (λ output. output ≡ line (printed_rule rule.now)) }
 {
@@ -82,7 +82,7 @@ fn rule_output(alloc: Global, rule: &Rule) -> Result<Output, AllocError>
     Ok(output)
 }
 
-/// The seven lines of a summary.
+/// Returns the seven lines of a summary.
 fn counts_output(alloc: Global, counts: &Counts) -> Result<Output, AllocError>
     ensures { IfOk result (λ output. output ≡ counts_lines (counts_of counts.now)) }
 {
@@ -91,7 +91,7 @@ fn counts_output(alloc: Global, counts: &Counts) -> Result<Output, AllocError>
     Ok(output)
 }
 
-/// The same, and that of the classes.
+/// Returns these lines and the line with the number of classes.
 fn classes_output(alloc: Global, counts: &Counts, classes: usize) -> Result<Output, AllocError>
     ensures { IfOk result (λ output. output ≡ counts_lines (counts_of counts.now) ++ count_line (codes "classes") classes) }
 {

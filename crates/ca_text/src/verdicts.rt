@@ -1,4 +1,4 @@
-//! What is said of a certificate: its verdicts, or why it is refused.
+//! The lines about a certificate: its verdicts, or why it is refused.
 ghost use Rattle.std.specs.Prelude.{◌≡◌, ◌++◌, codes, if◌then◌else◌, IfOk, OnOk};
 ghost use Rattle.std.specs.Option.{option_map};
 ghost use Rattle.std.specs.List.{flat_map, join_by};
@@ -14,7 +14,7 @@ use rule_text::print;
 use std::alloc::{AllocError, Global};
 use word_image::{Rule, Weights};
 
-/// Appends the seven lines of an accepted certificate, and that of its weights.
+/// Appends the seven lines of an accepted certificate, and the line of its weights.
 pub fn write_accepted(
     alloc: Global,
     output: &mut Output,
@@ -32,7 +32,7 @@ pub fn write_accepted(
     write_weights(alloc, output, &verdicts.weights)
 }
 
-/// Appends the line that names the rule.
+/// Appends the line with the rule.
 fn write_rule(alloc: Global, output: &mut Output, rule: &Rule) -> Result<(), AllocError>
     ensures { OnOk result (output.new ≡ output.old ++ line (codes "accepted " ++ printed_rule rule.now)) }
 {
@@ -49,7 +49,7 @@ fn write_verdict(output: &mut Output, name: &str, yes: bool) -> Result<(), Alloc
     output.push_line(verdict_name(yes))
 }
 
-/// Appends the line that says what each letter weighs, exactly where one doesn't weigh its own value.
+/// Appends the line with the weight of each letter, if some letter doesn't weigh its own value.
 fn write_weights(alloc: Global, output: &mut Output, weights: &Weights) -> Result<(), AllocError>
     ensures { OnOk result (output.new ≡ output.old ++ weights_lines weights.now) }
 {
@@ -61,7 +61,7 @@ fn write_weights(alloc: Global, output: &mut Output, weights: &Weights) -> Resul
     output.push(b"\n")
 }
 
-/// Appends numbers with a comma between.
+/// Appends numbers with commas between them.
 fn write_numbers(alloc: Global, output: &mut Output, numbers: &[u8]) -> Result<(), AllocError>
     ensures { OnOk result (output.new ≡ output.old ++ join_by decimal (codes ",") numbers.now) }
 {
@@ -88,7 +88,7 @@ fn verdict_name(yes: bool) -> &'static str
     if yes { " yes" } else { " no" }
 }
 
-/// The line of a refused certificate. Want of memory has none, and is handed on.
+/// Returns the line of a refused certificate. If the refusal is lack of memory, returns it as the error.
 pub fn refused_output(alloc: Global, refusal: Refusal) -> Result<Output, AllocError>
     ensures { IfOk result (λ output. output ≡ refused_line refusal) }
 {
@@ -100,7 +100,7 @@ pub fn refused_output(alloc: Global, refusal: Refusal) -> Result<Output, AllocEr
     Ok(output)
 }
 
-/// Appends the parts of a refusal, with blanks between.
+/// Appends the parts of a refusal, with blanks between them.
 fn write_parts(
     alloc: Global,
     output: &mut Output,

@@ -1,4 +1,4 @@
-//! The flux of weights that a rule keeps.
+//! The flux of weights of words that a rule keeps.
 ghost use Rattle.std.specs.Prelude.{◌≡◌, ℕ, ◌+◌, ◌-◌, ◌*◌, ◌^◌, ◌<◌, ◌≤◌, ◌↔◌, ℤ, pos, ◌-ℤ◌, IfSome, IsSome, IsTrue};
 ghost use Rattle.std.specs.Int.RustNames.{unsigned_abs};
 ghost use Rattle.word_image.specs.LocalRules.{value, word_of};
@@ -10,20 +10,20 @@ ghost use Rattle.kept_sums.specs.Fluxes.{IsFluxList, AreGains, IsFlowBy, window_
 use crate::rows::Row;
 use word_image::Rule;
 
-/// The most words of m + range - 2 letters: those of seven letters of two states.
+/// The greatest number of words of m + range - 2 letters: words of seven letters of two states.
 pub const MOST_FLOWS: usize = 128;
 
-/// The most words of m + range - 1 letters.
+/// The greatest number of words of m + range - 1 letters.
 const MOST_WINDOWS: usize = 256;
 
-/// A number for each word of m + range - 2 letters, by its value, and zeros after them.
+/// A number for each word of m + range - 2 letters, by its value, followed by zeros.
 pub type Flux = [i64; MOST_FLOWS];
 
-/// A number for each word of m + range - 1 letters, by its value, and zeros after them.
+/// A number for each word of m + range - 1 letters, by its value, followed by zeros.
 type Gains = [i64; MOST_WINDOWS];
 
-/// The flux of weights of words, the one with 0 for the word of letters 0 (Hattori and Takesue 1991); or
-/// nothing, where the rule doesn't keep their sum. No weight may be greater than 2^56, or less than its negative.
+/// Returns the flux of weights of words that is 0 for the word of zeros (Hattori and Takesue 1991), or None if the
+/// rule doesn't keep their sum. Weights are from -2^56 to 2^56.
 pub fn flux(rule: &Rule, range: u8, weights: &Row) -> Option<Flux>
     requires some { 1 ≤ range }
     requires few { rule.now.states ^ range ≤ 16 }
@@ -42,7 +42,7 @@ pub fn flux(rule: &Rule, range: u8, weights: &Row) -> Option<Flux>
     }
 }
 
-/// Whether the rule keeps the sum of these weights.
+/// Returns whether the rule keeps the sum of these weights.
 pub(crate) fn is_kept(rule: &Rule, range: u8, weights: &Row) -> bool
     requires some { 1 ≤ range }
     requires few { rule.now.states ^ range ≤ 16 }
@@ -52,7 +52,7 @@ pub(crate) fn is_kept(rule: &Rule, range: u8, weights: &Row) -> bool
     flux(rule, range, weights).is_some()
 }
 
-/// What each window of m + range - 1 letters adds to the sum, by its value.
+/// Returns for each window of m + range - 1 letters, by its value, how much it adds to the sum.
 fn gains(rule: &Rule, range: u8, weights: &Row) -> Gains
     requires some { 1 ≤ range }
     requires few { rule.now.states ^ range ≤ 16 }
@@ -68,7 +68,7 @@ fn gains(rule: &Rule, range: u8, weights: &Row) -> Gains
     gains
 }
 
-/// What the image of a window weighs more than its first letters.
+/// Returns the weight of the image of a window minus the weight of its first letters.
 fn gain(rule: &Rule, range: u8, weights: &Row, window: u16) -> i64
     requires some { 1 ≤ range }
     requires few { rule.now.states ^ range ≤ 16 }
@@ -82,7 +82,7 @@ fn gain(rule: &Rule, range: u8, weights: &Row, window: u16) -> i64
     weights[usize::from(after)] - weights[usize::from(before)]
 }
 
-/// The value of the image of a window.
+/// Returns the value of the image of a window.
 fn image_value(rule: &Rule, range: u8, window: u16) -> u8
     requires some { 1 ≤ range }
     requires few { rule.now.states ^ range ≤ 16 }
@@ -100,7 +100,8 @@ fn image_value(rule: &Rule, range: u8, window: u16) -> u8
     word
 }
 
-/// The number of each word, if there is a flux: the walk from the word of letters 0 to it adds the negative.
+/// Returns the number of each word, if there is a flux: the negative of what the walk from the word of zeros to the
+/// word adds to the sum.
 fn numbers(k: u16, letters: u8, gains: &Gains) -> Flux
     requires states { 2 ≤ k }
     requires few { k ^ (letters + 1) ≤ 256 }
@@ -112,14 +113,14 @@ fn numbers(k: u16, letters: u8, gains: &Gains) -> Flux
     ensures ends { (v : ℕ) → k ^ letters ≤ v → v < 128 → at result v ≡ pos 0 }
 {
     let mut flux = [0; MOST_FLOWS];
-    // The window 0 w goes from w without its last letter to w.
+    // The window 0 w leads from w without its last letter to w.
     for word in 1..k.pow(u32::from(letters)) {
         flux[usize::from(word)] = flux[usize::from(word / k)] - gains[usize::from(word)];
     }
     flux
 }
 
-/// Whether each window adds the number of its first letters less that of its last ones.
+/// Returns whether each window adds the number of its first letters minus the number of its last letters.
 fn flow_by(k: u16, letters: u8, gains: &Gains, flux: &Flux) -> bool
     requires states { 2 ≤ k }
     requires few { k ^ (letters + 1) ≤ 256 }

@@ -1,4 +1,4 @@
-//! Which sums a rule keeps.
+//! All sums that a rule keeps.
 ghost use Rattle.std.specs.Prelude.{◌≡◌, ◌≢◌, ℕ, ◌+◌, ◌-◌, ◌*◌, ◌^◌, ◌<◌, ◌≤◌, length, take, set, true, pos, ◌<ℤ◌};
 ghost use Rattle.word_image.specs.Rings.{IsRing};
 ghost use Rattle.kept_sums.specs.Rows.{IsUnit};
@@ -12,19 +12,19 @@ use crate::rows::{MOST_WORDS, Row, gain};
 use crate::steps::{Rows, last_gain, narrow};
 use word_image::Rule;
 
-/// What is found: a row of weights or a ring for each word that doesn't begin with the letter 0.
+/// The result: a row of weights or a ring for each word that doesn't begin with the letter 0.
 #[repr(C)]
 #[derive(Clone, Copy, Debug)]
 pub struct KeptSums {
-    /// The rows, each in the place of the first word that it gives a weight; and rows of zeros.
+    /// The rows, each at the place of the first word to which it gives a weight. The other rows are zeros.
     pub rows: Rows,
-    /// How many letters the ring has that shows that there is no row in a place, 0 where there is none.
+    /// The length of the ring that shows that a place has no row, or 0 if there is no ring.
     pub counts: [u8; MOST_WORDS],
-    /// The letters of these rings, and others after them.
+    /// The letters of these rings, followed by any others.
     pub rings: [[u8; LONGEST]; MOST_WORDS],
 }
 
-/// A row for each word that doesn't begin with the letter 0, which gives it the weight 1.
+/// Returns a row for each word that doesn't begin with the letter 0, which gives only this word a weight, 1.
 fn start(rule: &Rule, range: u8) -> KeptSums
     requires some { 1 ≤ range }
     requires few { rule.now.states ^ range ≤ 16 }
@@ -44,7 +44,7 @@ fn start(rule: &Rule, range: u8) -> KeptSums
     }
 }
 
-/// The row that gives one place the weight 1.
+/// Returns the row with the weight 1 at one place.
 fn unit(place: u8) -> Row
     requires { place < 16 }
     ensures { IsUnit place result }
@@ -54,8 +54,8 @@ fn unit(place: u8) -> Row
     row
 }
 
-/// Narrows the sums by a ring. Most rings change nothing, so it writes in place: a copy of the sums would cost
-/// more than the ring.
+/// Narrows the sums by a ring, which means that their rows keep its sum afterwards. Most rings change nothing, so
+/// this works in place: a copy of the sums would cost more than the ring.
 fn narrow_by_ring(rule: &Rule, range: u8, sums: &mut KeptSums, letters: &[u8; LONGEST], count: u8)
     requires few { rule.now.states ^ range ≤ 16 }
     requires stage { IsStage rule.now range sums.old.rows sums.old.counts sums.old.rings }
@@ -74,7 +74,7 @@ fn narrow_by_ring(rule: &Rule, range: u8, sums: &mut KeptSums, letters: &[u8; LO
     };
     sums.counts[usize::from(pivot)] = count;
     sums.rings[usize::from(pivot)] = *letters;
-    // The row gains more than nothing by the two words in one of their orders.
+    // The row has a positive gain for the two words in one of their orders.
     if gain(&sums.rows[usize::from(pivot)], after, before) > 0 {
         narrow(&mut sums.rows, pivot, after, before)
     } else {
@@ -82,7 +82,7 @@ fn narrow_by_ring(rule: &Rule, range: u8, sums: &mut KeptSums, letters: &[u8; LO
     }
 }
 
-/// The sums narrowed by all rings of so many letters.
+/// Returns the sums narrowed by all rings of this length.
 fn narrowed_by_rings(rule: &Rule, range: u8, sums: KeptSums, count: u8) -> KeptSums
     requires few { rule.now.states ^ range ≤ 16 }
     requires stage { IsStage rule.now range sums.rows sums.counts sums.rings }
@@ -101,7 +101,7 @@ fn narrowed_by_rings(rule: &Rule, range: u8, sums: KeptSums, count: u8) -> KeptS
     sums
 }
 
-/// Whether the rule keeps the sum of each row that has a number in its own place.
+/// Returns whether the rule keeps the sum of each row that has a number at its own place.
 fn are_kept(rule: &Rule, range: u8, rows: &Rows) -> bool
     requires some { 1 ≤ range }
     requires few { rule.now.states ^ range ≤ 16 }
@@ -116,7 +116,7 @@ fn are_kept(rule: &Rule, range: u8, rows: &Rows) -> bool
     true
 }
 
-/// The sums of integer weights of words of so many letters that a rule keeps on every ring.
+/// Returns the sums of integer weights of words of `range` letters that a rule keeps on every ring.
 pub fn kept_sums(rule: &Rule, range: u8) -> KeptSums
     requires some { 1 ≤ range }
     requires few { rule.now.states ^ range ≤ 16 }

@@ -1,33 +1,33 @@
-//! Which sums of integer weights a rule keeps: all of them (Hattori and Takesue 1991).
+//! All sums of integer weights of words that a rule keeps (Hattori and Takesue 1991).
 //!
-//! A weight is an integer for each word of r letters, and the sum on a ring adds up the weights of the
-//! words that begin at each place. A rule keeps it where each ring and its image have one sum. For one
-//! letter these are the conserved sums of cells; for two letters pairs of neighbours are counted, and
-//! so on. There are at most 16 words of r letters.
+//! A weight is an integer for each word of r letters. The sum on a ring adds up the weights of the words that begin
+//! at its places. A rule keeps the sum if it is the same on each ring and on the ring's image. For words of one
+//! letter these are the conserved sums of cells. For words of two letters pairs of neighbours are weighed, and so on.
+//! There are at most 16 words of r letters.
 //!
-//! Every rule keeps the trivial sums, which say only how many letters the ring has. Each weight is in
-//! one way a trivial one and a normal one, which is 0 at each word that begins with the letter 0. So
-//! what is answered is a basis of the normal ones that are kept, in reduced form: each row begins with
-//! a positive number where the other rows have 0, and only 1 divides all its numbers. There is one
+//! Every rule keeps the trivial sums, which only depend on the length of the ring. Each choice of weights is the sum
+//! of a trivial one and a normal one, in exactly one way. Normal weights are 0 for each word that begins with the
+//! letter 0. The answer is a basis of the normal weights that are kept, in reduced form: each row begins with a
+//! positive number at a place where the other rows have 0, and only 1 divides all its numbers. There is exactly one
 //! such basis.
 //!
-//! Rule 184 keeps the sum of its cells. Rule 14 doesn't, but it keeps how often 10 stands in a ring.
-//! Rule 204 keeps everything.
+//! Rule 184 keeps the sum of its cells. Rule 14 doesn't, but it keeps the number of occurrences of 10 in a ring. Rule
+//! 204 keeps everything.
 //!
-//! [`flux`] gives for weights that a rule keeps a number for each word of m + r - 2 letters: what a window of
-//! one letter more adds to the sum is the difference of the numbers of its two ends. It reads the numbers off the
-//! windows that begin with 0, and tests them on all.
+//! For weights that a rule keeps, [`flux`] returns a number for each word of m + r - 2 letters. A window with one
+//! more letter adds to the sum the difference of the numbers at its two ends. `flux` reads the numbers from the
+//! windows that begin with 0, and tests them on all windows.
 //!
-//! [`kept_sums`] begins with one row for each word that doesn't begin with 0, and goes through the
-//! rings of at most 2 (m + r) - 3 letters, shorter ones first, until each row that is left has a flux. Where the last row that gains by a ring
-//! gains v, each row b that gains u is replaced by v times b less u times that row, divided by its
-//! greatest common divisor. That row is then 0, and the ring is noted in its place. The rings that are
-//! noted show that there is no more: each weight whose sums they keep is a rational combination of the
-//! rows and a trivial one. No number is greater than 2^56: a row is, up to multiples, the only solution
-//! of the conditions so far on one place more than there are conditions, and such conditions have a
-//! small solution.
+//! [`kept_sums`] begins with one row for each word that doesn't begin with 0. It goes through the rings of at most 2
+//! (m + r) - 3 letters, shorter ones first, until each row that is left has a flux. The gain of a row by a ring is
+//! its sum on the image minus its sum on the ring. If some row has a gain, let v be the gain of the last such row.
+//! Each row b with gain u is replaced by v times b minus u times that last row, divided by its greatest common
+//! divisor. The last row itself becomes 0, and the ring is stored in its place. The stored rings show that there are
+//! no other sums: all weights whose sums they keep are rational combinations of the rows and of trivial weights. No
+//! number is greater than 2^56: up to multiples, a row is the only solution of the conditions so far on one more
+//! place than there are conditions, and such conditions have a small solution.
 //!
-//! It takes no memory, and time O(k^(2(m + r))) at worst, with at most 65,534 rings.
+//! It needs no memory, and takes time O(k^(2(m + r))) in the worst case, with at most 65,534 rings.
 #![tactic(auto)]
 
 mod fluxes;

@@ -1,18 +1,18 @@
-//! How many letters the words may have.
+//! The possible lengths of weighed words.
 ghost use Rattle.std.specs.Prelude.{◌≡◌, ◌≤◌};
 ghost use Rattle.std.specs.Result.{result_err};
 ghost use Rattle.kept_sums.specs.RangeFaults.{range_fault};
 
-/// Why there are no sums of words of so many letters.
+/// Why words of this length can't be weighed.
 #[derive(Clone, Copy, Debug, PartialEq, Eq)]
 pub enum RangeFault {
     /// The words have no letter.
     Zero,
-    /// There are more than 16 words of so many letters.
+    /// There are more than 16 words of this length.
     Words,
 }
 
-/// Accepts words of a letter at least of which there are at most 16, and else says what is wrong.
+/// Accepts words of at least one letter if there are at most 16 of them, and returns the fault otherwise.
 pub fn check_range(k: u8, range: u8) -> Result<(), RangeFault>
     requires least { 2 ≤ k }
     requires most { k ≤ 16 }
@@ -21,7 +21,7 @@ pub fn check_range(k: u8, range: u8) -> Result<(), RangeFault>
     if range == 0 {
         return Err(RangeFault::Zero);
     }
-    // Five letters of two states are 32 words already.
+    // There are 32 words of five letters of two states.
     if range > 4 || u32::from(k).pow(u32::from(range)) > 16 {
         return Err(RangeFault::Words);
     }

@@ -1,4 +1,4 @@
-//! Rings of few letters: one by one, their images, and the words round them.
+//! Short rings: their images, and the words around them.
 ghost use Rattle.std.specs.Prelude.{◌≡◌, ◌^◌, ◌<◌, ◌≤◌, length, take, pos};
 ghost use Rattle.std.specs.Int.{int_rem_euclid};
 ghost use Rattle.word_image.specs.LocalRules.{IsRule, value, word_of};
@@ -8,10 +8,10 @@ ghost use Rattle.kept_sums.specs.Stages.{IsCondition};
 
 use word_image::{Rule, ring_apply};
 
-/// The most letters of a ring that is looked at: 2 (m + range) - 3 at width 5 and range 4.
+/// The greatest length of a ring that is tested: 2 (m + range) - 3 at width 5 and range 4.
 pub const LONGEST: usize = 15;
 
-/// The values of the words of so many letters round the image of a ring, and round the ring, and others after them.
+/// Returns the values of the words around the image of a ring and around the ring, each followed by any numbers.
 pub(crate) fn words(rule: &Rule, range: u8, ring: &[u8]) -> ([u8; LONGEST], [u8; LONGEST])
     requires ring { IsRing rule.now.states ring.now }
     requires short { length ring.now ≤ 15 }
@@ -25,8 +25,7 @@ pub(crate) fn words(rule: &Rule, range: u8, ring: &[u8]) -> ([u8; LONGEST], [u8;
     (after, before)
 }
 
-/// The values of the words of so many letters round a ring, one from each place on, and zeros after
-/// them.
+/// Returns the values of the words around a ring, beginning at each place, followed by zeros.
 fn blocks(k: u8, range: u8, ring: &[u8]) -> [u8; LONGEST]
     requires ring { IsRing k ring.now }
     requires short { length ring.now ≤ 15 }
@@ -41,7 +40,7 @@ fn blocks(k: u8, range: u8, ring: &[u8]) -> [u8; LONGEST]
     values
 }
 
-/// The value of the word of so many letters that begins at a place of a ring.
+/// Returns the value of the word of `range` letters that begins at a place of a ring.
 fn block(k: u8, range: u8, ring: &[u8], place: usize) -> u8
     requires ring { IsRing k ring.now }
     requires short { length ring.now ≤ 15 }
@@ -57,7 +56,7 @@ fn block(k: u8, range: u8, ring: &[u8], place: usize) -> u8
     word
 }
 
-/// The image of a ring, and zeros after it.
+/// Returns the image of a ring, followed by zeros.
 fn image_letters(rule: &Rule, ring: &[u8]) -> [u8; LONGEST]
     requires ring { IsRing rule.now.states ring.now }
     requires short { length ring.now ≤ 15 }
@@ -72,7 +71,7 @@ fn image_letters(rule: &Rule, ring: &[u8]) -> [u8; LONGEST]
     letters
 }
 
-/// Where the window of place 0 begins, on a ring of this many letters.
+/// Returns the place at which the window of place 0 begins, on a ring of `count` letters.
 fn first_place(rule: &Rule, count: usize) -> usize
     requires some { 0 < count }
     requires fits { count < 2 ^ 63 }
@@ -81,7 +80,7 @@ fn first_place(rule: &Rule, count: usize) -> usize
     i64::from(rule.o()).rem_euclid(count as i64) as usize
 }
 
-/// The word of so many letters that has this value, and zeros after it.
+/// Returns the word of `count` letters with this value, followed by zeros.
 pub(crate) fn word_with(k: u8, count: u8, value: u64) -> [u8; LONGEST]
     requires some { 1 ≤ k }
     requires few { k ≤ 16 }
