@@ -44,14 +44,14 @@ impl<'a> Model for Parts<'a> {
 }
 
 impl<'a> Parts<'a> {
-    /// Whether both periods have a letter.
+    /// Returns whether both periods have a letter.
     fn have_periods(&self) -> bool
         ensures { IsTrue result ↔ HavePeriods self.now }
     {
         !self.left.is_empty() && !self.right.is_empty()
     }
 
-    /// Whether all letters are below k.
+    /// Returns whether all letters are below k.
     fn are_over(&self, k: u8) -> bool
         requires { HavePeriods self.now }
         ensures { IsTrue result ↔ IsTail k self.now }
@@ -59,7 +59,7 @@ impl<'a> Parts<'a> {
         are_letters(k, self.left) && are_letters(k, self.middle) && are_letters(k, self.right)
     }
 
-    /// The letter at a place.
+    /// Returns the letter at a place.
     fn cell(&self, i: i64) -> u8
         requires periods { HavePeriods self.now }
         ensures { result ≡ cell self.now i }
@@ -86,7 +86,7 @@ impl<'a> Parts<'a> {
         }
     }
 
-    /// The letter of the image under a rule, at a place.
+    /// Returns the letter of the image at a place.
     fn image_cell(&self, rule: &Rule, i: i64) -> u8
         requires config { IsTail rule.now.states self.now }
         requires place { unsigned_abs i ≤ 2 ^ 62 }
@@ -98,7 +98,7 @@ impl<'a> Parts<'a> {
         rule.apply(window)
     }
 
-    /// Writes the letters of the image under a rule, from a place on.
+    /// Writes the letters of the image from a place on.
     fn write_letters(&self, rule: &Rule, first: i64, letters: &mut [u8])
         requires config { IsTail rule.now.states self.now }
         requires place { unsigned_abs first ≤ 2 ^ 61 }
@@ -111,22 +111,22 @@ impl<'a> Parts<'a> {
     }
 }
 
-/// Whether all letters of a word are below k.
+/// Returns whether all letters of a word are below k.
 fn are_letters(k: u8, word: &[u8]) -> bool
     ensures { IsTrue result ↔ IsWord k word.now }
 {
     word.iter().all(|letter| *letter < k)
 }
 
-/// Whether so many places from this one on are within reach.
+/// Returns whether the first place and all that follow are at most 2^61 from place 0.
 fn are_within_reach(first: i64, count: usize) -> bool
     ensures { IsTrue result ↔ AreWithinReach first count }
 {
     first.unsigned_abs() <= REACH && count as u64 <= REACH
 }
 
-/// Writes the letters of the image of a configuration under a rule, from a place on; else it gives the number of the first fault,
-/// and the letters are as they were. It takes no memory.
+/// Writes the letters of the image of a configuration from a place on, and returns 0. If a part is faulty it returns
+/// the number of the first fault and leaves the letters as they were. It takes no memory.
 pub fn write_image(rule: &Rule, parts: &Parts, first: i64, letters: &mut [u8]) -> u8
     ensures { IsImageCall rule.now parts.now first letters.old result letters.new }
 {
@@ -144,13 +144,15 @@ pub fn write_image(rule: &Rule, parts: &Parts, first: i64, letters: &mut [u8]) -
     0
 }
 
-/// The image of a ring is that of the configuration whose periods are the ring, at the places from 0 on.
+/// Law: the image of a ring is the image of the configuration that repeats the ring on both sides, at the places from
+/// 0 on.
 pub fn image_of_ring()
     ensures { (r : LocalRule) (p : List ℕ)
         → run (image_cell r (config_of p [] p)) (pos 0) (length p) ≡ ring_image r p }
 {}
 
-/// The image of a word is that of any configuration whose middle is the word, at the places whose windows lie in it.
+/// Law: the image of a word is the image of any configuration whose middle is the word, at the places whose windows
+/// lie in it.
 pub fn image_of_word()
     ensures { (r : LocalRule) (left w right : List ℕ) → IsRule r → r.width ≤ length w + 1
         → run (image_cell r (config_of left w right)) (neg_ℤ r.offset) (length w - (r.width - 1)) ≡ image r w }

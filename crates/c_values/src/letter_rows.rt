@@ -41,13 +41,13 @@ pub struct SplitRows {
     pub y: TailRows,
 }
 
-/// The row of no word.
+/// The row of an empty word.
 pub const NO_ROW: LetterRow = LetterRow {
     begin: 0,
     length: 0,
 };
 
-/// The rows of no two words.
+/// The rows of two empty words.
 pub const NO_TWINS: TwinRows = TwinRows {
     x: NO_ROW,
     y: NO_ROW,
@@ -65,7 +65,7 @@ pub const NO_SPLIT: SplitRows = SplitRows {
     y: NO_TAIL,
 };
 
-/// Adds a word behind the letters, and gives its row.
+/// Adds a word behind the letters, and returns its row.
 pub fn add_word(letters: &mut Vec<u8>, word: &[u8]) -> Result<LetterRow, AllocError>
     ensures letters { OnOk result (letters.new.items ≡ letters.old.items ++ word.now) }
     ensures row { IfOk result (λ row. IsRow letters.new.items row word.now) }
@@ -78,7 +78,7 @@ pub fn add_word(letters: &mut Vec<u8>, word: &[u8]) -> Result<LetterRow, AllocEr
     })
 }
 
-/// Adds two words behind the letters, and gives their rows.
+/// Adds two words behind the letters, and returns their rows.
 pub fn add_twins(letters: &mut Vec<u8>, x: &Word, y: &Word) -> Result<TwinRows, AllocError>
     ensures letters { OnOk result (letters.new.items ≡ letters.old.items ++ (x.now ++ y.now)) }
     ensures rows { IfOk result (λ rows. AreTwinRows letters.new.items rows x.now y.now) }
@@ -88,7 +88,7 @@ pub fn add_twins(letters: &mut Vec<u8>, x: &Word, y: &Word) -> Result<TwinRows, 
     Ok(TwinRows { x, y })
 }
 
-/// Adds the parts of a configuration behind the letters, and gives their rows.
+/// Adds the parts of a configuration behind the letters, and returns their rows.
 fn add_tail(letters: &mut Vec<u8>, tail: &Tail) -> Result<TailRows, AllocError>
     ensures letters { OnOk result (letters.new.items ≡ letters.old.items ++ tail_letters tail.now.config) }
     ensures rows { IfOk result (λ rows. AreTailRows letters.new.items rows tail.now.config) }
@@ -103,7 +103,7 @@ fn add_tail(letters: &mut Vec<u8>, tail: &Tail) -> Result<TailRows, AllocError>
     })
 }
 
-/// Adds the parts of two configurations behind the letters, and gives their rows.
+/// Adds the parts of two configurations behind the letters, and returns their rows.
 pub fn add_split(letters: &mut Vec<u8>, x: &Tail, y: &Tail) -> Result<SplitRows, AllocError>
     ensures letters { OnOk result (letters.new.items ≡ letters.old.items ++ split_letters x.now.config y.now.config) }
     ensures rows { IfOk result (λ rows. AreSplitRows letters.new.items rows x.now.config y.now.config) }

@@ -8,7 +8,8 @@ ghost use Rattle.c_values.specs.NextRules.{IsNoProperty, IsToCome, fixed_letters
 use rule_lists::{Asked, Letters, Property, Search};
 use word_image::{MOST_ENTRIES, Rule};
 
-/// The property that a number stands for, that of its bit in a byte of verdicts.
+/// Returns the property of a number: 1, 2, 4, 8, 16 or 32, its bit in a byte of verdicts. There is none for other
+/// numbers.
 pub fn property_of(number: u8) -> Option<Property>
     ensures some { IfSome result (λ property. number ≡ property_number property) }
     ensures none { IsNone result → IsNoProperty number }
@@ -24,7 +25,7 @@ pub fn property_of(number: u8) -> Option<Property>
     }
 }
 
-/// A rule of this shape, at offset 0, for the shape alone.
+/// Returns some rule of this shape at offset 0, for callers that need only the shape.
 pub fn shape_rule(states: u8, width: u8) -> Rule
     requires { IsShape states width (pos 0) }
     ensures states { result.states ≡ states }
@@ -34,7 +35,7 @@ pub fn shape_rule(states: u8, width: u8) -> Rule
     Rule::by(states, width, 0, |_| 0)
 }
 
-/// The letters that tables begin with, and no letter behind them.
+/// Returns the letters that tables begin with; all later letters are free.
 pub fn letters_of(begin: &[u8]) -> Letters
     requires { length begin.now ≤ 256 }
     ensures { result ≡ fixed_letters begin.now }
@@ -44,7 +45,8 @@ pub fn letters_of(begin: &[u8]) -> Letters
     letters
 }
 
-/// The first rule of the shape of this one that has the property and the fixed letters, or the first one after it.
+/// Returns the first rule of the shape of this one that has the property and the fixed letters, or the first that
+/// comes after this one.
 pub fn next_rule(
     property: Property,
     letters: &Letters,
@@ -71,7 +73,7 @@ pub fn next_rule(
     search.next()
 }
 
-/// Writes the letters of a rule.
+/// Copies the letters of a rule.
 pub fn write_table(rule: &Rule, table: &mut [u8])
     requires { length table.old ≡ length rule.now.table }
     ensures { table.new ≡ rule.now.table }

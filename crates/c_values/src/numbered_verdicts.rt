@@ -4,14 +4,14 @@ ghost use Rattle.c_values.specs.NumberedVerdicts.{number_code};
 
 use rule_text::TextFault;
 
-/// The number that two halves make.
+/// Returns the number whose upper and lower 64 bits these are.
 pub fn joined(high: u64, low: u64) -> u128
     ensures { result ≡ high * 2 ^ 64 + low }
 {
     u128::from(high) * 0x1_0000_0000_0000_0000 + u128::from(low)
 }
 
-/// The number that stands for a fault.
+/// Returns the number of a fault.
 pub fn number_of(fault: TextFault) -> u8
     ensures { result ≡ number_code (Some fault) }
 {

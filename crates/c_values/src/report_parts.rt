@@ -10,7 +10,7 @@ use cert_values::{InjectivePart, SidePart, SumPart};
 use std::alloc::AllocError;
 use word_image::{FluxRow, Word};
 
-/// The most nodes, and so the most numbers of a flux.
+/// The most nodes of a rule, and so the most numbers of a flux.
 pub const MOST_NODES: usize = 16;
 
 /// Whether a rule is surjective, and its orphan.
@@ -46,7 +46,7 @@ pub struct Conserving {
     pub ring: LetterRow,
 }
 
-/// What is said of surjective.
+/// Returns what the report says of surjective, and adds the letters of an orphan.
 pub fn add_surjective(
     letters: &mut Vec<u8>,
     orphan: &Option<Word>,
@@ -66,7 +66,7 @@ pub fn add_surjective(
     }
 }
 
-/// What is said of injective.
+/// Returns what the report says of injective, and adds the letters of twins.
 pub fn add_injective(letters: &mut Vec<u8>, part: &InjectivePart) -> Result<Injective, AllocError>
     ensures letters { OnOk result (letters.new.items ≡ letters.old.items ++ injective_letters (injective_of part.now)) }
     ensures part { IfOk result (λ said. SaysInjective letters.new.items said.holds said.window said.place said.twins (injective_of part.now)) }
@@ -87,7 +87,7 @@ pub fn add_injective(letters: &mut Vec<u8>, part: &InjectivePart) -> Result<Inje
     }
 }
 
-/// What is said of closing on a side.
+/// Returns what the report says of closing on a side, and adds the letters of a split.
 pub fn add_side(letters: &mut Vec<u8>, part: &SidePart) -> Result<Side, AllocError>
     ensures letters { OnOk result (letters.new.items ≡ letters.old.items ++ side_letters (side_of part.now)) }
     ensures part { IfOk result (λ said. SaysSide letters.new.items said.holds said.ahead said.split (side_of part.now)) }
@@ -106,7 +106,7 @@ pub fn add_side(letters: &mut Vec<u8>, part: &SidePart) -> Result<Side, AllocErr
     }
 }
 
-/// What is said of conserving.
+/// Returns what the report says of conserving, and adds the letters of a ring.
 pub fn add_conserving(letters: &mut Vec<u8>, part: &SumPart) -> Result<Conserving, AllocError>
     requires { IsShortSum (sum_of part.now) }
     ensures letters { OnOk result (letters.new.items ≡ letters.old.items ++ sum_letters (sum_of part.now)) }
@@ -128,7 +128,7 @@ pub fn add_conserving(letters: &mut Vec<u8>, part: &SumPart) -> Result<Conservin
     }
 }
 
-/// The numbers of a flux, and zeros after them.
+/// Returns the numbers of a flux, and zeros after them.
 fn numbers(flux: &FluxRow) -> [i32; MOST_NODES]
     requires { length flux.now ≤ 16 }
     ensures { result ≡ flux_row flux.now }

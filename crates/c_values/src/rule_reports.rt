@@ -15,56 +15,56 @@ use rule_verdicts::Evidence;
 use std::alloc::{AllocError, Global};
 use word_image::Rule;
 
-/// The number of the fault that there isn't one weight for each letter.
+/// The number of the fault that the count of weights differs from the count of letters.
 const NO_WEIGHTS: u8 = 18;
 
-/// The verdicts of a rule, each with the least evidence, whose words stand in a buffer. A verdict is 1 where
-/// it holds, and else 0.
+/// The verdicts of a rule, each with its least evidence, whose words stand in a buffer. A verdict is 1 if it holds,
+/// and else 0.
 #[repr(C)]
 #[derive(Clone, Copy, Debug)]
 pub struct RuleReport {
-    /// 0 where there is a report; else the number of the first fault, and all below are 0.
+    /// 0 if there is a report. Otherwise the number of the first fault, and all fields below are 0.
     pub fault: u8,
     /// Whether every word has a preimage.
     pub surjective: u8,
     /// Whether no two different configurations share an image.
     pub injective: u8,
-    /// Whether no two that agree on the left do.
+    /// Whether no two different configurations that agree on the left share an image.
     pub right: u8,
-    /// Whether no two that agree on the right do.
+    /// Whether no two different configurations that agree on the right share an image.
     pub left: u8,
-    /// Whether both of these hold: the rule is open.
+    /// Whether the rule is right-closing and left-closing.
     pub is_open: u8,
     /// Whether every ring keeps the sum of the weights of its letters.
     pub conserving: u8,
     /// How many numbers the flux has.
     pub nodes: u8,
-    /// How many letters of an image determine one of the letters behind them, where the rule is injective.
+    /// How many letters of an image determine the letter at `place` behind them, if the rule is injective.
     pub window: u32,
-    /// Which of these it is.
+    /// The place of the letter that the window determines.
     pub place: u32,
-    /// The look-ahead, where the rule is right-closing.
+    /// The look-ahead, if the rule is right-closing.
     pub right_ahead: u32,
-    /// The look-ahead of the mirrored rule, where the rule is left-closing.
+    /// The look-ahead of the mirrored rule, if the rule is left-closing.
     pub left_ahead: u32,
-    /// The flux where the rule is conserving, and zeros after its numbers.
+    /// The flux if the rule is conserving, and zeros after its numbers.
     pub flux: [i32; MOST_NODES],
-    /// The least orphan, where the rule isn't surjective.
+    /// The least orphan, if the rule isn't surjective.
     pub orphan: LetterRow,
-    /// The least twins, where it isn't injective.
+    /// The least twins, if the rule isn't injective.
     pub twins: TwinRows,
-    /// The least ring that doesn't keep its sum, where there is one.
+    /// The least ring that doesn't keep its sum, if there is one.
     pub ring: LetterRow,
-    /// The least right split, where the rule isn't right-closing.
+    /// The least right split, if the rule isn't right-closing.
     pub right_split: SplitRows,
-    /// The least left split, where it isn't left-closing.
+    /// The least left split, if the rule isn't left-closing.
     pub left_split: SplitRows,
     /// Zeros.
     pub reserved: [u32; 8],
 }
 
 impl RuleReport {
-    /// None, for this fault.
+    /// Returns the report of a fault.
     fn none(fault: u8) -> RuleReport
         ensures { result ≡ no_report fault }
     {
@@ -99,8 +99,8 @@ pub struct Reported {
     pub letters: Vec<u8>,
 }
 
-/// Reports on the rule with these states, this width, this offset and this table, whose letters have these
-/// weights; without any, each letter weighs its own value.
+/// Returns the report of the rule with these states, width, offset and table. The weights are one for each letter;
+/// without any, each letter weighs its own value.
 pub fn report_of_table(
     alloc: Global,
     states: u8,
@@ -117,7 +117,7 @@ pub fn report_of_table(
     }
 }
 
-/// No report, for this fault.
+/// Returns the report of a fault, which has no letters.
 fn without(alloc: Global, fault: u8) -> Reported
     ensures report { result.report ≡ no_report fault }
     ensures letters { result.letters.items ≡ [] }
@@ -128,7 +128,7 @@ fn without(alloc: Global, fault: u8) -> Reported
     }
 }
 
-/// Reports on a rule.
+/// Returns the report of a rule and of weights.
 fn report_of_rule(alloc: Global, rule: &Rule, weights: &[u8]) -> Result<Reported, AllocError>
     requires { IsRule rule.now }
     ensures { IfOk result (λ made. IsReported rule.now (named_weights weights.now) made.report made.letters.items) }
@@ -139,7 +139,7 @@ fn report_of_rule(alloc: Global, rule: &Rule, weights: &[u8]) -> Result<Reported
     }
 }
 
-/// The weights that are named; none where the list has none.
+/// Returns the weights, or none if the list is empty.
 fn named(weights: &[u8]) -> Option<&[u8]>
     ensures { option_copied result ≡ named_weights weights.now }
 {
@@ -150,7 +150,7 @@ fn named(weights: &[u8]) -> Option<&[u8]>
     }
 }
 
-/// The report, and the letters of its words.
+/// Returns a report with C's layout, and the letters of its words.
 fn written(alloc: Global, found: &Report) -> Result<Reported, AllocError>
     requires { IsShortSum (sum_of found.now.conserving) }
     ensures letters { IfOk result (λ made. made.letters.items ≡ letters_in (evidence_of found.now)) }

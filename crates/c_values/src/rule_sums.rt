@@ -4,7 +4,7 @@ ghost use Rattle.c_values.specs.RuleSums.{range_code};
 
 use kept_sums::RangeFault;
 
-/// The number that stands for a fault of how many letters the words have.
+/// Returns the number of the fault in how many letters the words may have.
 pub fn range_number(fault: RangeFault) -> u8
     ensures { result ≡ range_code (Some fault) }
 {

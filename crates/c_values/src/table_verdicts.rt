@@ -6,28 +6,28 @@ ghost use Rattle.c_values.specs.Verdicts.{AreNone, fault_code, truths_in};
 use rule_verdicts::Truths;
 use word_image::{Rule, RuleFault};
 
-/// The verdicts of a rule, or the number of the fault for which there are none.
+/// The verdicts of a rule, or the number of the fault because of which there are none.
 #[repr(C)]
 #[derive(Clone, Copy, Debug, PartialEq, Eq)]
 pub struct RuleVerdicts {
-    /// 0 where there is a rule; else the number of its first fault, and all below are `false`.
+    /// 0 if there is a rule. Otherwise the number of its first fault, and all fields below are `false`.
     pub fault: u8,
     /// Whether every word has a preimage.
     pub surjective: bool,
     /// Whether no two different configurations share an image.
     pub injective: bool,
-    /// Whether no two that agree on the left do.
+    /// Whether no two different configurations that agree on the left share an image.
     pub right: bool,
-    /// Whether no two that agree on the right do.
+    /// Whether no two different configurations that agree on the right share an image.
     pub left: bool,
-    /// Whether both of these hold: the rule is open.
+    /// Whether the rule is right-closing and left-closing.
     pub is_open: bool,
     /// Whether every ring keeps the sum of its letters.
     pub conserving: bool,
 }
 
 impl RuleVerdicts {
-    /// Those of a rule. It takes no memory.
+    /// Returns the verdicts of a rule. It takes no memory.
     pub fn of(rule: &Rule) -> RuleVerdicts
         ensures fault { result.fault ≡ 0 }
         ensures are_true { AreTruths rule.now (truths_in result) }
@@ -45,7 +45,7 @@ impl RuleVerdicts {
         }
     }
 
-    /// None, for this fault.
+    /// Returns the verdicts of a fault: none holds.
     pub fn none(fault: RuleFault) -> RuleVerdicts
         ensures fault { result.fault ≡ fault_code (Some fault) }
         ensures none { AreNone result }
@@ -62,7 +62,7 @@ impl RuleVerdicts {
     }
 }
 
-/// The number that stands for a fault.
+/// Returns the number of a fault.
 pub fn fault_number(fault: RuleFault) -> u8
     ensures { result ≡ fault_code (Some fault) }
 {

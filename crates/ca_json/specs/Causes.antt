@@ -30,7 +30,7 @@ unfit_json (Unfit.Tail f) = tagged (codes "tail") (string (tail_name f))
 unfit_json Unfit.Weights = tagged (codes "weights") null
 unfit_json Unfit.States = tagged (codes "states") null
 
--- an operand with a fault of this kind, at this place where it has one
+-- -- an operand with a fault of this kind, and the place of the fault if it has one
 abbrev pub operand_json : ℕ → List ℕ → Option ℕ → Data
 operand_json operand name None = object_of ((codes "fault", string name) ∷ (codes "operand", whole_value operand) ∷ status (codes "rulefault") ∷ [])
 operand_json operand name (Some place) = object_of (

@@ -14,12 +14,12 @@ use Rattle.ca_findings.specs.Counts.{Counts}
 use Rattle.ca_findings.specs.Findings.{Finding}
 use Rattle.ca_json.specs.Values.{object_of, tagged, two, numbers_json, word_or_null, number_or_null, tail_json, surjective_json, injective_json, side_json, conserving_json}
 
--- the printed rule, or null where there is none
+-- -- the printed rule, or null if there is none
 abbrev pub rule_or_null : Option LocalRule → Data
 rule_or_null None = null
 rule_or_null (Some r) = string (printed_rule r)
 
--- two words, or null where there are none
+-- -- two words, or null if there are none
 abbrev pub pair_or_null : Option (List ℕ × List ℕ) → Data
 pair_or_null None = null
 pair_or_null (Some pair) = two (word_value pair.0) (word_value pair.1)

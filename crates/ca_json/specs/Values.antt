@@ -31,12 +31,12 @@ numbers_json ns = array_from (map whole_value ns)
 abbrev pub two : Data → Data → Data
 two x y = array_from (x ∷ y ∷ [])
 
--- a word, or null where there is none
+-- -- a word, or null if there is none
 abbrev pub word_or_null : Option (List ℕ) → Data
 word_or_null None = null
 word_or_null (Some w) = word_value w
 
--- the decimal text of a number, or null where there is none
+-- -- the decimal text of a number, or null if there is none
 abbrev pub number_or_null : Option ℕ → Data
 number_or_null None = null
 number_or_null (Some n) = string (decimal n)

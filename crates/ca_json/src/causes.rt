@@ -15,7 +15,7 @@ use serde_json::{Value, json};
 use std::alloc::{AllocError, Global};
 use tail_config::TailFault;
 
-/// Why nothing fits, under a key that says its kind.
+/// Returns an object whose only key names why nothing fits.
 pub fn unfit_value(alloc: Global, cause: &Cause) -> Result<Value, AllocError>
     requires { IsWritableUnfit (unfit_of cause.now) }
     ensures { IfOk result (λ v. view v ≡ causes.unfit_json (unfit_of cause.now)) }
@@ -35,7 +35,7 @@ pub fn unfit_value(alloc: Global, cause: &Cause) -> Result<Value, AllocError>
     }
 }
 
-/// Why three parts make no configuration.
+/// Returns the name of the first reason why three parts make no configuration.
 fn tail_name(fault: TailFault) -> &'static str
     ensures { result.now ≡ causes.tail_name fault }
 {
@@ -47,7 +47,7 @@ fn tail_name(fault: TailFault) -> &'static str
     }
 }
 
-/// Which fault the operand with this number has, and where.
+/// Returns the number of an operand, its fault, and the place of the fault if it has one.
 pub fn operand_value(alloc: Global, operand: u8, fault: TextFault) -> Result<Value, AllocError>
     ensures { IfOk result (λ v. view v ≡ causes.operand_json operand (texts.fault_name fault) (texts.fault_place fault)) }
 {

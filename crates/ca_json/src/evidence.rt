@@ -19,7 +19,7 @@ use std::alloc::{AllocError, Global};
 use tail_config::Tail;
 use word_image::{Rule, Word};
 
-/// The verdicts of a rule, each with its evidence.
+/// Returns the verdicts of a rule, each with its evidence.
 pub fn report_value(alloc: Global, report: &Report) -> Result<Value, AllocError>
     requires { IsWritable (Finding.Report (evidence_of report.now)) }
     ensures { IfOk result (λ v. view v ≡ report_json (evidence_of report.now)) }
@@ -46,14 +46,14 @@ pub fn report_value(alloc: Global, report: &Report) -> Result<Value, AllocError>
     Ok(Value::from(members))
 }
 
-/// The Wolfram number of a rule, or null where it has none.
+/// Returns the Wolfram number of a rule, or null if the rule isn't elementary.
 fn number_value(alloc: Global, rule: &Rule) -> Result<Value, AllocError>
     ensures { IfOk result (λ v. view v ≡ number_or_null (number_found rule.now)) }
 {
     number_or_null(alloc, number(rule))
 }
 
-/// That every word has a preimage, or an orphan.
+/// Returns that the rule is surjective, or that it isn't and an orphan.
 fn surjective_value(alloc: Global, orphan: &Option<Word>) -> Result<Value, AllocError>
     requires { HasDigits orphan.now }
     ensures { IfOk result (λ v. view v ≡ surjective_json orphan.now) }
@@ -67,7 +67,7 @@ fn surjective_value(alloc: Global, orphan: &Option<Word>) -> Result<Value, Alloc
     }
 }
 
-/// A window, or twins.
+/// Returns that the rule is injective and a window, or that it isn't and twins.
 fn injective_value(alloc: Global, found: &InjectivePart) -> Result<Value, AllocError>
     requires { HasTwinDigits (injective_of found.now) }
     ensures { IfOk result (λ v. view v ≡ injective_json (injective_of found.now)) }
@@ -81,7 +81,7 @@ fn injective_value(alloc: Global, found: &InjectivePart) -> Result<Value, AllocE
     }
 }
 
-/// A look-ahead of a side, or a split.
+/// Returns that the rule closes on a side and its look-ahead, or that it doesn't and a split.
 fn side_value(alloc: Global, found: &SidePart) -> Result<Value, AllocError>
     ensures { IfOk result (λ v. view v ≡ side_json (side_of found.now)) }
 {
@@ -95,7 +95,7 @@ fn side_value(alloc: Global, found: &SidePart) -> Result<Value, AllocError>
     }
 }
 
-/// A flux, or a ring whose image has another sum.
+/// Returns that the rule conserves the sum and a flux, or that it doesn't and a ring whose image has another sum.
 fn conserving_value(alloc: Global, found: &SumPart) -> Result<Value, AllocError>
     requires { HasRingDigits (sum_of found.now) }
     ensures { IfOk result (λ v. view v ≡ conserving_json (sum_of found.now)) }
@@ -112,7 +112,7 @@ fn conserving_value(alloc: Global, found: &SumPart) -> Result<Value, AllocError>
     }
 }
 
-/// The periods of a Tail, and its middle.
+/// Returns the periods and the middle of a configuration that was accepted.
 fn accepted_tail_value(alloc: Global, tail: &Tail) -> Result<Value, AllocError>
     ensures { IfOk result (λ v. view v ≡ tail_json (tail.now).config) }
 {

@@ -16,7 +16,7 @@ use std::alloc::{AllocError, Global};
 use tail_preimage::{Placed, Pre};
 use word_image::Rule;
 
-/// What is found, under a key that says its kind.
+/// Returns an object whose only key names the kind of what is found.
 pub fn finding_value(alloc: Global, found: &Found) -> Result<Value, AllocError>
     requires { IsWritable (finding_of found.now) }
     ensures { IfOk result (λ v. view v ≡ finding_json (finding_of found.now)) }
@@ -42,7 +42,7 @@ pub fn finding_value(alloc: Global, found: &Found) -> Result<Value, AllocError>
     }
 }
 
-/// A map over a window, and what it is as a rule.
+/// Returns a map of windows, and the inverse rule if the map is one.
 fn inverse_value(alloc: Global, inverse: &Inverse) -> Result<Value, AllocError>
     ensures { IfOk result (λ v. view v ≡ inverse_json inverse.now.n inverse.now.c inverse.now.map inverse.now.rule) }
 {
@@ -56,7 +56,7 @@ fn inverse_value(alloc: Global, inverse: &Inverse) -> Result<Value, AllocError>
     })
 }
 
-/// The printed rule, or null where there is none.
+/// Returns the printed rule, or null without one.
 fn rule_or_null(alloc: Global, rule: &Option<Rule>) -> Result<Value, AllocError>
     ensures { IfOk result (λ v. view v ≡ rule_or_null rule.now) }
 {
@@ -66,7 +66,7 @@ fn rule_or_null(alloc: Global, rule: &Option<Rule>) -> Result<Value, AllocError>
     }
 }
 
-/// Two words, or null where there are none.
+/// Returns a list of two words, or null without them.
 fn pair_or_null(alloc: Global, pair: &Option<Pair>) -> Result<Value, AllocError>
     requires { HavePairDigits (pair_of pair.now) }
     ensures { IfOk result (λ v. view v ≡ pair_or_null (pair_of pair.now)) }
@@ -77,7 +77,7 @@ fn pair_or_null(alloc: Global, pair: &Option<Pair>) -> Result<Value, AllocError>
     }
 }
 
-/// What maps to a configuration, or a gap in it.
+/// Returns a preimage of a configuration, or a word in it that has none.
 fn preimage_value(alloc: Global, answer: &Pre) -> Result<Value, AllocError>
     requires { IsWritable (preimage_of answer.now) }
     ensures { IfOk result (λ v. view v ≡ finding_json (preimage_of answer.now)) }
@@ -95,7 +95,7 @@ fn preimage_value(alloc: Global, answer: &Pre) -> Result<Value, AllocError>
     }
 }
 
-/// Where the middle of a configuration begins, and the configuration.
+/// Returns where the middle of a configuration begins, and its parts.
 fn placed_value(alloc: Global, placed: &Placed) -> Result<Value, AllocError>
     requires { HasTailDigits (placed_config placed.now).config }
     ensures { IfOk result (λ v. view v ≡ placed_json (placed_config placed.now)) }
@@ -105,7 +105,7 @@ fn placed_value(alloc: Global, placed: &Placed) -> Result<Value, AllocError>
     json!(in alloc; {"at": placed.at, "tail": tail})
 }
 
-/// How many rules there are, and how many of them have each property.
+/// Returns how many rules there are, and how many of them have each property.
 fn counts_value(alloc: Global, counts: &Counts) -> Result<Value, AllocError>
     ensures { IfOk result (λ v. view v ≡ counts_json (counts_of counts.now)) }
 {

@@ -12,7 +12,7 @@ use ca_findings::Automaton;
 use serde_json::{Value, json};
 use std::alloc::{AllocError, Global};
 
-/// An automaton, with a row for each class.
+/// Returns an automaton with a row for each class.
 pub fn automaton_value(alloc: Global, automaton: &Automaton) -> Result<Value, AllocError>
     requires { HasRows (automaton_of automaton.now) }
     ensures { IfOk result (λ v. view v ≡ automaton_json (automaton_of automaton.now)) }
@@ -26,7 +26,7 @@ pub fn automaton_value(alloc: Global, automaton: &Automaton) -> Result<Value, Al
     })
 }
 
-/// The rows of all classes.
+/// Returns the rows of all classes.
 fn rows_value(alloc: Global, automaton: &Automaton) -> Result<Value, AllocError>
     requires { HasRows (automaton_of automaton.now) }
     ensures { IfOk result (λ v. view v
@@ -39,7 +39,7 @@ fn rows_value(alloc: Global, automaton: &Automaton) -> Result<Value, AllocError>
     Ok(Value::from(rows))
 }
 
-/// The row of a class.
+/// Returns the classes that follow a class, one for each letter.
 fn row_value(alloc: Global, automaton: &Automaton, class: u32) -> Result<Value, AllocError>
     requires rows { HasRows (automaton_of automaton.now) }
     requires class { class < automaton.now.classes }
@@ -50,7 +50,7 @@ fn row_value(alloc: Global, automaton: &Automaton, class: u32) -> Result<Value, 
     classes_value(alloc, &automaton.next[first..first + k])
 }
 
-/// Classes as an array of numbers.
+/// Returns classes as a list of numbers.
 fn classes_value(alloc: Global, classes: &[u16]) -> Result<Value, AllocError>
     ensures { IfOk result (λ v. view v ≡ numbers_json classes.now) }
 {

@@ -10,7 +10,7 @@ use cert_conditions::{Refusal, RefusalNumbers, RefusalParts};
 use serde_json::{Map, Value, json, put};
 use std::alloc::{AllocError, Global};
 
-/// The parts of a refusal under their keys. Want of memory is no refusal, and is handed on.
+/// Returns the parts of a refusal under their keys. Want of memory isn't a refusal, and is returned as the error.
 pub fn refusal_value(alloc: Global, refusal: Refusal) -> Result<Value, AllocError>
     ensures { IfOk result (λ v. view v ≡ parts_json (parts_of refusal)) }
 {
@@ -27,7 +27,7 @@ pub fn refusal_value(alloc: Global, refusal: Refusal) -> Result<Value, AllocErro
     Ok(Value::from(members))
 }
 
-/// Puts a word under its key, if there is one.
+/// Puts a word under its key, if there is a word.
 fn put_named(
     alloc: Global,
     members: &mut Map<String, Value>,
@@ -44,7 +44,7 @@ fn put_named(
     Ok(())
 }
 
-/// The numbers of a refusal as a list.
+/// Returns the numbers of a refusal as a list.
 fn places_value(alloc: Global, numbers: RefusalNumbers) -> Result<Value, AllocError>
     ensures { IfOk result (λ v. view v ≡ places_json numbers) }
 {

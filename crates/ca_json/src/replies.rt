@@ -14,8 +14,8 @@ use cert_format::{rule_value, weights_value};
 use serde_json::{Value, json};
 use std::alloc::{AllocError, Global};
 
-/// The JSON of a reply whose words have letters below 16: one object, with ascending keys and no blanks. The only error
-/// is want of memory.
+/// Returns the JSON of a reply whose words have letters below 16: one object with ascending keys and no blanks. The
+/// only error is want of memory.
 pub fn reply_json(alloc: Global, reply: &Reply) -> Result<String, AllocError>
     requires { IsWritableReply (reply_of reply.now) }
     ensures { IfOk result (λ text. string_bytes text ≡ json_text (reply_of reply.now)) }
@@ -23,7 +23,7 @@ pub fn reply_json(alloc: Global, reply: &Reply) -> Result<String, AllocError>
     reply_value(alloc, reply)?.to_string(alloc)
 }
 
-/// The object that a reply is.
+/// Returns the object of a reply.
 fn reply_value(alloc: Global, reply: &Reply) -> Result<Value, AllocError>
     requires { IsWritableReply (reply_of reply.now) }
     ensures { IfOk result (λ v. view v ≡ json_of (reply_of reply.now)) }
@@ -48,7 +48,7 @@ fn reply_value(alloc: Global, reply: &Reply) -> Result<Value, AllocError>
     }
 }
 
-/// What an accepted certificate says.
+/// Returns the verdicts of a certificate that was accepted.
 fn verdicts_value(alloc: Global, verdicts: &Verdicts) -> Result<Value, AllocError>
     ensures { IfOk result (λ v. view v ≡ verdicts_json verdicts.now) }
 {

@@ -12,14 +12,14 @@ use serde_json::{Value, json};
 use std::alloc::{AllocError, Global};
 use word_image::Word;
 
-/// An object with this key alone.
+/// Returns an object with one key.
 pub fn tagged(alloc: Global, key: &str, value: Value) -> Result<Value, AllocError>
     ensures { IfOk result (λ v. view v ≡ values.tagged key.now (view value)) }
 {
     json!(in alloc; {(key): value})
 }
 
-/// A word, or null where there is none.
+/// Returns a word as a string of hexadecimal digits, or null without one.
 pub fn word_or_null(alloc: Global, word: &Option<Word>) -> Result<Value, AllocError>
     requires { HasDigits word.now }
     ensures { IfOk result (λ v. view v ≡ values.word_or_null word.now) }
@@ -30,7 +30,7 @@ pub fn word_or_null(alloc: Global, word: &Option<Word>) -> Result<Value, AllocEr
     }
 }
 
-/// The decimal text of a number, or null where there is none.
+/// Returns the decimal digits of a number as a string, or null without one.
 pub fn number_or_null(alloc: Global, number: Option<u128>) -> Result<Value, AllocError>
     ensures { IfOk result (λ v. view v ≡ values.number_or_null number) }
 {
@@ -40,7 +40,7 @@ pub fn number_or_null(alloc: Global, number: Option<u128>) -> Result<Value, Allo
     }
 }
 
-/// A list of two words.
+/// Returns a list of two words with letters below 16.
 pub fn pair_value(alloc: Global, x: &[u8], y: &[u8]) -> Result<Value, AllocError>
     requires first { IsWord 16 x.now }
     requires second { IsWord 16 y.now }
@@ -51,7 +51,7 @@ pub fn pair_value(alloc: Global, x: &[u8], y: &[u8]) -> Result<Value, AllocError
     json!(in alloc; [x, y])
 }
 
-/// The periods of a configuration, and its middle.
+/// Returns the periods and the middle of a configuration with letters below 16.
 pub fn tail_value(
     alloc: Global,
     left: &[u8],
