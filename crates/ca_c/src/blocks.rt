@@ -5,8 +5,8 @@ ghost use Rattle.ca_c.specs.Blocks.{AreWords};
 use crate::calls::CallFault;
 use std::alloc::{AllocError, Global};
 
-/// The words of a block, in which each has a 0 byte after it; `NoWords` only where a word isn't UTF-8,
-/// or the last has no 0 byte after it.
+/// Returns the words of a block, each of which ends with a 0 byte. `NoWords` comes only if a word isn't UTF-8 or the
+/// last one has no 0 byte after it.
 pub fn words(alloc: Global, block: &[u8]) -> Result<Vec<String>, CallFault>
     ensures words { IfOk result (λ words. AreWords block.now (map string_bytes words.items)) }
     ensures none { result ≡ Err CallFault.NoWords → (words : List (List ℕ)) → ¬ AreWords block.now words }
@@ -26,7 +26,7 @@ pub fn words(alloc: Global, block: &[u8]) -> Result<Vec<String>, CallFault>
     Ok(words)
 }
 
-/// The place of the first 0 byte.
+/// Returns the place of the first 0 byte.
 fn word_end(block: &[u8]) -> Option<usize>
     ensures place { result ≡ position (λ b. b == 0) block.now }
     ensures within { IfSome result (λ i. i < length block.now) }

@@ -13,13 +13,13 @@ use ca_json::reply_json;
 use ca_text::{Output, reply_text};
 use std::alloc::{AllocError, Global};
 
-/// The code where the block has no words.
+/// The code if the block has no words.
 const NO_WORDS: u8 = 9;
 
-/// The code where the buffer is too short.
+/// The code if the buffer is too short.
 pub const SHORT: u8 = 10;
 
-/// The form in which a reply is handed back.
+/// The form of a reply: printed lines or JSON.
 #[derive(Clone, Copy, Debug, PartialEq, Eq)]
 pub enum Form {
     /// What the program prints.
@@ -28,7 +28,7 @@ pub enum Form {
     Json,
 }
 
-/// Why a call has no answer.
+/// Why a call has no reply.
 #[derive(Clone, Copy, Debug, PartialEq, Eq)]
 pub enum CallFault {
     /// The block has no words.
@@ -48,7 +48,7 @@ impl From<AllocError> for CallFault {
     }
 }
 
-/// What is answered to words.
+/// The reply to words, with its status.
 #[derive(Drop)]
 pub struct Answer {
     /// The status of the reply.
@@ -57,8 +57,8 @@ pub struct Answer {
     pub output: Output,
 }
 
-/// Carries out the command whose words a block has, over an input, and gives the reply in a form. A read can't fail here,
-/// so want of memory is the only fault but a block that has no words.
+/// Runs the command in a block of words over an input, and returns its reply. It fails only if the block has no words
+/// or memory runs out, since reading bytes can't fail.
 pub fn call(alloc: Global, form: Form, block: &[u8], input: &[u8]) -> Result<Answer, CallFault>
     ensures answer { IfOk result (λ answer. IsAnswerIn (bytes_in form) block.now input.now answer.status answer.output) }
     ensures none { result ≡ Err CallFault.NoWords → (words : List (List ℕ)) → ¬ AreWords block.now words }
@@ -75,7 +75,7 @@ pub fn call(alloc: Global, form: Form, block: &[u8], input: &[u8]) -> Result<Ans
     })
 }
 
-/// A reply in a form.
+/// Returns a reply in a form.
 fn output_in(alloc: Global, form: Form, reply: &Reply) -> Result<Output, AllocError>
     requires { IsWritableReply (reply_of reply.now) }
     ensures { IfOk result (λ output. output ≡ bytes_in form (reply_of reply.now)) }
@@ -86,7 +86,7 @@ fn output_in(alloc: Global, form: Form, reply: &Reply) -> Result<Output, AllocEr
     }
 }
 
-/// Hands back what is answered in a form: a code, the length, and the bytes where the buffer has room for all.
+/// Returns the code and the length of a reply, and writes its bytes if the buffer has room for all of them.
 pub fn hand_back(
     alloc: Global,
     form: Form,
@@ -118,8 +118,7 @@ pub fn hand_back(
     }
 }
 
-/// Puts the bytes at the beginning of a buffer, exactly where it has room for all; else it stays as it
-/// was.
+/// Writes bytes at the beginning of a buffer if it has room for all of them. Otherwise the buffer stays as it was.
 pub fn put(bytes: &[u8], buffer: &mut [u8]) -> bool
     ensures room { IsTrue result ↔ (length bytes.now ≤ length buffer.old) }
     ensures whole { IsTrue result → buffer.new ≡ bytes.now ++ drop (length bytes.now) buffer.old }

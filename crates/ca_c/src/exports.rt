@@ -31,31 +31,31 @@ use word_image::{Rule, RuleFault, check_shape};
 /// The version of the interface.
 const VERSION: u32 = 2;
 
-/// The code where there was no memory.
+/// The code if memory runs out.
 const MEMORY: u8 = 8;
 
-/// The code where a report, a rule or an order is handed back.
+/// The code if a report, a rule or an order was found.
 const FOUND: u8 = 0;
 
-/// The code where a number stands for no property.
+/// The code if a number isn't that of a property.
 const NO_PROPERTY: u8 = 10;
 
-/// The code where windows are in no order.
+/// The code if windows are in no order.
 const NO_ORDER: u8 = 11;
 
-/// The code where more letters are fixed than there are windows.
+/// The code if more letters are fixed than there are windows.
 const NO_BEGINNING: u8 = 12;
 
-/// The code where there is no further rule.
+/// The code if no rule is left.
 const NO_RULE: u8 = 13;
 
-/// The code where a weight is too great.
+/// The code if a weight is too great.
 const GREAT_WEIGHT: u8 = 16;
 
-/// The code where a sum isn't kept.
+/// The code if the rule doesn't keep the sum.
 const NOT_KEPT: u8 = 17;
 
-/// The version of the interface: which functions there are, and what they take and give.
+/// Returns the version of the interface, which changes if a function or a struct does.
 #[unsafe(no_mangle)]
 pub extern "C" fn ca_version() -> u32
     ensures { result ≡ 2 }
@@ -63,13 +63,12 @@ pub extern "C" fn ca_version() -> u32
     VERSION
 }
 
-/// Carries out the command whose words the block has, as the program does, over these bytes of input.
-/// It gives a code, writes the length of the output to `output_length`, and the output to the beginning
-/// of the buffer.
+/// Runs the command in a block of words over these bytes of input, as the program does. It returns a code and writes
+/// the length of the output to `output_length` and the output to the beginning of the buffer.
 ///
-/// Codes 0 to 5 are those of `Status`, and no other status comes: nothing is read or written here that can fail. 8 is
-/// that there was no memory, 9 that the block has no words, and both have the length 0. 10 is that the buffer is too
-/// short for the output; the length is then the one that is wanted. With 8, 9 and 10 the buffer is as it was.
+/// Codes 0 to 5 are those of `Status` except that reading and writing can't fail. It returns 8 if memory runs out, 9
+/// if the block has no words, both with length 0, and 10 with the length of the output if the buffer is too short.
+/// With 8, 9 and 10 the buffer stays as it was.
 #[unsafe(no_mangle)]
 pub extern "C" fn ca_run(
     alloc: Global,
@@ -84,8 +83,8 @@ pub extern "C" fn ca_run(
     hand_back(alloc, Form::Text, words, input, output, output_length)
 }
 
-/// Carries out the command as [`ca_run`] does, and gives in place of the output the whole reply as one JSON object, as
-/// `ca_json` writes it. Each answer has one, the refused ones too. Codes and lengths are as there.
+/// Runs the command as [`ca_run`] does, but writes the whole reply as one JSON object. Refused certificates and
+/// faulty operands have one too. Codes and lengths are those of [`ca_run`].
 #[unsafe(no_mangle)]
 pub extern "C" fn ca_run_json(
     alloc: Global,
@@ -100,8 +99,7 @@ pub extern "C" fn ca_run_json(
     hand_back(alloc, Form::Json, words, input, output, output_length)
 }
 
-/// Decides the questions of the rule with these states, this width and this table, whose window begins
-/// at its cell. It takes no memory.
+/// Returns the verdicts of the rule with these states, this width, offset 0 and this table. It takes no memory.
 #[unsafe(no_mangle)]
 pub extern "C" fn ca_verdicts(states: u8, width: u8, table: &[u8]) -> RuleVerdicts
     ensures fault { result.fault ≡ fault_code (rule_fault states width (pos 0) table.now) }
@@ -116,13 +114,13 @@ pub extern "C" fn ca_verdicts(states: u8, width: u8, table: &[u8]) -> RuleVerdic
     }
 }
 
-/// Reports on the rule with these states, this width, this offset and this table: what holds of it, each with the
-/// least evidence, where its letters have these weights. Without any, each letter weighs its own value. It gives 0 and
-/// writes the report, and the letters of its words to the beginning of the buffer, or a report of the first fault and no
-/// letters: of the rule, or 18 where there isn't one weight for each letter.
+/// Reports on the rule with these states, this width, this offset and this table: its verdicts, each with the least
+/// evidence. The weights are one for each letter; without any, each letter weighs its own value. It returns 0 and
+/// writes the report, and the letters of its words to the beginning of the buffer. A fault comes in the report, which
+/// then has no letters: the first fault of the rule, or 18 if the count of weights differs from the count of letters.
 ///
-/// 10 is that the buffer is too short, and 8 that there was no memory; the report and the buffer are then as they were. The
-/// length is how many letters there are, with 8 it is 0.
+/// It returns 10 and the length of the letters if the buffer is too short, and 8 and length 0 if memory runs out.
+/// With both, the report and the buffer stay as they were.
 #[unsafe(no_mangle)]
 pub extern "C" fn ca_report(
     alloc: Global,
@@ -154,10 +152,10 @@ pub extern "C" fn ca_report(
     }
 }
 
-/// Writes letters of the image of a configuration under the rule with these states, this width, this offset and this table:
-/// those at the places from `first` on, as many as the buffer has room for. The configuration has these periods, and the middle
-/// begins at place 0. It gives 0, or the number of the first fault, and then the buffer is as it was: of the rule, 19 where a
-/// period has no letter, 20 where a letter isn't below the states, 21 where a place is out of reach. It takes no memory.
+/// Writes letters of the image of a configuration under the rule with these states, this width, this offset and this
+/// table: as many as the buffer has room for, from place `first` on. The middle of the configuration begins at place
+/// 0. It returns 0, or the number of the first fault and leaves the buffer as it was: a fault of the rule, 19 if a
+/// period is empty, 20 if a letter isn't below the states, or 21 if a place is out of reach. It takes no memory.
 #[unsafe(no_mangle)]
 pub extern "C" fn ca_image(
     states: u8,
@@ -183,11 +181,10 @@ pub extern "C" fn ca_image(
     }
 }
 
-/// Decides the questions of the rules with these states and this width, whose windows begin at their
-/// cells, with the numbers from a first one on: as many rules as there are bytes. The first number is
-/// `first_high` times 2^64 and `first_low`. Into byte i it writes what holds of rule i, the sum of 1 for
-/// surjective, 2 for injective, 4 for right, 8 for left, 16 for open and 32 for conserving. It gives 0, or
-/// the number of the first fault, and then the bytes are as they were. It takes no memory.
+/// Writes the verdicts of rules with consecutive numbers, for rules with these states, this width and offset 0: one
+/// byte for each rule. The first number is `first_high` times 2^64 plus `first_low`. A byte is the sum of 1 for
+/// surjective, 2 for injective, 4 for right, 8 for left, 16 for open and 32 for conserving. It returns 0, or the
+/// number of the first fault and leaves the bytes as they were. It takes no memory.
 #[unsafe(no_mangle)]
 pub extern "C" fn ca_verdict_bytes(
     states: u8,
@@ -209,9 +206,9 @@ pub extern "C" fn ca_verdict_bytes(
     }
 }
 
-/// Writes the order of the windows of a shape in which the rules with a property are soon found. The property is the number
-/// of its bit in a byte of verdicts. It gives 0, or the number of the first fault, and then the bytes are as they were. It
-/// takes no memory.
+/// Writes the order of windows in which a search soon finds the rules with a property, whose number is its bit in a
+/// byte of verdicts. It returns 0, or the number of the first fault and leaves the bytes as they were. It takes no
+/// memory.
 #[unsafe(no_mangle)]
 pub extern "C" fn ca_window_order(property: u8, states: u8, width: u8, order: &mut [u8]) -> u8
     ensures { IsWindowOrder property states width order.old result order.new }
@@ -230,11 +227,11 @@ pub extern "C" fn ca_window_order(property: u8, states: u8, width: u8, order: &m
     FOUND
 }
 
-/// Finds the next rule of a shape that has a property: the one whose table has the least rank in this order of the windows,
-/// or where `after` isn't 0 the least rank that is greater than that of the table before, among those that have each letter of
-/// `begin` at the window of its place. A letter that isn't below the states leaves its window open. It gives 0 and writes the
-/// table of the rule; 13 where there is none, or the number of the first fault, and then the table is as it was. It takes no
-/// memory.
+/// Finds the next rule of a shape that has a property. Among the rules whose first letters are those of `begin`, it
+/// takes the one whose table has the least rank in this order of windows. If `after` isn't 0 the rank must also be
+/// greater than that of the table before. A letter of `begin` that isn't below the states leaves its window open. It
+/// returns 0 and writes the table of the rule; otherwise it leaves the table as it was and returns 13 if no rule is
+/// left, or the number of the first fault. It takes no memory.
 #[unsafe(no_mangle)]
 pub extern "C" fn ca_next_rule(
     property: u8,
@@ -269,9 +266,9 @@ pub extern "C" fn ca_next_rule(
     }
 }
 
-/// Finds the sums of weights of words of so many letters that the rule keeps with these states, this width and
-/// this table, whose window begins at its cell, and writes them to `sums`. It gives 0, or the number of the
-/// first fault, and then `sums` is as it was. It takes no memory.
+/// Writes a basis of the sums of weights of words of length `range` that the rule keeps, for the rule with these
+/// states, this width, offset 0 and this table. It returns 0, or the number of the first fault and leaves `sums` as
+/// it was. It takes no memory.
 #[unsafe(no_mangle)]
 pub extern "C" fn ca_kept_sums(
     states: u8,
@@ -296,11 +293,11 @@ pub extern "C" fn ca_kept_sums(
     0
 }
 
-/// Writes the flux of weights of words of so many letters, for the rule with these states, this width and this
-/// table, whose window begins at its cell: a number for each word of width + range - 2 letters, by its value,
-/// with 0 for the word of letters 0 and behind the last word. What stands behind the weight of the last word isn't looked at. It gives 0, or the number of the first fault, and
-/// then `numbers` is as it was: of the rule, of the range, 16 where a weight is greater than 2^56 or less than its
-/// negative, 17 where the rule doesn't keep the sum. It takes no memory.
+/// Writes the flux of weights of words of length `range`, for the rule with these states, this width, offset 0 and
+/// this table. The flux has a number for each word of width + range - 2 letters, in the order of their values; zeros
+/// follow, and the word of letters 0 has 0. Only the weights of words are read. It returns 0, or the number of the
+/// first fault and leaves `numbers` as it was: a fault of the rule or of the range, 16 if a weight lies outside -2^56
+/// to 2^56, or 17 if the rule doesn't keep the sum. It takes no memory.
 #[unsafe(no_mangle)]
 pub extern "C" fn ca_flux(
     states: u8,
@@ -333,7 +330,7 @@ pub extern "C" fn ca_flux(
     }
 }
 
-/// The weights of the words of so many letters, and zeros behind the last of them.
+/// Returns the weights of the words of length `range`, and zeros after them.
 fn first_weights(states: u8, range: u8, weights: &Row) -> Row
     requires { states ^ range ≤ 16 }
     ensures { result ≡ first_weights (states ^ range) weights.now }

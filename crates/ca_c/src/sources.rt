@@ -11,7 +11,7 @@ pub struct SliceSource<'a> {
 }
 
 impl<'a> SliceSource<'a> {
-    /// A source that gives these bytes.
+    /// Returns a source of these bytes.
     pub fn new(bytes: &'a [u8]) -> SliceSource<'a>
         ensures { result.rest.now ≡ bytes.now }
     {
@@ -24,7 +24,7 @@ impl Source for SliceSource<'_> {
 
     ghost faults = { λ _. 0 };
 
-    /// Gives the most bytes that `buf` has places for and that are left.
+    /// Reads as many bytes as `buf` has places for and as are left.
     fn read(&mut self, buf: &mut [u8]) -> Result<usize, Failed> {
         let n = buf.len().min(self.rest.len());
         buf[..n].copy_from_slice(&self.rest[..n]);
