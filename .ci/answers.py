@@ -270,8 +270,8 @@ def validator():
 
 
 def examples():
-    """The lines of docs/ANSWERS.md that stand beside their form."""
-    return re.findall("^\\| `(.*)` \\| `(.*)` \\|$", (DOCS / "ANSWERS.md").read_text(), re.MULTILINE)
+    """The lines of the program in docs/ANSWERS.md, each with its JSON."""
+    return re.findall("^\\| `([^`]*)` \\| `([^`]*)` \\|$", (DOCS / "ANSWERS.md").read_text(), re.MULTILINE)
 
 
 class Tally:

@@ -536,9 +536,9 @@ uint8_t ca_kept_sums(uint8_t states, uint8_t width, const uint8_t *table, size_t
  * weights has the weight of each word of range letters, at the place of the word's value; for example, pass a row of struct
  * ca_kept_sums. The call doesn't look at weights after the last word.
  *
- * A flux is a number for each word of width + range - 2 letters. It meets one condition for each word w of width + range - 1
- * letters: the weight of the image of w, minus the weight of the first range letters of w, is the number of w without its last
- * letter, minus the number of w without its first letter. Exactly one flux has 0 for the word of zeros. The call writes this
+ * A flux F has a number F(u) for each word u of width + range - 2 letters. It meets one condition for each word w of
+ * width + range - 1 letters: the weight of the image of w, minus the weight of the first range letters of w, is
+ * F(w without its last letter) - F(w without its first letter). Exactly one flux is 0 for the word of zeros. The call writes this
  * flux into numbers, the number of each word at the place of its value, and then zeros.
  *
  * It returns CA_FAULT_NONE. Otherwise it returns the first of CA_FAULT_STATES to CA_FAULT_NODES, CA_FAULT_LENGTH,
