@@ -84,7 +84,8 @@ def words(states: int, letters: int) -> Iterator[str]:
 
 def writes(rule: ca.Rule, word: str) -> str:
     """What the rule's table gives on the windows of a word."""
-    return "".join(f"{rule.table[int_of(rule.states, word[at:at + rule.width])]:x}" for at in range(len(word) - rule.width + 1))
+    table = rule.table
+    return "".join(f"{table[int_of(rule.states, word[at:at + rule.width])]:x}" for at in range(len(word) - rule.width + 1))
 
 
 def int_of(states: int, word: str) -> int:
@@ -109,15 +110,17 @@ def are_few(report: ca.Report, side: ca.Closing) -> bool:
 
 
 def sets_of(rule: ca.Rule) -> set[frozenset[str]]:
-    """The sets of words of width - 1 letters at which a walk may be that has written any word: what follows of them all."""
+    """The sets of words of width - 1 letters at which a walk may be that has written any word; of more than 64, the first 65."""
+    letters, nodes = list(words(rule.states, 1)), list(words(rule.states, rule.width - 1))
+    after = {(node, letter): {(node + read)[1:] for read in letters if writes(rule, node + read) == letter}
+             for node in nodes for letter in letters}
     seen: set[frozenset[str]] = set()
-    waiting = [frozenset(words(rule.states, rule.width - 1))]
-    while waiting:
+    waiting = [frozenset(nodes)]
+    while waiting and len(seen) <= 64:
         here = waiting.pop()
         if here not in seen:
             seen.add(here)
-            waiting += [frozenset((word + read)[1:] for word in here for read in words(rule.states, 1)
-                                  if writes(rule, word + read) == letter) for letter in words(rule.states, 1)]
+            waiting += [frozenset().union(*(after[node, letter] for node in here)) for letter in letters]
     return seen
 
 
@@ -320,7 +323,8 @@ class Told(unittest.TestCase):
         self.assertGreater(seen, 60)
 
     def test_the_list_of_sets(self) -> None:
-        """Those of a certificate, in which a node is the bit of its value, and of the table; each is followed by listed ones."""
+        """Those of the table, each followed by listed ones. A certificate has the full set and those that contain no other one; a
+        node is the bit of its value."""
         seen = 0
         for rule in [*map(str, range(256)), *drawn(40, seed=32)]:
             report = ca.decide(rule)
@@ -333,7 +337,8 @@ class Told(unittest.TestCase):
                 continue
             graph = Graph(rule)
             self.assertEqual({frozenset(map(graph.name, nodes)) for nodes in listed}, sets_of(report.rule))
-            self.assertEqual({sum(1 << node for node in nodes) for nodes in listed}, set(ca.certify(rule).data["surjective"]["sets"]))
+            least = {nodes for nodes in listed if len(nodes) == graph.nodes or not any(other < nodes for other in listed)}
+            self.assertEqual({sum(1 << node for node in nodes) for nodes in least}, set(ca.certify(rule).data["surjective"]["sets"]))
             numbers = {nodes: str(place) for place, nodes in enumerate(listed, 1)}
             shown = texts(ca.picture(rule, "sets"))[-len(listed) * (1 + graph.states):]
             self.assertEqual(shown, [text for nodes, after in listed.items() for text in (numbers[nodes], *map(numbers.__getitem__, after))])
