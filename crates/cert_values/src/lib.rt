@@ -4,7 +4,7 @@
 //! left-closing, and whether it conserves the sum of its cells, each with evidence that is tested
 //! without a search. Its text is one JSON object. With k states, width m and N = k^(m - 1) nodes:
 //!
-//! | Key | Where the answer is yes | Where it is no |
+//! | Key | If the answer is yes | If it is no |
 //! |---|---|---|
 //! | `surjective` | `{"sets":[..]}`, sets of nodes, each a number below 2^N in which node u is bit u | `{"orphan":WORD}` |
 //! | `injective` | `{"c":C,"n":L}`, a window of L letters from 1 on, with a place C of at most L + m - 2 | `{"twins":[WORD,WORD]}` |
@@ -24,7 +24,6 @@
 //! {"conserving":{"flux":[0,-1]},"injective":{"c":1,"n":1},"left":{"ahead":2},"ranks":{"backward":[null,0,0,null],
 //! "forward":[null,null,null,null]},"right":{"ahead":1},"rule":"2:2:0:t0101","surjective":{"sets":[3,1,2]},"version":1}
 //! ```
-//!
 //!
 //! Bytes that are no such text have one first fault, a [`ShapeFault`]. The crate `cert_format` reads and writes these
 //! texts, and the crate `cert_conditions` says which claims a certificate must meet.
