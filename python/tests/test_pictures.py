@@ -332,7 +332,7 @@ class Told(unittest.TestCase):
         """Those of the table, each followed by listed ones. A certificate has the full set and those that contain no other one; a
         node is the bit of its value."""
         seen = 0
-        for rule in [*map(str, range(0, 256, 2)), "105", "45", *drawn(40, seed=32)]:
+        for rule in [*map(str, range(256)), *drawn(40, seed=32)]:
             report = ca.decide(rule)
             if not report.surjective:
                 self.assertRaisesRegex(ValueError, "isn't surjective", ca.picture, rule, "sets")
