@@ -134,7 +134,10 @@ fn report_of_rule(alloc: Global, rule: &Rule, weights: &[u8]) -> Result<Reported
     ensures { IfOk result (λ made. IsReported rule.now (named_weights weights.now) made.report made.letters.items) }
 {
     match weights_for(rule, named(weights)) {
-        Some(weights) => written(alloc, &Evidence::of(alloc, rule, &weights)?.report),
+        Some(weights) => {
+            let evidence = Evidence::of(alloc, rule, &weights)?;
+            written(alloc, &evidence.report)
+        }
         None => Ok(without(alloc, NO_WEIGHTS)),
     }
 }

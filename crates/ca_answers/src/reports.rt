@@ -18,9 +18,7 @@ pub fn report(alloc: Global, rule: &Rule, weights: Option<&[u8]>) -> Result<Foun
 {
     rule.keeps_limits();
     match weights_for(rule, weights) {
-        Some(weights) => Ok(Found::Report(
-            Evidence::of(alloc, rule, &weights)?.report,
-        )),
+        Some(weights) => Ok(Found::Report(Evidence::of(alloc, rule, &weights)?.report)),
         None => Err(Stop::Unfit(Cause::Weights)),
     }
 }

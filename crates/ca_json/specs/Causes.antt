@@ -53,8 +53,8 @@ places_json (numbers.Three a b c) = numbers_json (a ∷ b ∷ c ∷ [])
 -- the parts of a refusal under their keys
 abbrev pub parts_json : Parts → Data
 parts_json p = object_of (
-    (codes "at", places_json p.numbers) ∷ named (codes "because") p.because ++ (codes "cause", string p.cause) ∷ named (codes "fault") p.fault
-    ++ named (codes "key") p.key ++ named (codes "side") p.side ++ status (codes "refused") ∷ [])
+    (codes "at", places_json p.numbers) ∷ (named (codes "because") p.because ++ ((codes "cause", string p.cause) ∷ (named (codes "fault") p.fault
+    ++ (named (codes "key") p.key ++ (named (codes "side") p.side ++ (status (codes "refused") ∷ [])))))))
 
 -- members, and a word under its key, if there is one
 abbrev pub put_named : List ℕ → Option (List ℕ) → Members → Members

@@ -34,7 +34,7 @@ fn put_named(
     key: &str,
     word: Option<&'static str>,
 ) -> Result<(), AllocError>
-    ensures { OnOk result (members_view members.new.entries ≡ causes.put_named key.now (option_map (λ w. w.now) word) (members_view members.old.entries)) }
+    ensures { OnOk result (members_view members.new.entries ≡ causes.put_named key.now (option_map (λ w. w.now) word.entry) (members_view members.old.entries)) }
 {
     let Some(word) = word else {
         return Ok(());

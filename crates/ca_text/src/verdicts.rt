@@ -101,11 +101,7 @@ pub fn refused_output(alloc: Global, refusal: Refusal) -> Result<Output, AllocEr
 }
 
 /// Appends the parts of a refusal, with blanks between them.
-fn write_parts(
-    alloc: Global,
-    output: &mut Output,
-    parts: &RefusalParts,
-) -> Result<(), AllocError>
+fn write_parts(alloc: Global, output: &mut Output, parts: &RefusalParts) -> Result<(), AllocError>
     ensures { OnOk result (output.new ≡ output.old ++ refusal_text (said_in parts.now)) }
 {
     output.push(parts.cause.as_bytes())?;
@@ -118,7 +114,7 @@ fn write_parts(
 
 /// Appends a blank and a word, if there is one.
 fn write_word(output: &mut Output, word: Option<&'static str>) -> Result<(), AllocError>
-    ensures { OnOk result (output.new ≡ output.old ++ word_part (option_map (λ w. w.now) word)) }
+    ensures { OnOk result (output.new ≡ output.old ++ word_part (option_map (λ w. w.now) word.entry)) }
 {
     let Some(word) = word else {
         return Ok(());

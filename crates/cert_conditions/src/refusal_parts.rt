@@ -46,19 +46,27 @@ impl RefusalParts {
             Refusal::NoFull => with("nofull", RefusalNumbers::None),
             Refusal::EmptySet(index) => with("emptyset", RefusalNumbers::One(index as u64)),
             Refusal::NotClosed(index, letter) => {
-                with("notclosed", RefusalNumbers::Two(index as u64, letter.into()))
+                with(
+                    "notclosed",
+                    RefusalNumbers::Two(index as u64, letter.into()),
+                )
             }
             Refusal::NoFirst(pair) => with("nofirst", RefusalNumbers::One(pair.into())),
             Refusal::Diagonal(index) => with("diagonal", RefusalNumbers::One(index as u64)),
             Refusal::Leaves(index, a, b) => {
-                with("leaves", RefusalNumbers::Three(index as u64, a.into(), b.into()))
+                with(
+                    "leaves",
+                    RefusalNumbers::Three(index as u64, a.into(), b.into()),
+                )
             }
             Refusal::Orphan => with("orphan", RefusalNumbers::None),
             Refusal::Window(pair) => with("window", RefusalNumbers::One(pair.into())),
             Refusal::Twins(cause) => with("twins", RefusalNumbers::None).because(twin_name(cause)),
             Refusal::Ahead(side, pair) => with("ahead", RefusalNumbers::One(pair.into())).on(side),
             Refusal::Split(side, cause) => {
-                with("split", RefusalNumbers::None).on(side).because(split_name(cause))
+                with("split", RefusalNumbers::None)
+                    .on(side)
+                    .because(split_name(cause))
             }
             Refusal::Flux(window) => with("flux", RefusalNumbers::One(window.into())),
             Refusal::Ring => with("ring", RefusalNumbers::None),

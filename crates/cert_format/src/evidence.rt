@@ -6,12 +6,11 @@ ghost use Rattle.cert_values.specs.Evidence.{SurjectiveEvidence, InjectiveEviden
 ghost use Rattle.cert_values.specs.Parts.{surjective_of, injective_of, side_of, sum_of, IsOver};
 ghost use Rattle.cert_format.specs.Readings.{AreNumbers, IsWindowFor, IsAhead, IsFluxFor, IsWeightsFor, IsRowFor, IsSurjectiveFor, IsInjectiveFor, IsSideFor, IsSumFor, AreRanksFor};
 
-use cert_values::CertVersion;
 use crate::items::{Item, array, array_of};
 use crate::members::{only, only_both};
 use crate::misread::Misread;
-use cert_values::{InjectivePart, SidePart, SumPart, SurjectivePart};
 use crate::words::{tails, word, words};
+use cert_values::{CertVersion, InjectivePart, SidePart, SumPart, SurjectivePart};
 use serde_json::Value;
 use std::alloc::Global;
 use word_image::{FluxRow, RankRow, Rule, SetList, Weights};

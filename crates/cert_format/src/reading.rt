@@ -10,14 +10,12 @@ ghost use Rattle.cert_values.specs.declared.shape_fault.ShapeFault.{ShapeFault};
 ghost use Rattle.cert_values.specs.ShapeFaults.{IsShapeFault};
 ghost use Rattle.cert_format.specs.Readings.{members_in, IsPartFault, IsCertFault};
 
-use cert_values::Cert;
-use cert_values::CertVersion;
-use crate::members::{has_no_other, member};
 use crate::cert_fault::CertFault;
-use cert_values::{Key, ShapeFault};
+use crate::members::{has_no_other, member};
 use crate::steps::{
     conserving_step, injective_step, ranks_step, side_step, surjective_step, weights_step,
 };
+use cert_values::{Cert, CertVersion, Key, ShapeFault};
 use rule_text::parse;
 use serde_json::Value;
 use std::alloc::{AllocError, Global};

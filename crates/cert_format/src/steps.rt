@@ -6,13 +6,11 @@ ghost use Rattle.cert_values.specs.CertificateTexts.{HasSurjective, HasInjective
 ghost use Rattle.cert_values.specs.Parts.{surjective_of, injective_of, side_of, sum_of, IsOver};
 ghost use Rattle.cert_format.specs.Readings.{members_in, IsStepFault};
 
-use cert_values::CertVersion;
+use crate::cert_fault::CertFault;
 use crate::evidence::{conserving, injective, ranks, side, surjective, weights};
 use crate::members::member;
 use crate::misread::Misread;
-use cert_values::{InjectivePart, SidePart, SumPart, SurjectivePart};
-use crate::cert_fault::CertFault;
-use cert_values::Key;
+use cert_values::{CertVersion, InjectivePart, Key, SidePart, SumPart, SurjectivePart};
 use serde_json::Value;
 use std::alloc::Global;
 use word_image::{RankRow, Rule, Weights};

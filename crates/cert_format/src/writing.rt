@@ -11,8 +11,7 @@ ghost use Rattle.cert_values.specs.Parts.{side_of};
 ghost use Rattle.cert_values.specs.WrittenTexts as written;
 ghost use Rattle.cert_values.specs.WrittenTexts.{array_from, members_before, certificate_text};
 
-use cert_values::Cert;
-use cert_values::{InjectivePart, SidePart, SumPart, SurjectivePart};
+use cert_values::{Cert, InjectivePart, SidePart, SumPart, SurjectivePart};
 use serde_json::{Map, Value, json, put};
 use std::alloc::{AllocError, Global};
 use tail_config::Tail;

@@ -17,6 +17,7 @@ use Rattle.ca_json.specs.Findings.{rule_or_null, pair_or_null, report_json, inve
 use Rattle.ca_json.specs.Causes.{unfit_json, operand_json, named, places_json, parts_json}
 use Rattle.rule_text.specs.FaultTexts.{fault_name, fault_place}
 use Rattle.cert_conditions.specs.declared.refusal_parts.RefusalNumbers.{RefusalNumbers}
+use Rattle.cert_conditions.specs.declared.refusal_parts.RefusalNumbers.TheVariants as numbers
 use Rattle.cert_conditions.specs.RefusalParts.{Parts, parts_of}
 use Rattle.ca_json.specs.Replies.{verdicts_json, json_of}
 
@@ -148,7 +149,10 @@ NoFloat-operand operand name (Some place) = refl
 
 -- the numbers of a refusal have no float
 NoFloat-places : (ns : RefusalNumbers) → NoFloat (places_json ns)
-NoFloat-places _ = refl
+NoFloat-places numbers.None = refl
+NoFloat-places (numbers.One a) = refl
+NoFloat-places (numbers.Two a b) = refl
+NoFloat-places (numbers.Three a b c) = refl
 
 -- members without a float have none with a word under a key before them
 NoFloat-named : (key : List ℕ) (word : Option (List ℕ)) (rest : List (List ℕ × Data)) → members_have_float (members_of rest) ≡ false

@@ -11,7 +11,7 @@ members_put at cause because fault key side =
 
 -- they stand in the order of their keys
 pub members_put-ascend : (at : Data) (cause : List ℕ) (because fault key side : Option (List ℕ)) → members_put at cause because fault key side
-    ≡ members_of ((codes "at", at) ∷ named (codes "because") because ++ (codes "cause", string cause) ∷ named (codes "fault") fault ++ named (codes "key") key ++ named (codes "side") side ++ status (codes "refused") ∷ [])
+    ≡ members_of ((codes "at", at) ∷ (named (codes "because") because ++ ((codes "cause", string cause) ∷ (named (codes "fault") fault ++ (named (codes "key") key ++ (named (codes "side") side ++ (status (codes "refused") ∷ [])))))))
 members_put-ascend at cause None None None None = refl
 members_put-ascend at cause None None None (Some z) = refl
 members_put-ascend at cause None None (Some y) None = refl
