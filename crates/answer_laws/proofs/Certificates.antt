@@ -8,9 +8,9 @@ use Rattle.word_image.specs.declared.side.Side.{Side}
 use Rattle.word_image.specs.declared.side.Side.TheVariants.{Right, Left}
 use Rattle.pair_laws.proofs.Common.{IsRank-one, Together-less}
 use Rattle.search_laws.proofs.Common.{IsLastSet-unique}
-use Rattle.cert_format.specs.declared.cert_version.CertVersion.{CertVersion}
-use Rattle.cert_format.specs.declared.cert_version.CertVersion.TheVariants.{Two, Three}
-use Rattle.cert_format.proofs.Common.{SurjectiveEvidence, Sets, Pairs, Orphan, Certificate}
+use Rattle.cert_values.specs.declared.cert_version.CertVersion.{CertVersion}
+use Rattle.cert_values.specs.declared.cert_version.CertVersion.TheVariants.{Two, Three}
+use Rattle.cert_values.proofs.Common.{SurjectiveEvidence, Sets, Pairs, Orphan, Certificate}
 use Rattle.certificate_laws.specs.LeastEvidence.{Evidence, IsOrphanPart}
 use Rattle.certificate_laws.specs.WrittenCertificates.{orphan_of, IsListPart, IsRankRow, IsWritten}
 use Rattle.eden_laws.specs.ReachedPairs.{AreReached}

@@ -1,7 +1,7 @@
 -- The least evidence of a rule is one.
 use Rattle.std.proofs.Common.{◌≡◌, ℕ, List, refl, sym, ap, ap₂, ◌∙◌, Option, None, Some}
 use Rattle.word_image.proofs.Common.{LocalRule, IsRule}
-use Rattle.cert_format.proofs.Common.{InjectiveEvidence, SideEvidence, SumEvidence, Window, Twins, Ahead, Split, Flux, Ring}
+use Rattle.cert_values.proofs.Common.{InjectiveEvidence, SideEvidence, SumEvidence, Window, Twins, Ahead, Split, Flux, Ring}
 use Rattle.certificate_laws.specs.LeastEvidence.{Evidence, IsOrphanPart, IsInjectivePart, IsRightPart, IsLeftPart, IsConservingPart, IsLeastEvidence}
 use Rattle.ring_laws.proofs.FluxWalks.{IsFlux-unique}
 use Rattle.answer_laws.proofs.Least.{IsLeastOrphan-unique, IsLeastLossyRing-unique, IsLeastTwins-unique, IsLeastDetermined-unique, IsLeastRightAhead-unique, IsLeastRightSplit-unique, IsLeastLeftSplit-unique}

@@ -1,6 +1,6 @@
 -- A question has one right finding, and where nothing fits it, one cause.
 use Rattle.std.proofs.Common.{◌≡◌, refl, sym, ap, ap₂, ◌∙◌}
-use Rattle.cert_format.proofs.Common.{one_some}
+use Rattle.cert_values.proofs.Common.{one_some}
 use Rattle.tail_laws.proofs.Common.{IsInjective-determined}
 use Rattle.tail_preimage.proofs.laws.LeastPreimages.{IsLeastPreimage-unique}
 use Rattle.image_minimal.proofs.laws.ClassLists.{IsLeastAutomaton-unique}

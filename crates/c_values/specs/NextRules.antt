@@ -8,7 +8,8 @@ use Rattle.rule_lists.specs.Orders.{IsOrderFor}
 use Rattle.rule_lists.specs.Listed.{IsFirst, NoneIs}
 use Rattle.rule_lists.specs.declared.properties.Property.{Property}
 use Rattle.rule_lists.specs.declared.properties.Property.TheVariants.{Surjective, Injective, RightClosing, LeftClosing, Open, Conserving}
-use Rattle.c_values.specs.Verdicts.{rule_of_table, fault_code}
+use Rattle.rule_text.specs.RuleTexts.{rule_of_table}
+use Rattle.c_values.specs.Verdicts.{fault_code}
 
 -- the number that stands for a property: what it adds to the byte of a rule that has it
 abbrev pub property_number : Property → ℕ

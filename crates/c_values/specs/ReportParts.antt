@@ -1,6 +1,6 @@
 -- What a report says of each question, and the letters of its words.
 use Rattle.std.specs.Prelude.{◌≡◌, ℕ, ◌-◌, ◌≤◌, List, [], ◌++◌, length, replicate, Option, Some, None, ℤ, pos, ⊤}
-use Rattle.cert_format.specs.Evidence.{InjectiveEvidence, SideEvidence, SumEvidence, Window, Twins, Ahead, Split, Flux, Ring}
+use Rattle.cert_values.specs.Evidence.{InjectiveEvidence, SideEvidence, SumEvidence, Window, Twins, Ahead, Split, Flux, Ring}
 use Rattle.c_values.specs.declared.letter_rows.LetterRow.{LetterRow}
 use Rattle.c_values.specs.declared.letter_rows.TwinRows.{TwinRows}
 use Rattle.c_values.specs.declared.letter_rows.SplitRows.{SplitRows}

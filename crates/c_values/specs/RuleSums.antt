@@ -8,7 +8,8 @@ use Rattle.kept_sums.specs.declared.ranges.RangeFault.TheVariants.{Zero, Words}
 use Rattle.kept_sums.specs.Sums.{IsKept}
 use Rattle.kept_sums.specs.Rows.{at, IsSmall}
 use Rattle.kept_sums.specs.Fluxes.{IsFluxList}
-use Rattle.c_values.specs.Verdicts.{fault_code, rule_of_table}
+use Rattle.rule_text.specs.RuleTexts.{rule_of_table}
+use Rattle.c_values.specs.Verdicts.{fault_code}
 
 -- the number that stands for a fault of how many letters the words have, and 0 for none
 abbrev pub range_code : Option RangeFault → ℕ

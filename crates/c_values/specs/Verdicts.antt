@@ -1,15 +1,9 @@
 -- What a call hands back of a rule.
-use Rattle.std.specs.Prelude.{◌≡◌, ℕ, false, List, Option, Some, None, pos}
-use Rattle.word_image.specs.LocalRules.{LocalRule}
-use Rattle.word_image.specs.Weights.{own_weights}
+use Rattle.std.specs.Prelude.{◌≡◌, ℕ, false, Option, Some, None}
 use Rattle.word_image.specs.declared.local_rule.RuleFault.{RuleFault}
 use Rattle.word_image.specs.declared.local_rule.RuleFault.TheVariants.{States, Width, Nodes, Offset, Length, Letter}
-use Rattle.cert_conditions.specs.declared.verdicts.Verdicts.{Verdicts}
+use Rattle.rule_verdicts.specs.declared.truths.Truths.{Truths}
 use Rattle.c_values.specs.declared.table_verdicts.RuleVerdicts.{RuleVerdicts}
-
--- the rule with this table, whose window begins at its cell
-abbrev pub rule_of_table : ℕ → ℕ → List ℕ → LocalRule
-rule_of_table states width table = record { states = states; width = width; offset = pos 0; table = table }
 
 -- the number that stands for a fault, and 0 for none
 abbrev pub fault_code : Option RuleFault → ℕ
@@ -21,17 +15,9 @@ fault_code (Some Offset) = 4
 fault_code (Some Length) = 5
 fault_code (Some (Letter place)) = 6
 
--- what is said of a rule each letter of which weighs its own value
-abbrev pub verdicts_about : LocalRule → RuleVerdicts → Verdicts
-verdicts_about r v = record {
-  rule = r;
-  weights = own_weights r.states;
-  surjective = v.surjective;
-  injective = v.injective;
-  right = v.right;
-  left = v.left;
-  conserving = v.conserving;
-}
+-- what is said of a rule
+abbrev pub truths_in : RuleVerdicts → Truths
+truths_in v = record { surjective = v.surjective; injective = v.injective; right = v.right; left = v.left; conserving = v.conserving }
 
 -- nothing is said of a rule
 pub record AreNone (v : RuleVerdicts) : Type 0 where

@@ -1,12 +1,12 @@
 //! The parts of a report: a verdict, and the least that shows it, with its words behind the letters.
 ghost use Rattle.std.specs.Prelude.{◌≡◌, ◌≤◌, ◌++◌, length, IfOk, OnOk};
-ghost use Rattle.cert_format.specs.Parts.{injective_of, side_of, sum_of};
+ghost use Rattle.cert_values.specs.Parts.{injective_of, side_of, sum_of};
 ghost use Rattle.c_values.specs.ReportParts.{IsShortSum, SaysSurjective, SaysInjective, SaysSide, SaysConserving, orphan_letters, injective_letters, side_letters, sum_letters, flux_row};
 
 use crate::letter_rows::{
     LetterRow, NO_ROW, NO_SPLIT, NO_TWINS, SplitRows, TwinRows, add_split, add_twins, add_word,
 };
-use cert_format::{InjectivePart, SidePart, SumPart};
+use cert_values::{InjectivePart, SidePart, SumPart};
 use std::alloc::AllocError;
 use word_image::{FluxRow, Word};
 

@@ -1,16 +1,17 @@
 //! What is handed back of a rule with its evidence.
 ghost use Rattle.std.specs.Prelude.{◌≡◌, [], option_copied, IfOk};
-ghost use Rattle.cert_format.specs.Parts.{sum_of};
+ghost use Rattle.cert_values.specs.Parts.{sum_of};
 ghost use Rattle.word_image.specs.LocalRules.{IsRule};
-ghost use Rattle.ca_findings.specs.Values.{evidence_of};
+ghost use Rattle.certificate_laws.specs.ReportValues.{evidence_of};
 ghost use Rattle.c_values.specs.ReportParts.{IsShortSum};
 ghost use Rattle.c_values.specs.Reports.{IsReported, IsReportOf, letters_in, named_weights, no_report, rule_with};
 
 use crate::letter_rows::{LetterRow, NO_ROW, NO_SPLIT, NO_TWINS, SplitRows, TwinRows};
 use crate::report_parts::{MOST_NODES, add_conserving, add_injective, add_side, add_surjective};
 use crate::table_verdicts::fault_number;
-use ca_answers::{report_with, weights_for};
-use ca_findings::Report;
+use ca_answers::weights_for;
+use cert_conditions::Report;
+use rule_verdicts::Evidence;
 use std::alloc::{AllocError, Global};
 use word_image::Rule;
 
@@ -133,7 +134,10 @@ fn report_of_rule(alloc: Global, rule: &Rule, weights: &[u8]) -> Result<Reported
     ensures { IfOk result (λ made. IsReported rule.now (named_weights weights.now) made.report made.letters.items) }
 {
     match weights_for(rule, named(weights)) {
-        Some(weights) => written(alloc, &report_with(alloc, rule, &weights)?),
+        Some(weights) => {
+            let evidence = Evidence::of(alloc, rule, &weights)?;
+            written(alloc, &evidence.report)
+        }
         None => Ok(without(alloc, NO_WEIGHTS)),
     }
 }

@@ -1,7 +1,7 @@
 //! What is handed back of a rule.
-ghost use Rattle.std.specs.Prelude.{◌≡◌, Some};
-ghost use Rattle.cert_conditions.specs.Accepted.{AreTrue, is_open};
-ghost use Rattle.c_values.specs.Verdicts.{AreNone, fault_code, verdicts_about};
+ghost use Rattle.std.specs.Prelude.{◌≡◌, ◌&&◌, Some};
+ghost use Rattle.rule_verdicts.specs.Truths.{AreTruths};
+ghost use Rattle.c_values.specs.Verdicts.{AreNone, fault_code, truths_in};
 
 use rule_verdicts::Truths;
 use word_image::{Rule, RuleFault};
@@ -30,8 +30,8 @@ impl RuleVerdicts {
     /// Those of a rule. It takes no memory.
     pub fn of(rule: &Rule) -> RuleVerdicts
         ensures fault { result.fault ≡ 0 }
-        ensures are_true { AreTrue (verdicts_about rule.now result) }
-        ensures both { result.is_open ≡ is_open (verdicts_about rule.now result) }
+        ensures are_true { AreTruths rule.now (truths_in result) }
+        ensures both { result.is_open ≡ (result.right && result.left) }
     {
         let truths = Truths::of(rule);
         RuleVerdicts {

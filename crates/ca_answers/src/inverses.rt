@@ -7,7 +7,7 @@ ghost use Rattle.ca_findings.specs.Findings.{IsMapRule};
 ghost use Rattle.ca_findings.specs.Values.{Answers};
 
 use ca_findings::{Cause, Found, Inverse, Pair, Stop};
-use cert_format::InjectivePart;
+use cert_values::InjectivePart;
 use inverse_table::{InvFault, InverseMap, as_rule, table};
 use inverse_window::WindowAt;
 use rule_verdicts::injectivity;

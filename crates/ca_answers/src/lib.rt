@@ -34,5 +34,5 @@ pub use class_rules::{least, lift, unlift};
 pub use inverses::inverse;
 pub use languages::{erase, language, same};
 pub use preimages::preimage;
-pub use reports::{certificate, number, orphan, report, report_with, weights_for};
+pub use reports::{certificate, number, orphan, report, weights_for};
 pub use summaries::{classes, sample, survey};

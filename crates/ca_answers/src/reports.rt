@@ -1,13 +1,12 @@
 //! What holds of a rule, with evidence.
-ghost use Rattle.std.specs.Prelude.{◌≡◌, length, slice_index, true, option_copied, IfNone, IfOk, IfSome};
-ghost use Rattle.cert_format.specs.Versions.{names_weights};
-ghost use Rattle.certificate_laws.specs.LeastEvidence.{IsLeastEvidence};
+ghost use Rattle.std.specs.Prelude.{◌≡◌, length, true, option_copied, IfNone, IfOk, IfSome};
+ghost use Rattle.cert_values.specs.Versions.{names_weights};
 ghost use Rattle.ca_findings.specs.Questions.{Question};
 ghost use Rattle.ca_findings.specs.Findings.{AreFor, IsFinding, weights_by};
-ghost use Rattle.ca_findings.specs.Values.{Answers, evidence_of, finding_of};
+ghost use Rattle.ca_findings.specs.Values.{Answers, finding_of};
 
-use ca_findings::{Cause, Found, Report, Stop};
-use cert_format::CertVersion;
+use ca_findings::{Cause, Found, Stop};
+use cert_values::CertVersion;
 use rule_verdicts::{Evidence, least_orphan};
 use std::alloc::{AllocError, Global};
 use word_image::{Rule, Weights};
@@ -19,27 +18,9 @@ pub fn report(alloc: Global, rule: &Rule, weights: Option<&[u8]>) -> Result<Foun
 {
     rule.keeps_limits();
     match weights_for(rule, weights) {
-        Some(weights) => Ok(Found::Report(report_with(alloc, rule, &weights)?)),
+        Some(weights) => Ok(Found::Report(Evidence::of(alloc, rule, &weights)?.report)),
         None => Err(Stop::Unfit(Cause::Weights)),
     }
-}
-
-/// Returns the report of a rule and weights of its letters.
-pub fn report_with(alloc: Global, rule: &Rule, weights: &Weights) -> Result<Report, AllocError>
-    requires { length weights.now ≡ rule.now.states }
-    ensures weights { IfOk result (λ report. report.weights ≡ weights.now) }
-    ensures least { IfOk result (λ report. IsLeastEvidence (slice_index weights.now) rule.now (evidence_of report)) }
-{
-    let evidence = Evidence::of(alloc, rule, weights)?;
-    Ok(Report {
-        rule: evidence.rule,
-        weights: evidence.weights,
-        orphan: evidence.orphan,
-        injective: evidence.injective,
-        right: evidence.right,
-        left: evidence.left,
-        conserving: evidence.conserving,
-    })
 }
 
 /// Returns the weights that are named, if there is one for each letter of the rule, or its letters' own values.

@@ -2,7 +2,7 @@
 ghost use Rattle.std.specs.Prelude.{◌≡◌, ℕ, List, ◌+◌, ◌^◌, ◌<◌, ◌≤◌, None, length, reverse, IfOk, pos};
 ghost use Rattle.word_image.specs.LocalRules.{LocalRule, IsRule, IsShape, value};
 ghost use Rattle.rule_verdicts.specs.Numbers.{numbered_rule, numbers_fault, AreVerdictBytes};
-ghost use Rattle.rule_verdicts.specs.Truths.{table_rule};
+ghost use Rattle.rule_text.specs.RuleTexts as texts;
 ghost use Rattle.ca_findings.specs.Questions.{Question};
 ghost use Rattle.ca_findings.specs.Counts.{AreCounts};
 ghost use Rattle.ca_findings.specs.Findings.{IsFinding};
@@ -17,7 +17,7 @@ use crate::tally;
 use ca_findings::{Counts, Drawn, Found, Numbered};
 use flux_conserve::letter_sum;
 use rule_text::numbered;
-use rule_verdicts::{Truths, next_table, verdict_bytes};
+use rule_verdicts::{Truths, next_table, rule_of_table, verdict_bytes};
 use std::alloc::{AllocError, Global};
 use word_image::{MOST_ENTRIES, Rule};
 
@@ -124,7 +124,7 @@ fn classes_from(
     table: &mut [u8],
     count: u16,
 ) -> Result<ClassTally, AllocError>
-    requires rule { IsRule (table_rule k m table.old) }
+    requires rule { IsRule (texts.rule_of_table k m table.old) }
     requires states { k ≤ 6 }
     requires room { value k (reverse table.old) + count ≤ k ^ length table.old }
     requires few { count ≤ 4096 }
@@ -137,14 +137,6 @@ fn classes_from(
         total = next_table(k, table, total);
     }
     Ok(tally)
-}
-
-/// The rule of a table that is known to be one.
-fn rule_of_table(k: u8, m: u8, table: &[u8]) -> Rule
-    requires { IsRule (table_rule k m table.now) }
-    ensures { result ≡ table_rule k m table.now }
-{
-    Rule::by(k, m, 0, |window| table[usize::from(window)])
 }
 
 /// Counts what holds of the first rules that a seed stands for.

@@ -1,7 +1,6 @@
 //! The functions that C calls.
-ghost use Rattle.std.specs.Prelude.{◌≡◌, ◌≢◌, ◌+◌, ◌*◌, ◌^◌, ◌<◌, ◌≤◌, ◌==◌, not, length, pos};
+ghost use Rattle.std.specs.Prelude.{◌≡◌, ◌≢◌, ◌+◌, ◌*◌, ◌^◌, ◌<◌, ◌≤◌, ◌==◌, ◌&&◌, not, length, pos};
 ghost use Rattle.word_image.specs.RuleFaults.{rule_fault};
-ghost use Rattle.cert_conditions.specs.Accepted.{AreTrue, is_open};
 ghost use Rattle.ca_text.specs.Replies.{reply_text};
 ghost use Rattle.ca_json.specs.Replies.{json_text};
 ghost use Rattle.ca_c.specs.Calls.{IsHandedBack};
@@ -10,7 +9,9 @@ ghost use Rattle.rule_verdicts.specs.Numbers.{numbers_fault, AreVerdictBytes};
 ghost use Rattle.c_values.specs.NumberedVerdicts.{number_code};
 ghost use Rattle.kept_sums.specs.Stages.{AreKeptSums};
 ghost use Rattle.c_values.specs.RuleSums.{sums_code, IsFluxCall};
-ghost use Rattle.c_values.specs.Verdicts.{AreNone, fault_code, rule_of_table, verdicts_about};
+ghost use Rattle.rule_text.specs.RuleTexts.{rule_of_table};
+ghost use Rattle.rule_verdicts.specs.Truths.{AreTruths};
+ghost use Rattle.c_values.specs.Verdicts.{AreNone, fault_code, truths_in};
 ghost use Rattle.c_values.specs.NextRules.{IsNext, IsWindowOrder};
 ghost use Rattle.c_values.specs.Images.{IsImageCall};
 ghost use Rattle.c_values.specs.Reports.{IsReportCall, named_weights, rule_with};
@@ -105,8 +106,8 @@ pub extern "C" fn ca_run_json(
 pub extern "C" fn ca_verdicts(states: u8, width: u8, table: &[u8]) -> RuleVerdicts
     ensures fault { result.fault ≡ fault_code (rule_fault states width (pos 0) table.now) }
     ensures no_offset { result.fault ≢ 4 }
-    ensures are_true { result.fault ≡ 0 → AreTrue (verdicts_about (rule_of_table states width table.now) result) }
-    ensures both { result.is_open ≡ is_open (verdicts_about (rule_of_table states width table.now) result) }
+    ensures are_true { result.fault ≡ 0 → AreTruths (rule_of_table states width table.now) (truths_in result) }
+    ensures both { result.is_open ≡ (result.right && result.left) }
     ensures none { 0 < result.fault → AreNone result }
 {
     match Rule::new(states, width, 0, table) {

@@ -6,7 +6,7 @@ use Rattle.tail_config.specs.Tails.{TailConfig}
 use Rattle.tail_config.specs.TailTexts.{HasParts}
 use Rattle.rule_text.specs.declared.text_fault.TextFault.{TextFault}
 use Rattle.rule_text.specs.RuleTexts.{IsRuleText, IsTextFault, IsOffset, decimal_value}
-use Rattle.cert_format.specs.declared.cert_version.CertVersion.TheVariants as version
+use Rattle.cert_values.specs.declared.cert_version.CertVersion.TheVariants as version
 use Rattle.rule_verdicts.specs.Numbers.{numbers_fault}
 use Rattle.ca_words.specs.declared.names.Name.{Name}
 use Rattle.ca_words.specs.declared.names.Name.TheVariants as name

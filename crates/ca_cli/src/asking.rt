@@ -9,7 +9,7 @@ ghost use Rattle.ca_cli.specs.Asking.{AreDrawnBy, AreNumberedBy, IsAskedBy, IsCa
 
 use ca_findings::{Cause, Drawn, Numbered, Question, Stop};
 use ca_words::{Name, are_colours, are_weights, count_of, numbers, seed, small};
-use cert_format::CertVersion;
+use cert_values::CertVersion;
 use rule_text::{decimal_number, decimal_offset, is_decimal};
 use std::alloc::Global;
 use tail_config::{TailTextFault, has_form};

@@ -6,7 +6,7 @@ ghost use Rattle.cert_conditions.specs.Accepted.{AreTrue, IsAccepted};
 ghost use Rattle.cert_conditions.specs.Refusals.{IsRefusal};
 ghost use Rattle.cert_conditions.specs.declared.refusal.Refusal.{Refusal};
 ghost use Rattle.cert_conditions.specs.declared.verdicts.Verdicts.{Verdicts};
-ghost use Rattle.cert_format.specs.declared.cert_version.CertVersion.{CertVersion};
+ghost use Rattle.cert_values.specs.declared.cert_version.CertVersion.{CertVersion};
 ghost use Rattle.rule_text.specs.declared.text_fault.TextFault.{TextFault};
 ghost use Rattle.ca_words.specs.Commands.{Command, IsCommand, check_command};
 ghost use Rattle.ca_findings.specs.Questions.{Question};

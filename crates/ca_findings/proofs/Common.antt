@@ -3,4 +3,4 @@ pub use Rattle.ca_findings.specs.Counts.{AreCounts, AreLeastRules, AreMany, Coun
 pub use Rattle.ca_findings.specs.Findings.{AreFor, Finding, IsErasedFound, IsFinding, IsInverseFound, IsMapRule, IsSameFound, IsUnfitFor, Unfit, weight_by, weights_by}
 pub use Rattle.ca_findings.specs.Questions.{AreRules, Question}
 pub use Rattle.ca_findings.specs.Replies.{Reply}
-pub use Rattle.ca_findings.specs.Values.{Answers, automaton_of, counts_of, evidence_of, finding_of, preimage_of, reply_of}
+pub use Rattle.ca_findings.specs.Values.{Answers, automaton_of, counts_of, finding_of, preimage_of, reply_of}

@@ -1,7 +1,7 @@
 -- What is right for accepted rules can be written.
 use Rattle.std.proofs.Common.{ℕ, ◌<◌, List, inl, inr, arith, Option, Some, None}
 use Rattle.word_image.proofs.Common.{All-weaker, LocalRule, IsRule, IsWord}
-use Rattle.cert_format.proofs.Common.{InjectiveEvidence, SumEvidence, Window, Twins, Flux, Ring}
+use Rattle.cert_values.proofs.Common.{InjectiveEvidence, SumEvidence, Window, Twins, Flux, Ring}
 use Rattle.certificate_laws.specs.LeastEvidence.{IsOrphanPart, IsInjectivePart, IsConservingPart}
 use Rattle.ca_findings.specs.Questions.{Question, AreRules}
 use Rattle.ca_findings.specs.Findings.{Finding, Unfit, IsFinding, IsUnfitFor}

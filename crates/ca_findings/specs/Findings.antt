@@ -20,8 +20,8 @@ use Rattle.image_minimal.specs.ImageLanguages.{Automaton, IsLeastAutomaton, Have
 use Rattle.tail_config.specs.InverseMaps.{WindowMap, IsInverseMap}
 use Rattle.inverse_table.specs.InverseMaps.{map_rule, GivesBack}
 use Rattle.tail_preimage.specs.Preimages.{PlacedConfig, IsFrom, IsGap}
-use Rattle.cert_format.specs.declared.cert_version.CertVersion.{CertVersion}
-use Rattle.cert_format.specs.Certificates.{Certificate}
+use Rattle.cert_values.specs.declared.cert_version.CertVersion.{CertVersion}
+use Rattle.cert_values.specs.Certificates.{Certificate}
 use Rattle.certificate_laws.specs.LeastEvidence.{Evidence, IsOrphanPart, IsLeastEvidence}
 use Rattle.certificate_laws.specs.WrittenCertificates.{IsWritten}
 use Rattle.ca_findings.specs.Questions.{Question}

@@ -3,7 +3,7 @@ use Rattle.std.specs.Prelude.{◌≡◌, ℕ, ◌≤◌, List, Option, None, Vec
 use Rattle.std.specs.Global.{Global}
 use Rattle.std.specs.Option.{option_map}
 use Rattle.word_image.specs.LocalRules.{IsShape}
-use Rattle.cert_format.specs.Versions.{names_weights}
+use Rattle.cert_values.specs.Versions.{names_weights}
 use Rattle.rule_verdicts.specs.Numbers.{numbers_fault}
 use Rattle.ca_findings.specs.declared.question.Question as code
 use Rattle.ca_findings.specs.declared.question.Question.TheVariants as asked

@@ -2,7 +2,7 @@
 use Rattle.std.specs.Prelude.{ℕ, List, Option, ℤ, All}
 use Rattle.word_image.specs.LocalRules.{LocalRule, IsRule}
 use Rattle.tail_config.specs.Tails.{TailConfig}
-use Rattle.cert_format.specs.declared.cert_version.CertVersion.{CertVersion}
+use Rattle.cert_values.specs.declared.cert_version.CertVersion.{CertVersion}
 
 -- a question; where weights are none, each letter weighs its own value
 pub data Question : Type 0 where

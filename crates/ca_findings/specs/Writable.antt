@@ -3,7 +3,7 @@ use Rattle.std.specs.Prelude.{◌≡◌, ◌*◌, ◌≤◌, ℕ, List, Option, 
 use Rattle.word_image.specs.LocalRules.{IsWord}
 use Rattle.tail_config.specs.Tails.{TailConfig}
 use Rattle.image_minimal.specs.ImageLanguages.{Automaton}
-use Rattle.cert_format.specs.Evidence.{InjectiveEvidence, SumEvidence, Window, Twins, Flux, Ring}
+use Rattle.cert_values.specs.Evidence.{InjectiveEvidence, SumEvidence, Window, Twins, Flux, Ring}
 use Rattle.ca_findings.specs.Findings.{Finding, Unfit}
 use Rattle.ca_findings.specs.Replies.{Reply}
 

@@ -1,5 +1,6 @@
 //! What is found, and why nothing fits.
-use cert_format::{Cert, InjectivePart, SidePart, SumPart};
+use cert_conditions::Report;
+use cert_values::Cert;
 use inverse_table::InverseMap;
 use rule_algebra::AlgebraFault;
 use rule_classes::LiftFault;
@@ -7,7 +8,7 @@ use rule_text::TextFault;
 use std::alloc::AllocError;
 use tail_config::TailFault;
 use tail_preimage::Pre;
-use word_image::{Rule, Weights, Word};
+use word_image::{Rule, Word};
 
 /// What is found.
 #[derive(Drop)]
@@ -36,18 +37,6 @@ pub enum Found {
     Summary(Counts),
     /// The same, and how many classes they have.
     Classes(Counts, usize),
-}
-
-/// The verdicts of a rule, each with the least evidence.
-#[derive(Drop)]
-pub struct Report {
-    pub rule: Rule,
-    pub weights: Weights,
-    pub orphan: Option<Word>,
-    pub injective: InjectivePart,
-    pub right: SidePart,
-    pub left: SidePart,
-    pub conserving: SumPart,
 }
 
 /// An inverse map over the window (n, c), and the map as a rule where it is one.

@@ -30,7 +30,7 @@ ghost use Rattle.ca_findings.specs.Questions.{AreRules};
 ghost use Rattle.ca_findings.specs.Questions as questions;
 ghost use Rattle.ca_findings.specs.Writable.{IsWritable, IsWritableUnfit};
 
-pub use found::{Automaton, Cause, Counts, Found, Inverse, Pair, Report, Stop};
+pub use found::{Automaton, Cause, Counts, Found, Inverse, Pair, Stop};
 pub use question::{Drawn, Numbered, Question};
 pub use reply::Reply;
 

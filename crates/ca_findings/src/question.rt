@@ -4,7 +4,7 @@ ghost use Rattle.rule_verdicts.specs.Numbers.{numbers_fault};
 ghost use Rattle.ca_findings.specs.QuestionValues.{AreDrawn, AreNumbered};
 ghost use Rattle.ca_findings.specs.Samples.{sample_fault};
 
-use cert_format::CertVersion;
+use cert_values::CertVersion;
 use rule_text::{TextFault, check_shape, numbered};
 use rule_verdicts::fault_past_all;
 use tail_config::Tail;

@@ -4,8 +4,8 @@ use Rattle.std.specs.Fmt.{digits}
 use Rattle.serde_json.proofs.OnLiterals.{serde_json_on_literals}
 use Rattle.word_image.specs.declared.side.Side.TheVariants.{Right}
 use Rattle.rule_text.specs.declared.text_fault.TextFault.TheVariants.{Form}
-use Rattle.cert_format.specs.declared.shape_fault.Key.TheVariants.{Left}
-use Rattle.cert_format.specs.declared.shape_fault.ShapeFault.TheVariants.{Shape}
+use Rattle.cert_values.specs.declared.shape_fault.Key.TheVariants.{Left}
+use Rattle.cert_values.specs.declared.shape_fault.ShapeFault.TheVariants.{Shape}
 use Rattle.cert_conditions.specs.declared.refusal.Refusal.TheVariants.{Format, Rank}
 use Rattle.ca_findings.specs.Findings.{Finding, Unfit}
 use Rattle.ca_findings.specs.Replies.{Reply}

@@ -7,8 +7,9 @@ use Rattle.rule_text.specs.PrintedRules.{printed_rule, number_found}
 use Rattle.tail_config.specs.InverseMaps.{WindowMap}
 use Rattle.image_minimal.specs.ImageLanguages.{Automaton}
 use Rattle.tail_preimage.specs.Preimages.{PlacedConfig}
-use Rattle.cert_format.specs.WrittenTexts.{array_from, whole_value, signed_value, word_value, claim_value, certificate_value}
-use Rattle.certificate_laws.specs.LeastEvidence.{Evidence, close_both}
+use Rattle.cert_values.specs.WrittenTexts.{array_from, whole_value, signed_value, word_value, claim_value, certificate_value}
+use Rattle.cert_values.specs.Evidence.{says_open}
+use Rattle.certificate_laws.specs.LeastEvidence.{Evidence}
 use Rattle.ca_findings.specs.Counts.{Counts}
 use Rattle.ca_findings.specs.Findings.{Finding}
 use Rattle.ca_json.specs.Values.{object_of, tagged, two, numbers_json, word_or_null, number_or_null, tail_json, surjective_json, injective_json, side_json, conserving_json}
@@ -27,7 +28,7 @@ pair_or_null (Some pair) = two (word_value pair.0) (word_value pair.1)
 abbrev pub report_json : Evidence → Data
 report_json e = object_of (
     (codes "conserving", conserving_json e.conserving) ∷ (codes "injective", injective_json e.injective) ∷ (codes "left", side_json e.left)
-    ∷ (codes "number", number_or_null (number_found e.rule)) ∷ (codes "open", boolean (close_both e.right e.left)) ∷ (codes "right", side_json e.right)
+    ∷ (codes "number", number_or_null (number_found e.rule)) ∷ (codes "open", boolean (says_open e.right e.left)) ∷ (codes "right", side_json e.right)
     ∷ (codes "rule", string (printed_rule e.rule)) ∷ (codes "surjective", surjective_json e.orphan) ∷ (codes "weights", numbers_json e.weights) ∷ [])
 
 -- a map over a window, and what it is as a rule

@@ -4,11 +4,13 @@ use Rattle.serde_json.specs.Data.{Data, boolean, string}
 use Rattle.serde_json.specs.Written.{compact_text}
 use Rattle.rule_text.specs.PrintedRules.{printed_rule}
 use Rattle.cert_conditions.specs.declared.verdicts.Verdicts.{Verdicts}
+use Rattle.rule_text.specs.FaultTexts.{fault_name, fault_place}
+use Rattle.cert_conditions.specs.RefusalParts.{parts_of}
 use Rattle.cert_conditions.specs.Accepted.{is_open}
 use Rattle.ca_findings.specs.Replies.{Reply}
 use Rattle.ca_json.specs.Values.{object_of, status, numbers_json}
 use Rattle.ca_json.specs.Findings.{finding_json}
-use Rattle.ca_json.specs.Causes.{unfit_json, fault_name, fault_place, operand_json, refusal_json}
+use Rattle.ca_json.specs.Causes.{unfit_json, operand_json, parts_json}
 
 -- the verdicts of an accepted certificate
 abbrev pub verdicts_json : Verdicts → Data
@@ -22,7 +24,7 @@ json_of (Reply.Found f) = object_of ((codes "finding", finding_json f) ∷ statu
 json_of (Reply.NoFit u) = object_of ((codes "cause", unfit_json u) ∷ status (codes "notfit") ∷ [])
 json_of (Reply.RuleFault operand f) = operand_json operand (fault_name f) (fault_place f)
 json_of (Reply.Accepted v) = object_of (status (codes "done") ∷ (codes "verdicts", verdicts_json v) ∷ [])
-json_of (Reply.Refused f) = refusal_json f
+json_of (Reply.Refused f) = parts_json (parts_of f)
 json_of Reply.TooLong = object_of (status (codes "toolong") ∷ [])
 json_of Reply.Usage = object_of (status (codes "usage") ∷ [])
 

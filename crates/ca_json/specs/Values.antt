@@ -3,8 +3,8 @@ use Rattle.std.specs.Prelude.{ℕ, List, [], ◌∷◌, map, codes, true, false,
 use Rattle.std.specs.Fmt.{decimal}
 use Rattle.serde_json.specs.Data.{Data, null, boolean, string, object, Members, no_members, member}
 use Rattle.tail_config.specs.Tails.{TailConfig}
-use Rattle.cert_format.specs.Evidence.{InjectiveEvidence, SideEvidence, SumEvidence, Window, Twins, Ahead, Split, Flux, Ring}
-use Rattle.cert_format.specs.WrittenTexts.{array_from, whole_value, signed_value, word_value}
+use Rattle.cert_values.specs.Evidence.{InjectiveEvidence, SideEvidence, SumEvidence, Window, Twins, Ahead, Split, Flux, Ring}
+use Rattle.cert_values.specs.WrittenTexts.{array_from, whole_value, signed_value, word_value}
 
 -- the members of some keys, which ascend, with their values
 abbrev pub members_of : List (List ℕ × Data) → Members

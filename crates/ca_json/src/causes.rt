@@ -3,13 +3,14 @@ ghost use Rattle.std.specs.Prelude.{◌≡◌, IfOk};
 ghost use Rattle.serde_json.specs.View.{view};
 ghost use Rattle.ca_findings.specs.Values.{unfit_of};
 ghost use Rattle.ca_findings.specs.Writable.{IsWritableUnfit};
+ghost use Rattle.rule_text.specs.FaultTexts as texts;
 ghost use Rattle.ca_json.specs.Causes as causes;
 
 use crate::values::{pair_value, tagged};
 use ca_findings::Cause;
 use rule_algebra::algebra_name;
 use rule_classes::lift_name;
-use rule_text::TextFault;
+use rule_text::{TextFault, fault_name, fault_place};
 use serde_json::{Value, json};
 use std::alloc::{AllocError, Global};
 use tail_config::TailFault;
@@ -48,7 +49,7 @@ fn tail_name(fault: TailFault) -> &'static str
 
 /// Which fault the operand with this number has, and where.
 pub fn operand_value(alloc: Global, operand: u8, fault: TextFault) -> Result<Value, AllocError>
-    ensures { IfOk result (λ v. view v ≡ causes.operand_json operand (causes.fault_name fault) (causes.fault_place fault)) }
+    ensures { IfOk result (λ v. view v ≡ causes.operand_json operand (texts.fault_name fault) (texts.fault_place fault)) }
 {
     let name = fault_name(fault);
     match fault_place(fault) {
@@ -56,32 +57,5 @@ pub fn operand_value(alloc: Global, operand: u8, fault: TextFault) -> Result<Val
         Some(place) => json!(in alloc; {
             "fault": name, "operand": operand, "place": place, "status": "rulefault"
         }),
-    }
-}
-
-/// The kind of a fault.
-pub fn fault_name(fault: TextFault) -> &'static str
-    ensures { result.now ≡ causes.fault_name fault }
-{
-    match fault {
-        TextFault::Form(_) => "form",
-        TextFault::States => "states",
-        TextFault::Width => "width",
-        TextFault::Nodes => "nodes",
-        TextFault::Offset => "offset",
-        TextFault::Kind => "kind",
-        TextFault::Length => "length",
-        TextFault::Letter(_) => "letter",
-        TextFault::Number => "number",
-    }
-}
-
-/// The place of a fault, where it has one.
-pub fn fault_place(fault: TextFault) -> Option<usize>
-    ensures { result ≡ causes.fault_place fault }
-{
-    match fault {
-        TextFault::Form(place) | TextFault::Letter(place) => Some(place),
-        _ => None,
     }
 }

@@ -1,20 +1,18 @@
 //! A report: verdicts with their evidence.
 ghost use Rattle.std.specs.Prelude.{◌≡◌, IfOk};
 ghost use Rattle.serde_json.specs.View.{view};
-ghost use Rattle.cert_format.specs.Parts.{injective_of, side_of, sum_of};
-ghost use Rattle.certificate_laws.specs.LeastEvidence.{close_both};
+ghost use Rattle.cert_values.specs.Parts.{injective_of, side_of, sum_of};
+ghost use Rattle.certificate_laws.specs.ReportValues.{evidence_of};
 ghost use Rattle.ca_findings.specs.Findings.{Finding};
 ghost use Rattle.rule_text.specs.PrintedRules.{number_found};
-ghost use Rattle.ca_findings.specs.Values.{evidence_of};
 ghost use Rattle.ca_findings.specs.Writable.{HasDigits, HasRingDigits, HasTwinDigits, IsWritable};
 ghost use Rattle.ca_json.specs.Findings.{report_json};
 ghost use Rattle.ca_json.specs.Values.{conserving_json, injective_json, number_or_null, side_json, surjective_json, tail_json};
 
 use crate::values::{number_or_null, pair_value, tail_value};
-use ca_findings::Report;
-use cert_format::{
-    InjectivePart, SidePart, SumPart, flux_value, rule_value, weights_value, word_value,
-};
+use cert_conditions::Report;
+use cert_format::{flux_value, rule_value, weights_value, word_value};
+use cert_values::{InjectivePart, SidePart, SumPart};
 use rule_text::number;
 use serde_json::{Map, Value, json, put};
 use std::alloc::{AllocError, Global};
@@ -30,7 +28,7 @@ pub fn report_value(alloc: Global, report: &Report) -> Result<Value, AllocError>
     let injective = injective_value(alloc, &report.injective)?;
     let left = side_value(alloc, &report.left)?;
     let number = number_value(alloc, &report.rule)?;
-    let open = Value::from(are_ahead(&report.right, &report.left));
+    let open = Value::from(report.is_open());
     let right = side_value(alloc, &report.right)?;
     let rule = rule_value(alloc, &report.rule)?;
     let surjective = surjective_value(alloc, &report.orphan)?;
@@ -53,13 +51,6 @@ fn number_value(alloc: Global, rule: &Rule) -> Result<Value, AllocError>
     ensures { IfOk result (λ v. view v ≡ number_or_null (number_found rule.now)) }
 {
     number_or_null(alloc, number(rule))
-}
-
-/// Whether both sides have a look-ahead.
-fn are_ahead(right: &SidePart, left: &SidePart) -> bool
-    ensures { result ≡ close_both (side_of right.now) (side_of left.now) }
-{
-    matches!((right, left), (SidePart::Ahead(_), SidePart::Ahead(_)))
 }
 
 /// That every word has a preimage, or an orphan.

@@ -3,7 +3,7 @@ ghost use Rattle.std.specs.Prelude.{◌≡◌, IfOk};
 ghost use Rattle.serde_json.specs.View.{view};
 ghost use Rattle.word_image.specs.LocalRules.{IsWord};
 ghost use Rattle.tail_config.specs.TailValues.{config_of};
-ghost use Rattle.cert_format.specs.WrittenTexts as written;
+ghost use Rattle.cert_values.specs.WrittenTexts as written;
 ghost use Rattle.ca_findings.specs.Writable.{HasDigits};
 ghost use Rattle.ca_json.specs.Values as values;
 

@@ -5,8 +5,8 @@ use Rattle.std.specs.Fmt.{decimal}
 use Rattle.word_image.specs.Digits.{word_text}
 use Rattle.tail_config.specs.TailTexts as tail
 use Rattle.rule_text.specs.PrintedRules.{printed_rule, offset_text, number_found}
-use Rattle.cert_format.specs.Evidence.{InjectiveEvidence, SideEvidence, SumEvidence, Window, Twins, Ahead, Split, Flux, Ring}
-use Rattle.certificate_laws.specs.LeastEvidence.{Evidence, close_both}
+use Rattle.cert_values.specs.Evidence.{InjectiveEvidence, SideEvidence, SumEvidence, Window, Twins, Ahead, Split, Flux, Ring, says_open}
+use Rattle.certificate_laws.specs.LeastEvidence.{Evidence}
 
 -- a text, and the byte that ends a line
 abbrev pub line : List ℕ → List ℕ
@@ -41,5 +41,5 @@ conserving_line (Ring p) = line (codes "conserving no ring " ++ word_text p)
 abbrev pub report_lines : Evidence → List ℕ
 report_lines e =
     line (codes "rule " ++ printed_rule e.rule) ++ number_line (number_found e.rule) ++ surjective_line e.orphan ++ injective_line e.injective
-    ++ side_line (codes "right") e.right ++ side_line (codes "left") e.left ++ line (if close_both e.right e.left then codes "open yes" else codes "open no")
+    ++ side_line (codes "right") e.right ++ side_line (codes "left") e.left ++ line (if says_open e.right e.left then codes "open yes" else codes "open no")
     ++ conserving_line e.conserving

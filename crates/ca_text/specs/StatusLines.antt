@@ -1,17 +1,16 @@
 -- The lines of the statuses: what is said of words, operands, inputs and certificates.
-use Rattle.std.specs.Prelude.{ℕ, Bool, List, [], ◌++◌, length, codes, bytes_eq, if◌then◌else◌}
+use Rattle.std.specs.Prelude.{ℕ, Bool, List, [], ◌++◌, length, codes, bytes_eq, if◌then◌else◌, Option, Some, None}
 use Rattle.std.specs.List.{join_by}
 use Rattle.std.specs.Fmt.{decimal}
 use Rattle.word_image.specs.Weights.{own_weights}
 use Rattle.rule_text.specs.PrintedRules.{printed_rule}
 use Rattle.rule_text.specs.FaultTexts.{fault_text}
 use Rattle.rule_text.specs.declared.text_fault.TextFault.{TextFault}
-use Rattle.cert_format.specs.declared.shape_fault.ShapeFault.{ShapeFault}
-use Rattle.cert_format.specs.declared.shape_fault.ShapeFault.TheVariants as shape
 use Rattle.cert_conditions.specs.declared.refusal.Refusal.{Refusal}
-use Rattle.cert_conditions.specs.declared.refusal.Refusal.TheVariants as refusal
 use Rattle.cert_conditions.specs.declared.verdicts.Verdicts.{Verdicts}
-use Rattle.cert_conditions.specs.RefusalTexts.{key_text, side_text, twin_text, split_text}
+use Rattle.cert_conditions.specs.declared.refusal_parts.RefusalNumbers.{RefusalNumbers}
+use Rattle.cert_conditions.specs.declared.refusal_parts.RefusalNumbers.TheVariants as numbers
+use Rattle.cert_conditions.specs.RefusalParts.{Parts, parts_of}
 use Rattle.cert_conditions.specs.Accepted.{is_open}
 use Rattle.ca_text.specs.Reports.{line}
 
@@ -50,32 +49,22 @@ accepted_lines v =
 
 -- Of a refused one
 
--- the text of the first fault of a certificate's shape
-abbrev pub shape_text : ShapeFault → List ℕ
-shape_text shape.NotJson = codes "notjson"
-shape_text (shape.Version v) = codes "version " ++ decimal v
-shape_text (shape.Shape k) = codes "shape " ++ key_text k
-shape_text (shape.Rule f) = codes "rule " ++ fault_text f
+-- a blank and a word, if there is one
+abbrev pub word_part : Option (List ℕ) → List ℕ
+word_part None = []
+word_part (Some word) = codes " " ++ word
 
--- the first condition that isn't met, and what is said of it; want of memory isn't one
-abbrev pub refusal_text : Refusal → List ℕ
-refusal_text (refusal.Format f) = codes "format " ++ shape_text f
-refusal_text (refusal.Rank s p) = codes "rank " ++ (side_text s ++ (codes " " ++ decimal p))
-refusal_text refusal.NoFull = codes "nofull"
-refusal_text (refusal.EmptySet i) = codes "emptyset " ++ decimal i
-refusal_text (refusal.NotClosed i a) = codes "notclosed " ++ (decimal i ++ (codes " " ++ decimal a))
-refusal_text (refusal.NoFirst p) = codes "nofirst " ++ decimal p
-refusal_text (refusal.Diagonal i) = codes "diagonal " ++ decimal i
-refusal_text (refusal.Leaves i a b) = codes "leaves " ++ (decimal i ++ (codes " " ++ (decimal a ++ (codes " " ++ decimal b))))
-refusal_text refusal.Orphan = codes "orphan"
-refusal_text (refusal.Window p) = codes "window " ++ decimal p
-refusal_text (refusal.Twins cause) = codes "twins " ++ twin_text cause
-refusal_text (refusal.Ahead s p) = codes "ahead " ++ (side_text s ++ (codes " " ++ decimal p))
-refusal_text (refusal.Split s cause) = codes "split " ++ (side_text s ++ (codes " " ++ split_text cause))
-refusal_text (refusal.Flux w) = codes "flux " ++ decimal w
-refusal_text refusal.Ring = codes "ring"
-refusal_text (refusal.Memory _) = []
+-- a blank and each number
+abbrev pub number_parts : RefusalNumbers → List ℕ
+number_parts numbers.None = []
+number_parts (numbers.One a) = codes " " ++ decimal a
+number_parts (numbers.Two a b) = codes " " ++ decimal a ++ codes " " ++ decimal b
+number_parts (numbers.Three a b c) = codes " " ++ decimal a ++ codes " " ++ decimal b ++ codes " " ++ decimal c
+
+-- the parts of a refusal in their order
+abbrev pub refusal_text : Parts → List ℕ
+refusal_text p = p.cause ++ word_part p.side ++ word_part p.because ++ word_part p.key ++ word_part p.fault ++ number_parts p.numbers
 
 -- the line
 abbrev pub refused_line : Refusal → List ℕ
-refused_line f = line (codes "refused " ++ refusal_text f)
+refused_line f = line (codes "refused " ++ refusal_text (parts_of f))

@@ -3,17 +3,16 @@ ghost use Rattle.std.specs.Prelude.{◌≡◌, ◌++◌, codes, if◌then◌else
 ghost use Rattle.std.specs.List.{flat_map};
 ghost use Rattle.tail_config.specs.TailTexts as tail;
 ghost use Rattle.rule_text.specs.PrintedRules.{printed_rule, offset_text};
-ghost use Rattle.cert_format.specs.Evidence.InjectiveEvidence.{Window};
-ghost use Rattle.cert_format.specs.Parts.{injective_of, side_of, sum_of};
-ghost use Rattle.certificate_laws.specs.LeastEvidence.{close_both};
+ghost use Rattle.cert_values.specs.Evidence.InjectiveEvidence.{Window};
+ghost use Rattle.cert_values.specs.Parts.{injective_of, side_of, sum_of};
+ghost use Rattle.certificate_laws.specs.ReportValues.{evidence_of};
 ghost use Rattle.ca_text.specs.Reports.{line, number_line, surjective_line, injective_line, side_line, conserving_line, report_lines};
 ghost use Rattle.ca_findings.specs.Findings.{Finding};
-ghost use Rattle.ca_findings.specs.Values.{evidence_of};
 ghost use Rattle.ca_findings.specs.Writable.{HasDigits, HasTwinDigits, HasRingDigits, IsWritable};
 
 use crate::output::Output;
-use ca_findings::Report;
-use cert_format::{InjectivePart, SidePart, SumPart};
+use cert_conditions::Report;
+use cert_values::{InjectivePart, SidePart, SumPart};
 use rule_text::{number, print};
 use std::alloc::{AllocError, Global};
 use tail_config::Tail;
@@ -30,15 +29,8 @@ pub fn write_report(alloc: Global, output: &mut Output, report: &Report) -> Resu
     write_injective(alloc, output, &report.injective)?;
     write_side(alloc, output, "right", &report.right)?;
     write_side(alloc, output, "left", &report.left)?;
-    write_open(output, are_ahead(&report.right, &report.left))?;
+    write_open(output, report.is_open())?;
     write_conserving(alloc, output, &report.conserving)
-}
-
-/// Whether both sides have a look-ahead.
-fn are_ahead(right: &SidePart, left: &SidePart) -> bool
-    ensures { result ≡ close_both (side_of right.now) (side_of left.now) }
-{
-    matches!((right, left), (SidePart::Ahead(_), SidePart::Ahead(_)))
 }
 
 /// Appends the printed rule.

@@ -1,7 +1,8 @@
 //! The text of a finding.
 ghost use Rattle.std.specs.Prelude.{◌≡◌, ◌++◌, codes, IfOk};
 ghost use Rattle.rule_text.specs.PrintedRules.{printed_rule};
-ghost use Rattle.ca_findings.specs.Values.{counts_of, evidence_of, finding_of};
+ghost use Rattle.certificate_laws.specs.ReportValues.{evidence_of};
+ghost use Rattle.ca_findings.specs.Values.{counts_of, finding_of};
 ghost use Rattle.ca_findings.specs.Findings.{Finding};
 ghost use Rattle.ca_text.specs.Reports.{line, number_line, report_lines, surjective_line};
 ghost use Rattle.ca_text.specs.Lines.{count_line, counts_lines};
@@ -14,7 +15,8 @@ use crate::languages::{automaton_output, erased_output, same_output};
 use crate::output::Output;
 use crate::preimages::preimage_output;
 use crate::report::{write_number, write_report, write_surjective};
-use ca_findings::{Counts, Found, Report};
+use ca_findings::{Counts, Found};
+use cert_conditions::Report;
 use cert_format::to_bytes;
 use rule_text::print;
 use std::alloc::{AllocError, Global};

@@ -1,21 +1,18 @@
 //! What is said of a certificate: its verdicts, or why it is refused.
-ghost use Rattle.std.specs.Prelude.{◌≡◌, ◌++◌, codes, if◌then◌else◌, IfOk, OnOk, string_bytes};
+ghost use Rattle.std.specs.Prelude.{◌≡◌, ◌++◌, codes, if◌then◌else◌, IfOk, OnOk};
+ghost use Rattle.std.specs.Option.{option_map};
 ghost use Rattle.std.specs.List.{flat_map, join_by};
 ghost use Rattle.std.specs.Fmt.{decimal};
 ghost use Rattle.rule_text.specs.PrintedRules.{printed_rule};
 ghost use Rattle.ca_text.specs.Reports.{line};
-ghost use Rattle.rule_text.specs.FaultTexts.{fault_text};
-ghost use Rattle.ca_text.specs.StatusLines.{accepted_lines, weights_lines, verdict_line, refused_line, refusal_text, shape_text};
-ghost use Rattle.cert_conditions.specs.RefusalTexts.{key_text, side_text, twin_text, split_text};
+ghost use Rattle.ca_text.specs.StatusLines.{accepted_lines, weights_lines, verdict_line, refused_line, refusal_text, word_part, number_parts};
+ghost use Rattle.cert_conditions.specs.RefusalParts.{said_in};
 
 use crate::output::Output;
-use cert_conditions::{
-    Refusal, SplitCause, TwinCause, Verdicts, key_name, side_name, split_name, twin_name,
-};
-use cert_format::{Key, ShapeFault};
-use rule_text::{TextFault, fault_kind, print};
+use cert_conditions::{Refusal, RefusalNumbers, RefusalParts, Verdicts};
+use rule_text::print;
 use std::alloc::{AllocError, Global};
-use word_image::{Rule, Side, Weights};
+use word_image::{Rule, Weights};
 
 /// Appends the seven lines of an accepted certificate, and that of its weights.
 pub fn write_accepted(
@@ -95,97 +92,50 @@ fn verdict_name(yes: bool) -> &'static str
 pub fn refused_output(alloc: Global, refusal: Refusal) -> Result<Output, AllocError>
     ensures { IfOk result (λ output. output ≡ refused_line refusal) }
 {
-    let words = refusal_words(alloc, refusal)?;
-    Output::line(alloc, &format!(in alloc; "refused {words}")?)
+    let parts = RefusalParts::of(refusal)?;
+    let mut output = Output::new(alloc);
+    output.push(b"refused ")?;
+    write_parts(alloc, &mut output, &parts)?;
+    output.push(b"\n")?;
+    Ok(output)
 }
 
-/// Which condition isn't met, and what is said of it.
-fn refusal_words(alloc: Global, refusal: Refusal) -> Result<String, AllocError>
-    ensures { IfOk result (λ text. string_bytes text ≡ refusal_text refusal) }
+/// Appends the parts of a refusal, with blanks between.
+fn write_parts(alloc: Global, output: &mut Output, parts: &RefusalParts) -> Result<(), AllocError>
+    ensures { OnOk result (output.new ≡ output.old ++ refusal_text (said_in parts.now)) }
 {
-    match refusal {
-        Refusal::Format(fault) => shape_words(alloc, fault),
-        Refusal::Rank(side, pair) => pair_words(alloc, "rank", side, pair),
-        Refusal::NoFull => String::from_str(alloc, "nofull"),
-        Refusal::EmptySet(index) => format!(in alloc; "emptyset {index}"),
-        Refusal::NotClosed(index, letter) => closing_words(alloc, index, letter),
-        Refusal::NoFirst(pair) => format!(in alloc; "nofirst {pair}"),
-        Refusal::Diagonal(index) => format!(in alloc; "diagonal {index}"),
-        Refusal::Leaves(index, a, b) => leaving_words(alloc, index, a, b),
-        Refusal::Orphan => String::from_str(alloc, "orphan"),
-        Refusal::Window(pair) => format!(in alloc; "window {pair}"),
-        Refusal::Twins(cause) => twin_words(alloc, cause),
-        Refusal::Ahead(side, pair) => pair_words(alloc, "ahead", side, pair),
-        Refusal::Split(side, cause) => split_words(alloc, side, cause),
-        Refusal::Flux(window) => format!(in alloc; "flux {window}"),
-        Refusal::Ring => String::from_str(alloc, "ring"),
-        Refusal::Memory(fault) => Err(fault),
-    }
+    output.push(parts.cause.as_bytes())?;
+    write_word(output, parts.side)?;
+    write_word(output, parts.because)?;
+    write_word(output, parts.key)?;
+    write_word(output, parts.fault)?;
+    write_places(alloc, output, parts.numbers)
 }
 
-/// The first fault of the shape.
-fn shape_words(alloc: Global, fault: ShapeFault) -> Result<String, AllocError>
-    ensures { IfOk result (λ text. string_bytes text ≡ codes "format " ++ shape_text fault) }
+/// Appends a blank and a word, if there is one.
+fn write_word(output: &mut Output, word: Option<&'static str>) -> Result<(), AllocError>
+    ensures { OnOk result (output.new ≡ output.old ++ word_part (option_map (λ w. w.now) word.entry)) }
 {
-    match fault {
-        ShapeFault::NotJson => String::from_str(alloc, "format notjson"),
-        ShapeFault::Version(version) => format!(in alloc; "format version {version}"),
-        ShapeFault::Shape(key) => key_words(alloc, key),
-        ShapeFault::Rule(fault) => rule_words(alloc, fault),
-    }
+    let Some(word) = word else {
+        return Ok(());
+    };
+    output.push(b" ")?;
+    output.push(word.as_bytes())
 }
 
-/// The part that has no right shape.
-fn key_words(alloc: Global, key: Key) -> Result<String, AllocError>
-    ensures { IfOk result (λ text. string_bytes text ≡ codes "format shape " ++ key_text key) }
+/// Appends a blank and each number of a refusal.
+fn write_places(
+    alloc: Global,
+    output: &mut Output,
+    numbers: RefusalNumbers,
+) -> Result<(), AllocError>
+    ensures { OnOk result (output.new ≡ output.old ++ number_parts numbers) }
 {
-    let name = key_name(key);
-    format!(in alloc; "format shape {name}")
-}
-
-/// The fault of the rule's text.
-fn rule_words(alloc: Global, fault: TextFault) -> Result<String, AllocError>
-    ensures { IfOk result (λ text. string_bytes text ≡ codes "format rule " ++ fault_text fault) }
-{
-    let kind = fault_kind(alloc, fault)?;
-    format!(in alloc; "format rule {kind}")
-}
-
-/// What isn't right of a pair, on which side, and of which pair.
-fn pair_words(alloc: Global, what: &str, side: Side, pair: u16) -> Result<String, AllocError>
-    ensures { IfOk result (λ text. string_bytes text ≡ what.now ++ (codes " " ++ (side_text side ++ (codes " " ++ decimal pair)))) }
-{
-    let side = side_name(side);
-    format!(in alloc; "{what} {side} {pair}")
-}
-
-/// Which set isn't closed, and on which letter.
-fn closing_words(alloc: Global, index: usize, letter: u8) -> Result<String, AllocError>
-    ensures { IfOk result (λ text. string_bytes text ≡ codes "notclosed " ++ (decimal index ++ (codes " " ++ decimal letter))) }
-{
-    format!(in alloc; "notclosed {index} {letter}")
-}
-
-/// Which pair leads to one that isn't listed, and on which letters.
-fn leaving_words(alloc: Global, index: usize, a: u8, b: u8) -> Result<String, AllocError>
-    ensures { IfOk result (λ text. string_bytes text ≡ codes "leaves " ++ (decimal index ++ (codes " " ++ (decimal a ++ (codes " " ++ decimal b))))) }
-{
-    format!(in alloc; "leaves {index} {a} {b}")
-}
-
-/// Which words aren't twins, and why.
-fn twin_words(alloc: Global, cause: TwinCause) -> Result<String, AllocError>
-    ensures { IfOk result (λ text. string_bytes text ≡ codes "twins " ++ twin_text cause) }
-{
-    let cause = twin_name(cause);
-    format!(in alloc; "twins {cause}")
-}
-
-/// On which side there is no split, and why.
-fn split_words(alloc: Global, side: Side, cause: SplitCause) -> Result<String, AllocError>
-    ensures { IfOk result (λ text. string_bytes text ≡ codes "split " ++ (side_text side ++ (codes " " ++ split_text cause))) }
-{
-    let side = side_name(side);
-    let cause = split_name(cause);
-    format!(in alloc; "split {side} {cause}")
+    let text = match numbers {
+        RefusalNumbers::None => return Ok(()),
+        RefusalNumbers::One(a) => format!(in alloc; " {a}")?,
+        RefusalNumbers::Two(a, b) => format!(in alloc; " {a} {b}")?,
+        RefusalNumbers::Three(a, b, c) => format!(in alloc; " {a} {b} {c}")?,
+    };
+    output.push(text.as_bytes())
 }

@@ -1,6 +1,6 @@
 -- What a check answers: of one condition, and of something that is asked of each number.
 use Rattle.std.specs.Prelude.{Result, MatchResult, ℕ, Option, MatchOption}
-use Rattle.cert_format.specs.Certificates.{Certificate}
+use Rattle.cert_values.specs.Certificates.{Certificate}
 use Rattle.cert_conditions.specs.declared.condition.Condition.{Condition}
 use Rattle.cert_conditions.specs.declared.refusal.Refusal.{Refusal}
 use Rattle.cert_conditions.specs.Conditions.{Holds}

@@ -1,7 +1,7 @@
 -- Rows of bits, which mark sets of nodes.
 use Rattle.std.specs.Prelude.{ℕ, ◌*◌, ◌/◌, ◌%◌, ◌^◌, ◌≤◌, ◌↔◌, List, slice_index, Contains, IsBitSet, bit_and}
 use Rattle.std.specs.Int.{bit_not, w16}
-use Rattle.cert_format.specs.declared.cert_version.CertVersion.{CertVersion}
+use Rattle.cert_values.specs.declared.cert_version.CertVersion.{CertVersion}
 use Rattle.cert_conditions.specs.Sets.{IsKept}
 
 -- a set without one of 16 nodes

@@ -5,15 +5,15 @@ ghost use Rattle.word_image.specs.Graphs.{first_of, second_of, pair_count};
 ghost use Rattle.cert_check.specs.Checks.{IsChecked, FirstBreach};
 ghost use Rattle.word_image.specs.Ends.{label_at};
 ghost use Rattle.word_image.specs.FirstPairs.{IsFirstOf};
-ghost use Rattle.cert_format.specs.Certificates.{IsSideShape};
-ghost use Rattle.cert_format.specs.Parts.{side_of, IsOver};
+ghost use Rattle.cert_values.specs.Certificates.{IsSideShape};
+ghost use Rattle.cert_values.specs.Parts.{side_of, IsOver};
 ghost use Rattle.cert_conditions.specs.Sides.{evidence_on};
 ghost use Rattle.cert_check.specs.SideWindows.{rest_of};
 ghost use Rattle.cert_conditions.specs.Claims.{IsAheadPair};
 
 use crate::claims::{claims_below, claims_on};
 use cert_conditions::{Condition, Refusal};
-use cert_format::{Cert, SidePart};
+use cert_values::{Cert, SidePart};
 use word_image::{Rule, Side};
 
 /// Whether the claims of the first pairs of this side are less than the look-ahead allows; else the least

@@ -9,7 +9,7 @@ ghost use Rattle.cert_conditions.specs.Claims.{claim, IsBelow, Falls};
 ghost use Rattle.cert_check.specs.SideWindows.{FallsBy};
 
 use cert_conditions::{Condition, Refusal};
-use cert_format::Cert;
+use cert_values::Cert;
 use word_image::{Rule, Side};
 
 /// Whether what is claimed of each pair on this side is more than what is claimed of each pair to which it

@@ -15,7 +15,7 @@ use crate::sums::{flux_flows, ring_lossy};
 use crate::twins::twins_alike;
 use crate::windows::window_claims;
 use cert_conditions::{Condition, Refusal};
-use cert_format::Cert;
+use cert_values::Cert;
 use word_image::Side;
 
 /// All of them, the one that is checked first at the front.

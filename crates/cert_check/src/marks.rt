@@ -5,7 +5,7 @@ ghost use Rattle.word_image.specs.LocalRules.{most_nodes};
 ghost use Rattle.cert_conditions.specs.Sets.{HasPart};
 ghost use Rattle.cert_check.specs.Rows.{IsMarked, AreMarked, AreKept, without};
 
-use cert_format::CertVersion;
+use cert_values::CertVersion;
 use word_image::MOST_NODES;
 
 /// A row for each 16 of the 65,536 sets.

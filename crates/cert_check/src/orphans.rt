@@ -6,7 +6,7 @@ ghost use Rattle.cert_conditions.specs.Sets.{LeadsTo};
 ghost use Rattle.cert_check.specs.Checks.{IsChecked};
 
 use cert_conditions::{Condition, Refusal};
-use cert_format::{Cert, SurjectivePart};
+use cert_values::{Cert, SurjectivePart};
 use word_image::{Rule, Side, edge_rows, step};
 
 /// Whether the orphan leads from the full set to the empty one.

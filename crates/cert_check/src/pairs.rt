@@ -10,7 +10,7 @@ ghost use Rattle.cert_check.specs.Checks.{IsChecked, FirstBreach};
 use crate::aheads::is_first;
 use crate::marks::Marks;
 use cert_conditions::{Condition, Refusal};
-use cert_format::{Cert, SurjectivePart};
+use cert_values::{Cert, SurjectivePart};
 use word_image::{Rule, Side};
 
 /// Whether each first pair of the right is listed; else the least that isn't.

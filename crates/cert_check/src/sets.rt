@@ -10,7 +10,7 @@ ghost use Rattle.cert_check.specs.Checks.{IsChecked, FirstBreach};
 
 use crate::marks::Marks;
 use cert_conditions::{Condition, Refusal};
-use cert_format::{Cert, CertVersion, SurjectivePart};
+use cert_values::{Cert, CertVersion, SurjectivePart};
 use word_image::{EdgeRows, Rule, Side, edge_rows, step};
 
 /// The most listed sets that are all looked at for each step. With more, marks on the sets that contain a

@@ -8,7 +8,7 @@ ghost use Rattle.cert_conditions.specs.Sides.{AgreeBehind};
 
 use crate::aheads::part_on;
 use cert_conditions::{Condition, Refusal, SplitCause};
-use cert_format::{Cert, SidePart};
+use cert_values::{Cert, SidePart};
 use tail_config::{Tail, agree_left, agree_right, differ, share};
 use word_image::{Rule, Side};
 

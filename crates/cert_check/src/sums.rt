@@ -6,7 +6,7 @@ ghost use Rattle.cert_check.specs.Checks.{IsChecked, FirstBreach};
 ghost use Rattle.cert_conditions.specs.Sums.{Flows};
 
 use cert_conditions::{Condition, Refusal};
-use cert_format::{Cert, SumPart};
+use cert_values::{Cert, SumPart};
 use word_image::{Rule, Side, Weights, keeps_sum};
 
 /// Whether the flux balances what each window gains; else the least window that it doesn't.

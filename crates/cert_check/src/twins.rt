@@ -7,7 +7,7 @@ ghost use Rattle.cert_conditions.specs.Refusals.{IsTwinsBreach};
 ghost use Rattle.cert_check.specs.Checks.{IsChecked};
 
 use cert_conditions::{Condition, Refusal, TwinCause};
-use cert_format::{Cert, InjectivePart};
+use cert_values::{Cert, InjectivePart};
 use word_image::{Rule, ring_apply};
 
 /// Whether the twins have one length and letters, differ, and have rings with one image; else the first of

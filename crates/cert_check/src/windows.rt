@@ -7,7 +7,7 @@ ghost use Rattle.cert_conditions.specs.Claims.{IsWindowPair};
 
 use crate::claims::{claims_below, claims_on};
 use cert_conditions::{Condition, Refusal};
-use cert_format::{Cert, InjectivePart};
+use cert_values::{Cert, InjectivePart};
 use word_image::{Rule, Side};
 
 /// Whether the claims of ranks determine the letter of the window; else the first pair whose claims don't.

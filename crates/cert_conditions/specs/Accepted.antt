@@ -1,34 +1,13 @@
 -- Which bytes are accepted, and what their verdicts say.
-use Rattle.std.specs.Prelude.{◌≡◌, ℕ, ◌↔◌, Bool, true, false, ◌&&◌, IsTrue, List, slice_index}
+use Rattle.std.specs.Prelude.{◌≡◌, ℕ, ◌↔◌, Bool, ◌&&◌, IsTrue, List, slice_index}
 use Rattle.word_image.specs.Words.{IsSurjective}
 use Rattle.word_image.specs.Rings.{IsConserving}
 use Rattle.tail_config.specs.Tails.{IsInjective, IsRightClosing, IsLeftClosing}
-use Rattle.cert_format.specs.Evidence.{SurjectiveEvidence, InjectiveEvidence, SideEvidence, SumEvidence, Sets, Pairs, Orphan, Window, Twins, Ahead, Split, Flux, Ring}
-use Rattle.cert_format.specs.Certificates.{Certificate}
-use Rattle.cert_format.specs.CertificateTexts.{IsCertificateText}
+use Rattle.cert_values.specs.Evidence.{says_surjective, says_injective, says_closing, says_conserving}
+use Rattle.cert_values.specs.Certificates.{Certificate}
+use Rattle.cert_values.specs.CertificateTexts.{IsCertificateText}
 use Rattle.cert_conditions.specs.declared.verdicts.Verdicts.{Verdicts}
 use Rattle.cert_conditions.specs.Conditions.{MeetsConditions}
-
--- yes where there are sets or pairs
-abbrev pub says_surjective : SurjectiveEvidence → Bool
-says_surjective (Sets sets) = true
-says_surjective (Pairs pairs) = true
-says_surjective (Orphan w) = false
-
--- yes where there is a window
-abbrev pub says_injective : InjectiveEvidence → Bool
-says_injective (Window n c) = true
-says_injective (Twins x y) = false
-
--- yes where there is a look-ahead
-abbrev pub says_closing : SideEvidence → Bool
-says_closing (Ahead n) = true
-says_closing (Split x y) = false
-
--- yes where there is a flux
-abbrev pub says_conserving : SumEvidence → Bool
-says_conserving (Flux phi) = true
-says_conserving (Ring p) = false
 
 -- the verdicts of a certificate are those of its parts
 abbrev pub verdicts_of : Certificate → Verdicts

@@ -1,6 +1,6 @@
 -- A certificate of one version as one of another.
-use Rattle.cert_format.specs.declared.cert_version.CertVersion.{CertVersion}
-use Rattle.cert_format.specs.Certificates.{Certificate}
+use Rattle.cert_values.specs.declared.cert_version.CertVersion.{CertVersion}
+use Rattle.cert_values.specs.Certificates.{Certificate}
 
 -- a certificate, as one of this version
 abbrev pub in_version : CertVersion → Certificate → Certificate

@@ -4,8 +4,8 @@ use Rattle.word_image.specs.LocalRules.{word_of}
 use Rattle.word_image.specs.Rings.{ring_image}
 use Rattle.word_image.specs.Graphs.{full_set, first_of, second_of, pair_count}
 use Rattle.tail_config.specs.Tails.{TailConfig, Different, ShareImage}
-use Rattle.cert_format.specs.Evidence.{SurjectiveEvidence, InjectiveEvidence, SideEvidence, SumEvidence, Sets, Pairs, Orphan, Window, Twins, Ahead, Split, Flux, Ring}
-use Rattle.cert_format.specs.Certificates.{Certificate}
+use Rattle.cert_values.specs.Evidence.{SurjectiveEvidence, InjectiveEvidence, SideEvidence, SumEvidence, Sets, Pairs, Orphan, Window, Twins, Ahead, Split, Flux, Ring}
+use Rattle.cert_values.specs.Certificates.{Certificate}
 use Rattle.cert_conditions.specs.declared.condition.Condition.{Condition}
 use Rattle.cert_conditions.specs.declared.condition.Condition.TheVariants.{SideClaims, FullListed, NoneEmpty, Closed, FirstsListed, OffDiagonal, PairsClosed, OrphanRead, WindowClaims, TwinsAlike, SideAhead, SideSplit, FluxFlows, RingLossy}
 use Rattle.word_image.specs.declared.side.Side.TheVariants.{Right, Left}

@@ -8,4 +8,4 @@ pub mod Conditions
 pub mod CertificateVersions
 pub mod Refusals
 pub mod Accepted
-pub mod RefusalTexts
+pub mod RefusalParts

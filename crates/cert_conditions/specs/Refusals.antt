@@ -4,11 +4,11 @@ use Rattle.word_image.specs.LocalRules.{LocalRule, word_of}
 use Rattle.word_image.specs.Rings.{ring_image}
 use Rattle.word_image.specs.Graphs.{full_set, first_of, second_of, pair_count}
 use Rattle.tail_config.specs.Tails.{TailConfig, Different, ShareImage}
-use Rattle.cert_format.specs.Certificates.{Certificate}
-use Rattle.cert_format.specs.Evidence.{Sets, Pairs, Orphan, Window, Twins, Ahead, Split, Flux, Ring}
-use Rattle.cert_format.specs.CertificateTexts.{IsCertificateText}
-use Rattle.cert_format.specs.ShapeFaults.{IsShapeFault, IsFirstWithout}
-use Rattle.cert_format.specs.declared.shape_fault.ShapeFault.{ShapeFault}
+use Rattle.cert_values.specs.Certificates.{Certificate}
+use Rattle.cert_values.specs.Evidence.{Sets, Pairs, Orphan, Window, Twins, Ahead, Split, Flux, Ring}
+use Rattle.cert_values.specs.CertificateTexts.{IsCertificateText}
+use Rattle.cert_values.specs.ShapeFaults.{IsShapeFault, IsFirstWithout}
+use Rattle.cert_values.specs.declared.shape_fault.ShapeFault.{ShapeFault}
 use Rattle.cert_conditions.specs.declared.condition.Condition.{Condition}
 use Rattle.cert_conditions.specs.declared.condition.Condition.TheVariants as condition
 use Rattle.word_image.specs.declared.side.Side.{Side}

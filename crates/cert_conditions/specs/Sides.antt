@@ -1,8 +1,8 @@
 -- What is asked on a side of the line, right or left.
 use Rattle.std.specs.Prelude.{ℕ, List, Option}
 use Rattle.tail_config.specs.Tails.{TailConfig, AgreeLeft, AgreeRight}
-use Rattle.cert_format.specs.Evidence.{SideEvidence}
-use Rattle.cert_format.specs.Certificates.{Certificate}
+use Rattle.cert_values.specs.Evidence.{SideEvidence}
+use Rattle.cert_values.specs.Certificates.{Certificate}
 use Rattle.word_image.specs.declared.side.Side.{Side}
 use Rattle.word_image.specs.declared.side.Side.TheVariants.{Right, Left}
 

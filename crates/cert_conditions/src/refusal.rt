@@ -1,6 +1,6 @@
 //! Why bytes are refused.
 
-use cert_format::ShapeFault;
+use cert_values::ShapeFault;
 use std::alloc::AllocError;
 use word_image::Side;
 

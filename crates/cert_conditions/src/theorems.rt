@@ -1,6 +1,6 @@
 //! What the definitions say of all bytes, as the contract of a function with nothing to run.
 ghost use Rattle.std.specs.Prelude.{◌≡◌, ℕ, List};
-ghost use Rattle.cert_format.specs.Certificates.{Certificate};
+ghost use Rattle.cert_values.specs.Certificates.{Certificate};
 ghost use Rattle.cert_conditions.specs.Conditions.{MeetsConditions};
 ghost use Rattle.cert_conditions.specs.CertificateVersions.{in_version};
 ghost use Rattle.cert_conditions.specs.Accepted.{IsAccepted, AreTrue};
@@ -8,7 +8,7 @@ ghost use Rattle.cert_conditions.specs.Refusals.{IsRefusal};
 
 use crate::refusal::Refusal;
 use crate::verdicts::Verdicts;
-use cert_format::CertVersion;
+use cert_values::CertVersion;
 
 /// Bytes are accepted with one list of verdicts at most, or refused for one reason at most, and never
 /// both. By the contract of `judge` they are one of these, unless memory is refused.

@@ -3,7 +3,7 @@
 ghost use Rattle.std.specs.Prelude.{◌≡◌};
 ghost use Rattle.cert_conditions.specs.Accepted.{verdicts_of, is_open};
 
-use cert_format::{Cert, InjectivePart, SidePart, SumPart, SurjectivePart};
+use cert_values::{Cert, InjectivePart, SidePart, SumPart, SurjectivePart};
 use word_image::{Rule, Weights};
 
 /// What an accepted certificate says of its rule, and what is true of it.

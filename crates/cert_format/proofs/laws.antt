@@ -1,11 +1,8 @@
 pub mod Objects
 pub mod Arrays
 pub mod Spellings
-pub mod Uniqueness
-pub mod WeightMembers
 pub mod Evidence
-pub mod ShapeFaults
+pub mod Answers
 pub mod Steps
 pub mod AsciiTexts
 pub mod PlainValues
-pub mod Written

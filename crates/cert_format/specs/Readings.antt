@@ -5,16 +5,16 @@ use Rattle.word_image.specs.LocalRules.{LocalRule, IsWord, node_count}
 use Rattle.word_image.specs.Weights.{AreWeights}
 use Rattle.tail_config.specs.Tails.{TailConfig}
 use Rattle.tail_config.specs.TailTexts.{Spells, IsShortTail}
-use Rattle.cert_format.specs.declared.cert_version.CertVersion.{CertVersion}
-use Rattle.cert_format.specs.declared.shape_fault.Key.{Key}
-use Rattle.cert_format.specs.declared.shape_fault.ShapeFault.TheVariants as shape
-use Rattle.cert_format.specs.declared.shape_fault.CertFault.{CertFault}
-use Rattle.cert_format.specs.declared.shape_fault.CertFault.TheVariants as fault
-use Rattle.cert_format.specs.Evidence.{SurjectiveEvidence, InjectiveEvidence, SideEvidence, SumEvidence}
-use Rattle.cert_format.specs.Certificates.{IsSurjectiveShape, IsInjectiveShape, IsSideShape, IsNear, IsSumShape, IsRankShape, IsClaim}
-use Rattle.cert_format.specs.CertificateTexts.{IsWhole, IsSigned, IsDigits, IsTailString, IsClaimValue, IsArrayOf, IsSurjectiveValue, IsInjectiveValue, IsSideValue, IsSumValue, IsRanksValue}
-use Rattle.cert_format.specs.ShapeFaults.{IsFirstWithout, Passes, part_steps, IsShapeFault}
-use Rattle.cert_format.specs.declared.shape_fault.ShapeFault.{ShapeFault}
+use Rattle.cert_values.specs.declared.cert_version.CertVersion.{CertVersion}
+use Rattle.cert_values.specs.declared.shape_fault.Key.{Key}
+use Rattle.cert_values.specs.declared.shape_fault.ShapeFault.TheVariants as shape
+use Rattle.cert_format.specs.declared.cert_fault.CertFault.{CertFault}
+use Rattle.cert_format.specs.declared.cert_fault.CertFault.TheVariants as fault
+use Rattle.cert_values.specs.Evidence.{SurjectiveEvidence, InjectiveEvidence, SideEvidence, SumEvidence}
+use Rattle.cert_values.specs.Certificates.{IsSurjectiveShape, IsInjectiveShape, IsSideShape, IsNear, IsSumShape, IsRankShape, IsClaim}
+use Rattle.cert_values.specs.CertificateTexts.{IsWhole, IsSigned, IsDigits, IsTailString, IsClaimValue, IsArrayOf, IsSurjectiveValue, IsInjectiveValue, IsSideValue, IsSumValue, IsRanksValue}
+use Rattle.cert_values.specs.ShapeFaults.{IsFirstWithout, Passes, part_steps, IsShapeFault}
+use Rattle.cert_values.specs.declared.shape_fault.ShapeFault.{ShapeFault}
 
 -- the members of a value; one that is no object has none
 abbrev pub members_in : Data → Members

@@ -2,16 +2,15 @@
 ghost use Rattle.std.specs.Prelude.{◌≡◌, ℕ, ◌+◌, ◌≤◌, ◌↔◌, List, Option, ℤ, length, All, IfOk, IfErr, IfSome, IfNone, IsTrue};
 ghost use Rattle.serde_json.specs.View.{view};
 ghost use Rattle.word_image.specs.Graphs.{pair_count};
-ghost use Rattle.cert_format.specs.Evidence.{SurjectiveEvidence, InjectiveEvidence, SideEvidence, SumEvidence};
-ghost use Rattle.cert_format.specs.Parts.{surjective_of, injective_of, side_of, sum_of, IsOver};
+ghost use Rattle.cert_values.specs.Evidence.{SurjectiveEvidence, InjectiveEvidence, SideEvidence, SumEvidence};
+ghost use Rattle.cert_values.specs.Parts.{surjective_of, injective_of, side_of, sum_of, IsOver};
 ghost use Rattle.cert_format.specs.Readings.{AreNumbers, IsWindowFor, IsAhead, IsFluxFor, IsWeightsFor, IsRowFor, IsSurjectiveFor, IsInjectiveFor, IsSideFor, IsSumFor, AreRanksFor};
 
-use crate::cert_version::CertVersion;
 use crate::items::{Item, array, array_of};
 use crate::members::{only, only_both};
 use crate::misread::Misread;
-use crate::parts::{InjectivePart, SidePart, SumPart, SurjectivePart};
 use crate::words::{tails, word, words};
+use cert_values::{CertVersion, InjectivePart, SidePart, SumPart, SurjectivePart};
 use serde_json::Value;
 use std::alloc::Global;
 use word_image::{FluxRow, RankRow, Rule, SetList, Weights};

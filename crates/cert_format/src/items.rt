@@ -2,7 +2,7 @@
 ghost use Rattle.std.specs.Prelude.{◌≡◌, ◌≢◌, List, length, IfOk, IfErr, IfSome, IfNone};
 ghost use Rattle.serde_json.specs.Data.{Data, array, item, no_items};
 ghost use Rattle.serde_json.specs.View.{view};
-ghost use Rattle.cert_format.specs.CertificateTexts.{IsArrayOf};
+ghost use Rattle.cert_values.specs.CertificateTexts.{IsArrayOf};
 ghost use Rattle.cert_format.specs.Readings.{IsByte, IsShort, IsRankValue, IsFlow};
 
 use crate::misread::Misread;

@@ -1,58 +1,30 @@
-//! The certificate of a rule: what it claims, as a type, and its text.
+//! Reads and writes the texts of certificates.
 //!
-//! A certificate answers for one rule whether it is surjective, injective, right-closing and
-//! left-closing, and whether it conserves the sum of its cells, each with evidence that is tested
-//! without a search. Its text is one JSON object. With k states, width m and N = k^(m - 1) nodes:
-//!
-//! | Key | Where the answer is yes | Where it is no |
-//! |---|---|---|
-//! | `surjective` | `{"sets":[..]}`, sets of nodes, each a number below 2^N in which node u is bit u | `{"orphan":WORD}` |
-//! | `injective` | `{"c":C,"n":L}`, a window of L letters from 1 on, with a place C of at most L + m - 2 | `{"twins":[WORD,WORD]}` |
-//! | `right`, `left` | `{"ahead":A}`, a look-ahead from 1 on | `{"split":[TAIL,TAIL]}` |
-//! | `conserving` | `{"flux":[..]}`, a number of at most a million either way for each node | `{"ring":WORD}` |
-//!
-//! `version` is 1, 2 or 3, `rule` is a text of the rule, and `ranks` is `{"backward":[..],"forward":[..]}`,
-//! in each a number or `null` for each pair of nodes. From version 2 on `weights` may stand: an array
-//! with a number from 0 to 255 for each letter, by which it counts in a sum; else it counts by its own
-//! value. In version 3 `surjective` may be `{"pairs":[..]}` too, where pair (u, v) is u N + v. All
-//! numbers but those of a flux are below 2^16, a WORD is a string of hexadecimal digits, and a TAIL is the
-//! text of a configuration over the rule's letters.
-//!
-//! The shift to the left by one cell has this certificate, here in two lines:
-//!
-//! ```text
-//! {"conserving":{"flux":[0,-1]},"injective":{"c":1,"n":1},"left":{"ahead":2},"ranks":{"backward":[null,0,0,null],
-//! "forward":[null,null,null,null]},"right":{"ahead":1},"rule":"2:2:0:t0101","surjective":{"sets":[3,1,2]},"version":1}
-//! ```
-//!
-//! `from_bytes` reads whatever JSON has such a value, and else gives the first fault, in the order
-//! JSON, object, version, rule, surjective, injective, right, left, conserving, weights, ranks, and
-//! other keys. `to_bytes` writes it with ascending keys and no blanks, and the weights only where they
-//! aren't the letters' own values. Whether the claims are true is tested by the crate `cert_check`.
+//! `from_bytes` reads each JSON value that the crate [`cert_values`] describes. Otherwise it gives the first fault, in the
+//! order JSON, object, version, rule, surjective, injective, right, left, conserving, weights, ranks, and
+//! other keys. `to_bytes` writes a certificate with ascending keys and no blanks, and the weights only if they
+//! aren't the letters' own values. The crate `cert_check` tests whether the claims are true.
 //! [`certificate_value`] is the object that is written, and beside it stand the values of some of its parts.
 //!
 //! Reading n bytes takes time O(n log n), by the map that an object is, and O(n) for the lists in
 //! it; both calls take space O(n).
 #![tactic(auto)]
 
-mod cert;
-mod cert_version;
+mod cert_fault;
 mod evidence;
 mod items;
 mod members;
 mod misread;
-mod parts;
 mod reading;
-mod shape_fault;
 mod steps;
 mod words;
 mod writing;
 
-pub use cert::Cert;
-pub use cert_version::CertVersion;
-pub use parts::{InjectivePart, SidePart, SumPart, SurjectivePart};
+pub use cert_fault::CertFault;
+pub use cert_values::{
+    Cert, CertVersion, InjectivePart, Key, ShapeFault, SidePart, SumPart, SurjectivePart,
+};
 pub use reading::from_bytes;
-pub use shape_fault::{CertFault, Key, ShapeFault};
 pub use writing::{
     certificate_value, flux_value, rule_value, text_has_one_certificate, to_bytes, weights_value,
     word_value,

@@ -4,10 +4,10 @@ ghost use Rattle.std.specs.Option.{option_map};
 ghost use Rattle.serde_json.specs.Data.{Data};
 ghost use Rattle.serde_json.specs.Find.{get_member};
 ghost use Rattle.serde_json.specs.View.{view};
-ghost use Rattle.cert_format.specs.CertificateTexts.{HasOnly, HasOnlyBoth, HasNoOther, keys_of};
+ghost use Rattle.cert_values.specs.CertificateTexts.{HasOnly, HasOnlyBoth, HasNoOther, keys_of};
 ghost use Rattle.cert_format.specs.Readings.{members_in};
 
-use crate::cert_version::CertVersion;
+use cert_values::CertVersion;
 use serde_json::Value;
 
 /// The keys of each certificate.

@@ -2,7 +2,8 @@
 ghost use Rattle.std.specs.Prelude.{◌≡◌, alloc_error};
 ghost use Rattle.cert_format.specs.declared.misread.Misread.TheVariants as misread;
 
-use crate::shape_fault::{CertFault, Key, ShapeFault};
+use crate::cert_fault::CertFault;
+use cert_values::{Key, ShapeFault};
 use std::alloc::{AllocError, AllocFailed};
 
 /// Why a value isn't read.

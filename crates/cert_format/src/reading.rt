@@ -3,20 +3,19 @@ ghost use Rattle.std.specs.Prelude.{◌≡◌, ℕ, ◌⊎◌, List, alloc_error
 ghost use Rattle.serde_json.specs.View.{view};
 ghost use Rattle.word_image.specs.LocalRules.{IsRule};
 ghost use Rattle.rule_text.specs.RuleTexts.{IsRuleText};
-ghost use Rattle.cert_format.specs.Certificates.{Certificate};
-ghost use Rattle.cert_format.specs.Versions.{number_of};
-ghost use Rattle.cert_format.specs.CertificateTexts.{AreParts, IsCertificateText, IsObject, HasVersion, HasRuleText};
-ghost use Rattle.cert_format.specs.declared.shape_fault.ShapeFault.{ShapeFault};
-ghost use Rattle.cert_format.specs.ShapeFaults.{IsShapeFault};
+ghost use Rattle.cert_values.specs.Certificates.{Certificate};
+ghost use Rattle.cert_values.specs.Versions.{number_of};
+ghost use Rattle.cert_values.specs.CertificateTexts.{AreParts, IsCertificateText, IsObject, HasVersion, HasRuleText};
+ghost use Rattle.cert_values.specs.declared.shape_fault.ShapeFault.{ShapeFault};
+ghost use Rattle.cert_values.specs.ShapeFaults.{IsShapeFault};
 ghost use Rattle.cert_format.specs.Readings.{members_in, IsPartFault, IsCertFault};
 
-use crate::cert::Cert;
-use crate::cert_version::CertVersion;
+use crate::cert_fault::CertFault;
 use crate::members::{has_no_other, member};
-use crate::shape_fault::{CertFault, Key, ShapeFault};
 use crate::steps::{
     conserving_step, injective_step, ranks_step, side_step, surjective_step, weights_step,
 };
+use cert_values::{Cert, CertVersion, Key, ShapeFault};
 use rule_text::parse;
 use serde_json::Value;
 use std::alloc::{AllocError, Global};

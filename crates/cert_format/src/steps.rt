@@ -1,17 +1,16 @@
 //! The steps of reading a certificate's parts: the member of a key, and the evidence that it is.
 ghost use Rattle.std.specs.Prelude.{ℕ, List, Option, IfOk, IfErr};
 ghost use Rattle.serde_json.specs.View.{view};
-ghost use Rattle.cert_format.specs.Evidence.{SurjectiveEvidence, InjectiveEvidence, SideEvidence, SumEvidence};
-ghost use Rattle.cert_format.specs.CertificateTexts.{HasSurjective, HasInjective, HasSide, HasConserving, HasWeights, HasRanks};
-ghost use Rattle.cert_format.specs.Parts.{surjective_of, injective_of, side_of, sum_of, IsOver};
+ghost use Rattle.cert_values.specs.Evidence.{SurjectiveEvidence, InjectiveEvidence, SideEvidence, SumEvidence};
+ghost use Rattle.cert_values.specs.CertificateTexts.{HasSurjective, HasInjective, HasSide, HasConserving, HasWeights, HasRanks};
+ghost use Rattle.cert_values.specs.Parts.{surjective_of, injective_of, side_of, sum_of, IsOver};
 ghost use Rattle.cert_format.specs.Readings.{members_in, IsStepFault};
 
-use crate::cert_version::CertVersion;
+use crate::cert_fault::CertFault;
 use crate::evidence::{conserving, injective, ranks, side, surjective, weights};
 use crate::members::member;
 use crate::misread::Misread;
-use crate::parts::{InjectivePart, SidePart, SumPart, SurjectivePart};
-use crate::shape_fault::{CertFault, Key};
+use cert_values::{CertVersion, InjectivePart, Key, SidePart, SumPart, SurjectivePart};
 use serde_json::Value;
 use std::alloc::Global;
 use word_image::{RankRow, Rule, Weights};

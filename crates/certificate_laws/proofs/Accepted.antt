@@ -1,8 +1,8 @@
 -- What is written for a rule is accepted, so it is the certificate that is written.
 use Rattle.std.proofs.Common.{◌≡◌, List, ℕ, true, refl, subst}
 use Rattle.word_image.proofs.Common.{LocalRule, IsRule, AreWeights}
-use Rattle.cert_format.specs.declared.cert_version.CertVersion.{CertVersion}
-use Rattle.cert_format.proofs.Common.{names_weights, Certificate, IsCertificateText, certificate_text}
+use Rattle.cert_values.specs.declared.cert_version.CertVersion.{CertVersion}
+use Rattle.cert_values.proofs.Common.{names_weights, Certificate, IsCertificateText, certificate_text}
 use Rattle.cert_conditions.proofs.Common.{IsAccepted, verdicts_of}
 use Rattle.certificate_laws.specs.WrittenCertificates.{HasWrittenParts, IsWritten}
 use Rattle.certificate_laws.proofs.MetConditions.{MeetsConditions-written}

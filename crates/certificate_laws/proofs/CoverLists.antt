@@ -2,7 +2,7 @@
 use Rattle.std.proofs.Common.{◌≡◌, ◌≢◌, ℕ, zero, suc, ◌+◌, ◌<◌, ◌≤◌, Bool, true, false, cond, List, [], ◌∷◌, length, get_or, Contains, bit_and, refl, sym, ap, ap₂, subst, ◌∙◌, ⊎_elim, arith, ◌==◌, ◌&&◌, not, filter, ne_eqb, eqb-true}
 use Rattle.std.specs.Int.Bits.{and_self}
 use Rattle.word_image.proofs.Common.{list_any, cases_eq, eqb-false, and_parts, not-true, and_le_r, All-filter, All-contains_itself, is_subset, is_cover, covers_of}
-use Rattle.cert_format.proofs.laws.Objects.{some_passes}
+use Rattle.cert_values.proofs.laws.Members.{some_passes}
 use Rattle.cert_conditions.proofs.laws.Parts.{part-of_part}
 
 -- what is contained is contained where something may stand before

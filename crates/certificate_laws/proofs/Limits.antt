@@ -6,8 +6,8 @@ use Rattle.pair_laws.proofs.Common.{Together-endless, IsDetermined-not_both_ways
 use Rattle.pair_laws.proofs.Aheads.{IsRightAhead-pairs}
 use Rattle.ring_laws.proofs.Gains.{gain}
 use Rattle.ring_laws.proofs.FluxWalks.{zeros, length-zeros, walk_gain, IsFlux-unique}
-use Rattle.cert_format.specs.declared.cert_version.CertVersion.{CertVersion}
-use Rattle.cert_format.proofs.Common.{SurjectiveEvidence, InjectiveEvidence, SumEvidence, IsSurjectiveShape, IsInjectiveShape, IsSideShape, IsSumShape, IsClaim, IsRankShape, IsNear, Sets, Pairs, Orphan, Window, Twins, Ahead, Flux, Ring, lists_pairs}
+use Rattle.cert_values.specs.declared.cert_version.CertVersion.{CertVersion}
+use Rattle.cert_values.proofs.Common.{SurjectiveEvidence, InjectiveEvidence, SumEvidence, IsSurjectiveShape, IsInjectiveShape, IsSideShape, IsSumShape, IsClaim, IsRankShape, IsNear, Sets, Pairs, Orphan, Window, Twins, Ahead, Flux, Ring, lists_pairs}
 use Rattle.cert_conditions.proofs.Common.{Contains-full}
 use Rattle.certificate_laws.specs.LeastEvidence.{IsOrphanPart, IsInjectivePart, IsConservingPart}
 use Rattle.certificate_laws.specs.WrittenCertificates.{orphan_of, IsListPart, IsRankRow}

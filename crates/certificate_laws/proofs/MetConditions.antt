@@ -5,9 +5,9 @@ use Rattle.word_image.specs.declared.side.Side.TheVariants as side
 use Rattle.eden_laws.proofs.ReachedPairs.{IsPairList-reached}
 use Rattle.tail_config.proofs.Common.{AgreeLeft, AgreeRight}
 use Rattle.tail_laws.proofs.Common.{IsLeftSplit-least}
-use Rattle.cert_format.specs.declared.cert_version.CertVersion.{CertVersion}
-use Rattle.cert_format.specs.declared.cert_version.CertVersion.TheVariants.{One, Two}
-use Rattle.cert_format.proofs.Common.{SurjectiveEvidence, InjectiveEvidence, SideEvidence, SumEvidence, Certificate, Sets, Pairs, Orphan, Window, Twins, Ahead, Split, Flux, Ring}
+use Rattle.cert_values.specs.declared.cert_version.CertVersion.{CertVersion}
+use Rattle.cert_values.specs.declared.cert_version.CertVersion.TheVariants.{One, Two}
+use Rattle.cert_values.proofs.Common.{SurjectiveEvidence, InjectiveEvidence, SideEvidence, SumEvidence, Certificate, Sets, Pairs, Orphan, Window, Twins, Ahead, Split, Flux, Ring}
 use Rattle.cert_conditions.specs.declared.condition.Condition.TheVariants.{SideClaims, FullListed, NoneEmpty, Closed, FirstsListed, OffDiagonal, PairsClosed, OrphanRead, WindowClaims, TwinsAlike, SideAhead, SideSplit, FluxFlows, RingLossy}
 use Rattle.cert_conditions.proofs.Common.{EachBelow, StepIsKept, LeadsTo, FirstIsListed, StepsAreListed, IsWindowPair, IsAheadPair, Flows, IsLossy, MeetsConditions, OfSets, OfPairs, OfOrphan, OfWindow, OfTwins, OfAhead, OfSplit, OfFlux, OfRing, AreLastSets, Contains-full, nonempty-last_sets, StepIsKept-last_sets, LeadsTo-orphan, AllFall-ranks, IsWindowPair-determined, IsAheadPair-ranks, AreAlike-twins, AreSplit-right, AreSplit-left, Flows-exact, IsLossy-ring}
 use Rattle.cert_conditions.proofs.laws.StepConditions.{at_listed}

@@ -18,7 +18,7 @@ use Rattle.serde_json.specs.View.{items_of}
 use Rattle.serde_json.specs.Written.{outline, items_outline, members_outline, compact_text, items_text, members_text, comma_if}
 use Rattle.serde_json.proofs.Numbers.{number_of-decimal, number_of-negative}
 use Rattle.serde_json.proofs.Texts.{print-outline}
-use Rattle.cert_format.proofs.Common.{array_from, whole_value, signed_value, only}
+use Rattle.cert_values.proofs.Common.{array_from, whole_value, signed_value, only}
 
 -- a value nests no deeper than n, its numbers are texts of numbers, it is what its text says, and that is UTF-8
 pub record IsReadBack (n : ℕ) (d : Data) : Type 0 where

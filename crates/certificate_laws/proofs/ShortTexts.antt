@@ -7,9 +7,9 @@ use Rattle.serde_json.specs.Written.{compact_text, members_text}
 use Rattle.tail_config.proofs.Common.{IsShortTail}
 use Rattle.rule_text.specs.PrintedRules.{offset_text, printed_rule}
 use Rattle.tail_laws.proofs.Common.{length-IsLeastTwins}
-use Rattle.cert_format.specs.declared.cert_version.CertVersion.{CertVersion}
-use Rattle.cert_format.specs.declared.cert_version.CertVersion.TheVariants.{One}
-use Rattle.cert_format.proofs.Common.{number_of, names_weights, SurjectiveEvidence, InjectiveEvidence, SideEvidence, SumEvidence, Certificate, IsSurjectiveShape, IsInjectiveShape, IsSideShape, IsSumShape, IsClaim, IsRankShape, IsNear, IsShaped, Sets, Pairs, Orphan, Window, Twins, Ahead, Split, Flux, Ring, array_from, whole_value, signed_value, word_value, tail_value, claim_value, surjective_value, injective_value, side_value, sum_value, ranks_value, weights_members, certificate_text, weights_members-cases}
+use Rattle.cert_values.specs.declared.cert_version.CertVersion.{CertVersion}
+use Rattle.cert_values.specs.declared.cert_version.CertVersion.TheVariants.{One}
+use Rattle.cert_values.proofs.Common.{number_of, names_weights, SurjectiveEvidence, InjectiveEvidence, SideEvidence, SumEvidence, Certificate, IsSurjectiveShape, IsInjectiveShape, IsSideShape, IsSumShape, IsClaim, IsRankShape, IsNear, IsShaped, Sets, Pairs, Orphan, Window, Twins, Ahead, Split, Flux, Ring, array_from, whole_value, signed_value, word_value, tail_value, claim_value, surjective_value, injective_value, side_value, sum_value, ranks_value, weights_members, certificate_text, weights_members-cases}
 use Rattle.certificate_laws.specs.LeastEvidence.{IsOrphanPart, IsInjectivePart, IsConservingPart}
 use Rattle.certificate_laws.specs.WrittenCertificates.{orphan_of, IsListPart, HasWrittenParts}
 use Rattle.certificate_laws.proofs.MetConditions.{own_parts}

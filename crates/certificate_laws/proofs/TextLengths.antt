@@ -8,7 +8,7 @@ use Rattle.serde_json.specs.View.{items_of}
 use Rattle.serde_json.specs.Written.{compact_text, items_text, members_text, comma_if}
 use Rattle.tail_config.proofs.Common.{TailConfig}
 use Rattle.tail_config.specs.TailTexts as tail
-use Rattle.cert_format.proofs.Common.{array_from, word_value, tail_value, only}
+use Rattle.cert_values.proofs.Common.{array_from, word_value, tail_value, only}
 
 -- one of two texts of at most six bytes has at most six
 length-either : (b : Bool) (s t : List ℕ) → length s ≤ 6 → length t ≤ 6 → length (cond b s t) ≤ 6

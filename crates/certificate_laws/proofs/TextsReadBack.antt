@@ -8,10 +8,10 @@ use Rattle.serde_json.specs.Data.{object, Members}
 use Rattle.tail_config.proofs.Common.{TailConfig, IsShortTail}
 use Rattle.tail_config.specs.TailTexts as tail
 use Rattle.rule_text.specs.PrintedRules.{offset_text, printed_rule}
-use Rattle.cert_format.specs.declared.cert_version.CertVersion.{CertVersion}
-use Rattle.cert_format.specs.declared.cert_version.CertVersion.TheVariants.{One, Two, Three}
-use Rattle.cert_format.proofs.Common.{number_of, SurjectiveEvidence, InjectiveEvidence, SideEvidence, SumEvidence, Sets, Pairs, Orphan, Window, Twins, Ahead, Split, Flux, Ring, Certificate, IsSurjectiveShape, IsInjectiveShape, IsSideShape, IsSumShape, IsClaim, IsNear, IsCertificateText, IsShaped, array_from, whole_value, signed_value, word_value, tail_value, claim_value, surjective_value, injective_value, side_value, sum_value, ranks_value, members_before, certificate_value, certificate_text, weights_members-cases}
-use Rattle.cert_format.proofs.laws.Written.{IsCertificateText-written}
+use Rattle.cert_values.specs.declared.cert_version.CertVersion.{CertVersion}
+use Rattle.cert_values.specs.declared.cert_version.CertVersion.TheVariants.{One, Two, Three}
+use Rattle.cert_values.proofs.Common.{number_of, SurjectiveEvidence, InjectiveEvidence, SideEvidence, SumEvidence, Sets, Pairs, Orphan, Window, Twins, Ahead, Split, Flux, Ring, Certificate, IsSurjectiveShape, IsInjectiveShape, IsSideShape, IsSumShape, IsClaim, IsNear, IsCertificateText, IsShaped, array_from, whole_value, signed_value, word_value, tail_value, claim_value, surjective_value, injective_value, side_value, sum_value, ranks_value, members_before, certificate_value, certificate_text, weights_members-cases}
+use Rattle.cert_values.proofs.laws.Written.{IsCertificateText-written}
 use Rattle.certificate_laws.proofs.ReadBack.{IsReadBack, HaveReadBack, IsReadBack-null, IsReadBack-string, IsReadBack-whole, IsReadBack-signed, IsReadBack-array, IsReadBack-object, IsReadBack-only, HaveReadBack-none, HaveReadBack-member, read-compact_text}
 
 -- a byte below 128 is UTF-8

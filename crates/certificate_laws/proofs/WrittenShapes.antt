@@ -4,8 +4,8 @@ use Rattle.word_image.proofs.Common.{false≢true, length-reverse, LocalRule, Is
 use Rattle.word_image.specs.declared.side.Side.TheVariants.{Right, Left}
 use Rattle.pair_laws.proofs.Common.{IsRank-below}
 use Rattle.tail_config.proofs.Common.{TailConfig, mirror_of, IsShortTail, IsLeastRightSplit, IsTail-mirror}
-use Rattle.cert_format.specs.declared.cert_version.CertVersion.{CertVersion}
-use Rattle.cert_format.proofs.Common.{names_weights, SideEvidence, Certificate, IsSideShape, IsShaped, Ahead, Split}
+use Rattle.cert_values.specs.declared.cert_version.CertVersion.{CertVersion}
+use Rattle.cert_values.proofs.Common.{names_weights, SideEvidence, Certificate, IsSideShape, IsShaped, Ahead, Split}
 use Rattle.certificate_laws.specs.LeastEvidence.{IsRightPart, IsLeftPart}
 use Rattle.certificate_laws.specs.WrittenCertificates.{HasWrittenParts}
 use Rattle.certificate_laws.proofs.MetConditions.{own_parts}

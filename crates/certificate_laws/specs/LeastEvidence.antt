@@ -1,12 +1,12 @@
 -- The evidence of what holds of a rule: for each of five questions yes or no, and the least that shows it.
-use Rattle.std.specs.Prelude.{◌≡◌, ℕ, Bool, true, false, List, slice_get, Option, Some, None, pos}
+use Rattle.std.specs.Prelude.{◌≡◌, ℕ, List, slice_get, Option, Some, None, pos}
 use Rattle.word_image.specs.LocalRules.{LocalRule, mirrored}
 use Rattle.word_image.specs.Words.{IsSurjective, IsLeastOrphan}
 use Rattle.word_image.specs.Rings.{IsConserving, IsFlux, IsLeastLossyRing, IsLeastTwins}
 use Rattle.word_image.specs.Windows.{IsLeastDetermined, IsLeastRightAhead}
 use Rattle.tail_config.specs.Tails.{IsInjective, IsRightClosing, IsLeftClosing}
 use Rattle.tail_config.specs.Splits.{IsLeastRightSplit, IsLeastLeftSplit}
-use Rattle.cert_format.specs.Evidence.{InjectiveEvidence, SideEvidence, SumEvidence, Window, Twins, Ahead, Split, Flux, Ring}
+use Rattle.cert_values.specs.Evidence.{InjectiveEvidence, SideEvidence, SumEvidence, Window, Twins, Ahead, Split, Flux, Ring}
 
 -- the evidence of a rule and weights: an orphan, or none where it is surjective, and what is said of the other four questions
 pub record Evidence : Type 0 where
@@ -17,12 +17,6 @@ pub record Evidence : Type 0 where
   pub right : SideEvidence
   pub left : SideEvidence
   pub conserving : SumEvidence
-
--- a look-ahead is given on both sides
-abbrev pub close_both : SideEvidence → SideEvidence → Bool
-close_both (Ahead n) (Ahead m) = true
-close_both (Ahead n) (Split x y) = false
-close_both (Split x y) left = false
 
 -- every word has a preimage; or this is the least orphan
 abbrev pub IsOrphanPart : LocalRule → Option (List ℕ) → Type 0

@@ -1,2 +1,3 @@
 pub mod LeastEvidence
+pub mod ReportValues
 pub mod WrittenCertificates

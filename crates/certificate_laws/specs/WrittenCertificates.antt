@@ -5,11 +5,11 @@ use Rattle.word_image.specs.LocalRules.{LocalRule}
 use Rattle.word_image.specs.Graphs.{first_of, second_of, pair_count}
 use Rattle.word_image.specs.Ranks.{BeginTogether, EndTogether, IsRank, IsEndless}
 use Rattle.word_image.specs.Families.{IsCoverList}
-use Rattle.cert_format.specs.declared.cert_version.CertVersion.{CertVersion}
-use Rattle.cert_format.specs.declared.cert_version.CertVersion.TheVariants.{Two, Three}
-use Rattle.cert_format.specs.Evidence.{SurjectiveEvidence, Sets, Pairs, Orphan}
-use Rattle.cert_format.specs.Certificates.{Certificate}
-use Rattle.cert_format.specs.WrittenTexts.{certificate_text}
+use Rattle.cert_values.specs.declared.cert_version.CertVersion.{CertVersion}
+use Rattle.cert_values.specs.declared.cert_version.CertVersion.TheVariants.{Two, Three}
+use Rattle.cert_values.specs.Evidence.{SurjectiveEvidence, Sets, Pairs, Orphan}
+use Rattle.cert_values.specs.Certificates.{Certificate}
+use Rattle.cert_values.specs.WrittenTexts.{certificate_text}
 use Rattle.cert_conditions.specs.Accepted.{IsAccepted, verdicts_of}
 use Rattle.certificate_laws.specs.LeastEvidence.{IsLeastEvidence}
 use Rattle.eden_laws.specs.ReachedPairs.{AreReached}

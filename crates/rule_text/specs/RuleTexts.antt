@@ -96,6 +96,10 @@ table_of s (Entries.Number n) = reverse (word_of s.states (s.states ^ s.width) n
 abbrev pub rule_of : Said → LocalRule
 rule_of s = record { states = s.states; width = s.width; offset = s.offset; table = table_of s s.entries }
 
+-- the rule of this shape with this table, whose windows begin at the cell
+abbrev pub rule_of_table : ℕ → ℕ → List ℕ → LocalRule
+rule_of_table k m table = record { states = k; width = m; offset = pos 0; table = table }
+
 -- the text is a text of the rule
 pub record IsRuleText (text : List ℕ) (r : LocalRule) : Type 0 where
   pub said : Said

@@ -37,7 +37,7 @@ mod wolfram_numbers;
 
 pub use beginnings::{Beginning, parse_beginning};
 pub use decimals::{decimal_number, decimal_offset, is_decimal};
-pub use fault_kinds::fault_kind;
+pub use fault_kinds::{fault_kind, fault_name, fault_place};
 pub use parsing::parse;
 pub use printing::{number, print, printed_text_is_read};
 pub use text_fault::TextFault;

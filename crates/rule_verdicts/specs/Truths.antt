@@ -1,15 +1,11 @@
 -- What holds of a rule, each letter of which weighs its own value, and all of it in one number.
-use Rattle.std.specs.Prelude.{ℕ, ◌+◌, ◌*◌, ◌&&◌, List, pos}
+use Rattle.std.specs.Prelude.{ℕ, ◌+◌, ◌*◌, ◌&&◌}
 use Rattle.std.specs.Int.{from_bool}
 use Rattle.word_image.specs.LocalRules.{LocalRule}
 use Rattle.word_image.specs.Weights.{own_weights}
 use Rattle.cert_conditions.specs.declared.verdicts.Verdicts.{Verdicts}
 use Rattle.cert_conditions.specs.Accepted.{AreTrue}
 use Rattle.rule_verdicts.specs.declared.truths.Truths.{Truths}
-
--- the rule of k states, width m and offset 0 with this table
-abbrev pub table_rule : ℕ → ℕ → List ℕ → LocalRule
-table_rule k m table = record { states = k; width = m; offset = pos 0; table = table }
 
 -- what is said of a rule
 abbrev pub said_of : LocalRule → Truths → Verdicts

@@ -3,39 +3,28 @@ ghost use Rattle.std.specs.Prelude.{◌≡◌, ◌≤◌, ◌↔◌, All, length
 ghost use Rattle.word_image.specs.LocalRules.{IsRule};
 ghost use Rattle.word_image.specs.Weights.{AreWeights};
 ghost use Rattle.tail_config.specs.Tails.{IsOpen};
-ghost use Rattle.cert_format.specs.Versions.{names_weights};
-ghost use Rattle.cert_format.specs.Parts.{side_of};
-ghost use Rattle.certificate_laws.specs.LeastEvidence.{IsLeastEvidence, close_both};
+ghost use Rattle.cert_values.specs.Versions.{names_weights};
+ghost use Rattle.cert_values.specs.Evidence.{says_open};
+ghost use Rattle.certificate_laws.specs.LeastEvidence.{IsLeastEvidence};
 ghost use Rattle.certificate_laws.specs.WrittenCertificates.{HasWrittenParts};
 
 use crate::parts::{first_orphan, injective_part, side_part, sum_part, surjective_part};
-use cert_format::{Cert, CertVersion, InjectivePart, SidePart, SumPart};
+use cert_conditions::Report;
+use cert_values::{Cert, CertVersion};
 use closing_test::{left_over, right_over};
 use least_walk::Walker;
 use pair_graph::Pairs;
 use pair_rank::Ranks;
 use std::alloc::{AllocError, Global};
 use std::marker::Model;
-use word_image::{Rule, Side, Weights, Word};
+use word_image::{Rule, Side, Weights};
 
 /// The verdicts of a rule, each with the least evidence for it.
 #[derive(Drop)]
 pub struct Evidence {
-    /// The rule.
-    pub rule: Rule,
-    /// What each letter weighs.
-    pub weights: Weights,
-    /// The least word that has no preimage; `None` exactly where the rule is surjective.
-    pub orphan: Option<Word>,
-    /// The least determined window exactly where the rule is injective, else the least twins.
-    pub injective: InjectivePart,
-    /// The least right look-ahead exactly where the rule is right-closing, else the least normal split.
-    pub right: SidePart,
-    /// The same on the left.
-    pub left: SidePart,
-    /// The flux that is 0 at node 0 exactly where the rule is conserving, else the least ring that
-    /// doesn't keep its sum.
-    pub conserving: SumPart,
+    /// The least word that has no preimage, the least window or twins, the least look-ahead or normal split of each
+    /// side, and the flux that is 0 at node 0 or the least ring that doesn't keep its sum.
+    pub report: Report,
     // The ranks of the rule, by which it was found.
     ranks: Ranks,
 }
@@ -44,21 +33,21 @@ impl Model for Evidence {
     ghost use Rattle.std.specs.Prelude.{◌≡◌, slice_index};
     ghost use Rattle.word_image.specs.LocalRules.{IsRule};
     ghost use Rattle.word_image.specs.Weights.{AreWeights};
-    ghost use Rattle.cert_format.specs.Parts.{IsOver};
+    ghost use Rattle.cert_values.specs.Parts.{IsOver};
     ghost use Rattle.certificate_laws.specs.LeastEvidence.{IsLeastEvidence};
+    ghost use Rattle.certificate_laws.specs.ReportValues.{evidence_of};
     ghost use Rattle.certificate_laws.specs.LeastEvidence as found;
-    ghost use Rattle.rule_verdicts.specs.Parts.{evidence_in};
 
     ghost Value = { found.Evidence };
 
-    ghost view = { λ e. evidence_in e.rule e.weights e.orphan e.injective e.right e.left e.conserving };
+    ghost view = { λ e. evidence_of e.report };
 
-    ghost invariant = { λ e. IsRule e.rule
-        × (e.ranks ≡ e.rule)
-        × IsOver (e.rule).states e.right
-        × IsOver (e.rule).states e.left
-        × IsLeastEvidence (slice_index e.weights) e.rule (evidence_in e.rule e.weights e.orphan e.injective e.right e.left e.conserving)
-        × AreWeights (e.rule).states e.weights };
+    ghost invariant = { λ e. IsRule e.report.rule
+        × (e.ranks ≡ e.report.rule)
+        × IsOver (e.report.rule).states e.report.right
+        × IsOver (e.report.rule).states e.report.left
+        × IsLeastEvidence (slice_index e.report.weights) e.report.rule (evidence_of e.report)
+        × AreWeights (e.report.rule).states e.report.weights };
 }
 
 impl Evidence {
@@ -72,7 +61,7 @@ impl Evidence {
         let pairs = Pairs::of(rule);
         let ranks = Ranks::over(&pairs);
         let mut walker = Walker::new(alloc)?;
-        Ok(Evidence {
+        let report = Report {
             rule: *rule,
             weights: *weights,
             orphan: first_orphan(alloc, pairs.graph())?,
@@ -80,16 +69,16 @@ impl Evidence {
             right: side_part(right_over(alloc, &pairs, &ranks, &mut walker)?),
             left: side_part(left_over(alloc, &pairs, &ranks, &mut walker)?),
             conserving: sum_part(alloc, rule, weights)?,
-            ranks,
-        })
+        };
+        Ok(Evidence { report, ranks })
     }
 
     /// Whether the rule is open: it closes on both sides.
     pub fn is_open(&self) -> bool
         ensures open_ { IsTrue result ↔ IsOpen self.now.rule }
-        ensures both { result ≡ close_both self.now.right self.now.left }
+        ensures both { result ≡ says_open self.now.right self.now.left }
     {
-        are_ahead(&self.right, &self.left)
+        self.report.is_open()
     }
 
     /// The certificate of this version, which is 2 or 3: this evidence, the cover list or the reached
@@ -100,18 +89,19 @@ impl Evidence {
         ensures weights { OnOk result (AreWeights (self.rule).states self.weights) }
         ensures parts { IfOk result (HasWrittenParts version self.rule self.weights) }
     {
-        let rule = self.rule;
-        let forward = self.ranks.row(alloc, Side::Right)?;
-        let backward = self.ranks.row(alloc, Side::Left)?;
+        let Evidence { report, ranks } = self;
+        let rule = report.rule;
+        let forward = ranks.row(alloc, Side::Right)?;
+        let backward = ranks.row(alloc, Side::Left)?;
         Ok(Cert {
             version,
             rule,
-            surjective: surjective_part(alloc, version, &Pairs::of(&rule), self.orphan)?,
-            injective: self.injective,
-            right: self.right,
-            left: self.left,
-            conserving: self.conserving,
-            weights: self.weights,
+            surjective: surjective_part(alloc, version, &Pairs::of(&rule), report.orphan)?,
+            injective: report.injective,
+            right: report.right,
+            left: report.left,
+            conserving: report.conserving,
+            weights: report.weights,
             forward,
             backward,
         })
@@ -123,11 +113,4 @@ fn have_eight_bits(bytes: &[u8])
     ensures { All (λ w. w ≤ 255) bytes.now }
 {
     let _bytes = bytes;
-}
-
-/// Whether both sides have a look-ahead.
-fn are_ahead(right: &SidePart, left: &SidePart) -> bool
-    ensures { result ≡ close_both (side_of right.now) (side_of left.now) }
-{
-    matches!((right, left), (SidePart::Ahead(_), SidePart::Ahead(_)))
 }

@@ -31,4 +31,4 @@ mod truths;
 pub use evidence::Evidence;
 pub use numbers::{fault_past_all, next_table, verdict_bytes};
 pub use parts::{injectivity, least_orphan};
-pub use truths::{Truths, keeps_sums};
+pub use truths::{Truths, keeps_sums, rule_of_table};

@@ -1,7 +1,7 @@
 //! What holds of rules with consecutive numbers, a byte for each.
 ghost use Rattle.std.specs.Prelude.{◌≡◌, ℕ, ◌+◌, ◌-◌, ◌^◌, ◌<◌, ◌≤◌, None, Some, length, reverse, slice_index, sum, MatchResult};
 ghost use Rattle.word_image.specs.LocalRules.{IsRule, IsWord, value, most_windows};
-ghost use Rattle.rule_verdicts.specs.Truths.{table_rule};
+ghost use Rattle.rule_text.specs.RuleTexts.{rule_of_table};
 ghost use Rattle.rule_verdicts.specs.Numbers.{numbers_fault, IsVerdictByte, AreVerdictBytes};
 
 use crate::truths::Truths;
@@ -44,7 +44,7 @@ pub fn fault_past_all(k: u8, m: u8) -> TextFault
 /// Writes what holds of the rules with the numbers from that of this table on. The table goes on with
 /// them.
 fn write_bytes(k: u8, m: u8, table: &mut [u8], bytes: &mut [u8])
-    requires rule { IsRule (table_rule k m table.old) }
+    requires rule { IsRule (rule_of_table k m table.old) }
     requires room { value k (reverse table.old) + length bytes.old ≤ k ^ length table.old }
     ensures { AreVerdictBytes k m (value k (reverse table.old)) bytes.new }
 {
@@ -57,9 +57,9 @@ fn write_bytes(k: u8, m: u8, table: &mut [u8], bytes: &mut [u8])
 
 /// What holds of the rule of this table, of which the sum is known.
 fn verdict_byte(k: u8, m: u8, table: &[u8], total: u16) -> u8
-    requires rule { IsRule (table_rule k m table.now) }
+    requires rule { IsRule (rule_of_table k m table.now) }
     requires total { total ≡ sum table.now }
-    ensures { IsVerdictByte (table_rule k m table.now) result }
+    ensures { IsVerdictByte (rule_of_table k m table.now) result }
 {
     // Neither a surjective rule nor a conserving one has another sum of the table.
     if !is_mean(k, table.len() as u16, total) {

@@ -4,13 +4,13 @@ ghost use Rattle.word_image.specs.LocalRules.{LocalRule, IsRule, node_count};
 ghost use Rattle.word_image.specs.Words.{IsSurjective};
 ghost use Rattle.word_image.specs.Families.{IsCoverList};
 ghost use Rattle.closing_test.specs.Closing.{IsRightAnswer, IsLeftAnswer};
-ghost use Rattle.cert_format.specs.Versions.{names_weights};
-ghost use Rattle.cert_format.specs.Parts.{surjective_of, injective_of, side_of, sum_of, IsOver};
+ghost use Rattle.cert_values.specs.Versions.{names_weights};
+ghost use Rattle.cert_values.specs.Parts.{surjective_of, injective_of, side_of, sum_of, IsOver};
 ghost use Rattle.certificate_laws.specs.LeastEvidence.{IsOrphanPart, IsInjectivePart, IsRightPart, IsLeftPart, IsConservingPart};
 ghost use Rattle.certificate_laws.specs.WrittenCertificates.{orphan_of, IsListPart};
 ghost use Rattle.rule_verdicts.specs.Parts.{HasShortWindow};
 
-use cert_format::{CertVersion, InjectivePart, SidePart, SumPart, SurjectivePart};
+use cert_values::{CertVersion, InjectivePart, SidePart, SumPart, SurjectivePart};
 use closing_test::Closing;
 use debruijn::Graph;
 use eden_law::{is_surjective, reached};
@@ -146,11 +146,10 @@ fn list_part(
     ensures orphan { IfOk result (λ part. IsOrphanPart pairs.now (orphan_of (surjective_of part))) }
     ensures list { IfOk result (λ part. IsListPart version pairs.now (surjective_of part)) }
 {
-    match version {
-        CertVersion::One => unreachable!(),
-        CertVersion::Two => Ok(SurjectivePart::Sets(covers(alloc, pairs.graph())?)),
-        CertVersion::Three => Ok(SurjectivePart::Pairs(reached(alloc, pairs)?)),
+    if version.lists_pairs() {
+        return Ok(SurjectivePart::Pairs(reached(alloc, pairs)?));
     }
+    Ok(SurjectivePart::Sets(covers(alloc, pairs.graph())?))
 }
 
 /// The cover list of a surjective rule.

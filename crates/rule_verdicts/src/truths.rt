@@ -4,7 +4,8 @@ ghost use Rattle.word_image.specs.LocalRules.{LocalRule, IsRule};
 ghost use Rattle.word_image.specs.Words.{IsSurjective};
 ghost use Rattle.word_image.specs.Rings.{IsConserving};
 ghost use Rattle.word_image.specs.Weights.{own_weights};
-ghost use Rattle.rule_verdicts.specs.Truths.{table_rule, AreTruths, byte_of};
+ghost use Rattle.rule_text.specs.RuleTexts as texts;
+ghost use Rattle.rule_verdicts.specs.Truths.{AreTruths, byte_of};
 
 use closing_test::{is_left_closing, is_right_closing};
 use debruijn::Graph;
@@ -44,8 +45,8 @@ impl Truths {
 
     /// What holds of the rule of k states, width m and offset 0 with this table. It takes no memory.
     pub fn of_table(k: u8, m: u8, table: &[u8]) -> Truths
-        requires { IsRule (table_rule k m table.now) }
-        ensures { AreTruths (table_rule k m table.now) result }
+        requires { IsRule (texts.rule_of_table k m table.now) }
+        ensures { AreTruths (texts.rule_of_table k m table.now) result }
     {
         // Most tables are done with before there is a rule of them.
         if !has_mean(k, table) {
@@ -56,17 +57,14 @@ impl Truths {
 
     /// The same of a table whose sum was looked at before.
     pub(crate) fn past_sum(k: u8, m: u8, table: &[u8]) -> Truths
-        requires { IsRule (table_rule k m table.now) }
-        ensures { AreTruths (table_rule k m table.now) result }
+        requires { IsRule (texts.rule_of_table k m table.now) }
+        ensures { AreTruths (texts.rule_of_table k m table.now) result }
     {
         let even = may_be_surjective(k, table);
         if !even && !keeps_ends(k, table) {
             return Truths::not_surjective(false);
         }
-        match Rule::new(k, m, 0, table) {
-            Ok(rule) => decided(&rule, even),
-            Err(_) => unreachable!(),
-        }
+        decided(&rule_of_table(k, m, table), even)
     }
 
     /// What a byte says that has all in one number.
@@ -114,6 +112,14 @@ impl Truths {
             + 16 * u8::from(self.is_open())
             + 32 * u8::from(self.conserving)
     }
+}
+
+/// The rule of k states, width m and offset 0 with this table.
+pub fn rule_of_table(k: u8, m: u8, table: &[u8]) -> Rule
+    requires { IsRule (texts.rule_of_table k m table.now) }
+    ensures { result ≡ texts.rule_of_table k m table.now }
+{
+    Rule::by(k, m, 0, |window| table[usize::from(window)])
 }
 
 /// Whether a rule of k states with this table may be surjective, by how often letters stand in the table, and by

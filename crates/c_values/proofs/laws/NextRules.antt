@@ -6,7 +6,8 @@ use Rattle.rule_lists.specs.Ranks.{IsOrder}
 use Rattle.rule_lists.specs.Orders.{IsOrderFor}
 use Rattle.rule_lists.specs.Listed.{IsFirst, NoneIs}
 use Rattle.rule_lists.specs.declared.properties.Property.{Property}
-use Rattle.c_values.specs.Verdicts.{rule_of_table, fault_code}
+use Rattle.rule_text.specs.RuleTexts.{rule_of_table}
+use Rattle.c_values.specs.Verdicts.{fault_code}
 use Rattle.c_values.specs.NextRules.{property_number, fixed_letters, IsToCome, IsQuestion, IsNext, IsWindowOrder}
 
 -- the number of a fault of the shape

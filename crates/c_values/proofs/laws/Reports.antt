@@ -2,8 +2,8 @@
 use Rattle.std.proofs.Common.{◌≡◌, ℕ, ◌≤◌, List, ◌++◌, length, drop, Option, Some, None, Result, Ok, Err, sym, ap, subst, subst₂, ◌∙◌, [], arith, IfOk}
 use Rattle.word_image.proofs.Common.{LocalRule, IsRule, rule_fault}
 use Rattle.word_image.specs.declared.local_rule.RuleFault.{RuleFault}
-use Rattle.cert_format.specs.Evidence.{Window, Twins, Ahead, Split, Flux, Ring}
-use Rattle.cert_format.proofs.Common.{InjectiveEvidence, SideEvidence, SumEvidence}
+use Rattle.cert_values.specs.Evidence.{Window, Twins, Ahead, Split, Flux, Ring}
+use Rattle.cert_values.proofs.Common.{InjectiveEvidence, SideEvidence, SumEvidence}
 use Rattle.certificate_laws.specs.LeastEvidence.{Evidence, IsConservingPart, IsLeastEvidence}
 use Rattle.ca_findings.proofs.Common.{Question, Finding, AreFor, IsFinding, weight_by}
 use Rattle.c_values.specs.declared.rule_reports.RuleReport.{RuleReport}

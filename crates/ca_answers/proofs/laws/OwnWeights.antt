@@ -2,8 +2,8 @@
 use Rattle.std.proofs.Common.{◌≡◌, ◌↔◌, List, ℕ, slice_index, Bool, IsTrue, subst, ◌∙◌, Option, None, Some}
 use Rattle.word_image.proofs.Common.{LocalRule, IsRule, IsConserving, own_weights}
 use Rattle.ring_laws.proofs.SameWeights.{AgreeOn-own, IsConserving-own, IsFlux-agree, IsLeastLossyRing-agree}
-use Rattle.cert_format.specs.declared.cert_version.CertVersion.{CertVersion}
-use Rattle.cert_format.proofs.Common.{SumEvidence, Flux, Ring}
+use Rattle.cert_values.specs.declared.cert_version.CertVersion.{CertVersion}
+use Rattle.cert_values.proofs.Common.{SumEvidence, Flux, Ring}
 use Rattle.certificate_laws.specs.LeastEvidence.{Evidence, IsConservingPart, IsLeastEvidence}
 use Rattle.ca_findings.proofs.Common.{Question, Finding, Unfit, IsFinding, IsUnfitFor, AreFor, weight_by, weights_by}
 

@@ -1,8 +1,8 @@
 -- What `certify` and `brief` write is accepted by `check`.
 use Rattle.std.proofs.Common.{◌≡◌, ℕ, ◌≤◌, ◌∙◌, List, length, refl, sym, ap, subst, arith, Option, Some, ◌↔◌}
 use Rattle.word_image.proofs.Common.{LocalRule}
-use Rattle.cert_format.specs.declared.cert_version.CertVersion.{CertVersion}
-use Rattle.cert_format.proofs.Common.{Certificate, certificate_text}
+use Rattle.cert_values.specs.declared.cert_version.CertVersion.{CertVersion}
+use Rattle.cert_values.proofs.Common.{Certificate, certificate_text}
 use Rattle.cert_conditions.proofs.Common.{IsAccepted, AreTrue, verdicts_of, AreTrue-accepted}
 use Rattle.cert_conditions.specs.declared.verdicts.Verdicts.{Verdicts}
 use Rattle.certificate_laws.specs.WrittenCertificates.{IsWritten}

@@ -1,24 +1,24 @@
 -- The JSON of a reply has no float.
-use Rattle.std.proofs.Common.{◌≡◌, ℕ, List, [], ◌∷◌, map, take, drop, ◌*◌, Option, Some, None, false, refl, ℤ, pos, negsuc}
+use Rattle.std.proofs.Common.{◌≡◌, ℕ, List, [], ◌∷◌, ◌++◌, codes, map, take, drop, ◌*◌, Option, Some, None, false, refl, ℤ, pos, negsuc}
 use Rattle.word_image.proofs.Common.{range_with_len, LocalRule}
 use Rattle.serde_json.specs.Data.{Data}
 use Rattle.serde_json.specs.View.{items_of}
-use Rattle.serde_json.specs.Written.{has_float, items_have_float}
+use Rattle.serde_json.specs.Written.{has_float, items_have_float, members_have_float}
 use Rattle.tail_config.proofs.Common.{WindowMap}
 use Rattle.image_minimal.specs.ImageLanguages.{Automaton}
-use Rattle.cert_format.specs.declared.shape_fault.ShapeFault.{ShapeFault}
-use Rattle.cert_format.specs.declared.shape_fault.ShapeFault.TheVariants as shape
-use Rattle.cert_conditions.specs.declared.refusal.Refusal.{Refusal}
-use Rattle.cert_conditions.specs.declared.refusal.Refusal.TheVariants as refusal
 use Rattle.cert_conditions.specs.declared.verdicts.Verdicts.{Verdicts}
-use Rattle.cert_format.proofs.Common.{InjectiveEvidence, SideEvidence, SumEvidence, Window, Twins, Ahead, Split, Flux, Ring, array_from, whole_value, signed_value, claim_value}
+use Rattle.cert_values.proofs.Common.{InjectiveEvidence, SideEvidence, SumEvidence, Window, Twins, Ahead, Split, Flux, Ring, array_from, whole_value, signed_value, claim_value}
 use Rattle.cert_format.proofs.laws.PlainValues.{IsPlain-certificate}
 use Rattle.certificate_laws.specs.LeastEvidence.{Evidence}
 use Rattle.rule_text.specs.PrintedRules.{number_found}
 use Rattle.ca_findings.proofs.Common.{Finding, Unfit, Reply}
-use Rattle.ca_json.specs.Values.{numbers_json, number_or_null, word_or_null, surjective_json, injective_json, side_json, conserving_json}
+use Rattle.ca_json.specs.Values.{members_of, numbers_json, number_or_null, word_or_null, surjective_json, injective_json, side_json, conserving_json}
 use Rattle.ca_json.specs.Findings.{rule_or_null, pair_or_null, report_json, inverse_json, row_json, automaton_json, finding_json}
-use Rattle.ca_json.specs.Causes.{unfit_json, operand_json, fault_name, fault_place, places_json, format_json, refusal_json}
+use Rattle.ca_json.specs.Causes.{unfit_json, operand_json, named, places_json, parts_json}
+use Rattle.rule_text.specs.FaultTexts.{fault_name, fault_place}
+use Rattle.cert_conditions.specs.declared.refusal_parts.RefusalNumbers.{RefusalNumbers}
+use Rattle.cert_conditions.specs.declared.refusal_parts.RefusalNumbers.TheVariants as numbers
+use Rattle.cert_conditions.specs.RefusalParts.{Parts, parts_of}
 use Rattle.ca_json.specs.Replies.{verdicts_json, json_of}
 
 -- a JSON value has no float
@@ -147,36 +147,24 @@ NoFloat-operand : (operand : ℕ) (name : List ℕ) (place : Option ℕ) → NoF
 NoFloat-operand operand name None = refl
 NoFloat-operand operand name (Some place) = refl
 
--- the place of a fault as a list has no float
-NoFloat-places : (place : Option ℕ) → NoFloat (places_json place)
-NoFloat-places None = refl
-NoFloat-places (Some place) = refl
+-- the numbers of a refusal have no float
+NoFloat-places : (ns : RefusalNumbers) → NoFloat (places_json ns)
+NoFloat-places numbers.None = refl
+NoFloat-places (numbers.One a) = refl
+NoFloat-places (numbers.Two a b) = refl
+NoFloat-places (numbers.Three a b c) = refl
 
--- the JSON of the refusal for a fault of the shape has no float
-NoFloat-format : (f : ShapeFault) → NoFloat (format_json f)
-NoFloat-format shape.NotJson = refl
-NoFloat-format (shape.Version v) = refl
-NoFloat-format (shape.Shape k) = refl
-NoFloat-format (shape.Rule f) = rw (NoFloat-places (fault_place f))
+-- members without a float have none with a word under a key before them
+NoFloat-named : (key : List ℕ) (word : Option (List ℕ)) (rest : List (List ℕ × Data)) → members_have_float (members_of rest) ≡ false
+    → members_have_float (members_of (named key word ++ rest)) ≡ false
+NoFloat-named key None rest none = none
+NoFloat-named key (Some word) rest none = none
 
 -- the JSON of a refusal has no float
-NoFloat-refusal : (f : Refusal) → NoFloat (refusal_json f)
-NoFloat-refusal (refusal.Format f) = NoFloat-format f
-NoFloat-refusal (refusal.Rank s p) = refl
-NoFloat-refusal refusal.NoFull = refl
-NoFloat-refusal (refusal.EmptySet i) = refl
-NoFloat-refusal (refusal.NotClosed i a) = refl
-NoFloat-refusal (refusal.NoFirst p) = refl
-NoFloat-refusal (refusal.Diagonal i) = refl
-NoFloat-refusal (refusal.Leaves i a b) = refl
-NoFloat-refusal refusal.Orphan = refl
-NoFloat-refusal (refusal.Window p) = refl
-NoFloat-refusal (refusal.Twins why) = refl
-NoFloat-refusal (refusal.Ahead s p) = refl
-NoFloat-refusal (refusal.Split s why) = refl
-NoFloat-refusal (refusal.Flux w) = refl
-NoFloat-refusal refusal.Ring = refl
-NoFloat-refusal (refusal.Memory _) = refl
+NoFloat-parts : (p : Parts) → NoFloat (parts_json p)
+NoFloat-parts p =
+    rw (NoFloat-places p.numbers) (NoFloat-named (codes "because") p.because _
+    (NoFloat-named (codes "fault") p.fault _ (NoFloat-named (codes "key") p.key _ (NoFloat-named (codes "side") p.side _ refl))))
 
 -- the JSON of what an accepted certificate says has no float
 NoFloat-verdicts : (v : Verdicts) → NoFloat (verdicts_json v)
@@ -188,6 +176,6 @@ NoFloat-reply (Reply.Found f) = rw (NoFloat-finding f)
 NoFloat-reply (Reply.NoFit u) = rw (NoFloat-unfit u)
 NoFloat-reply (Reply.RuleFault operand f) = NoFloat-operand operand (fault_name f) (fault_place f)
 NoFloat-reply (Reply.Accepted v) = rw (NoFloat-verdicts v)
-NoFloat-reply (Reply.Refused f) = NoFloat-refusal f
+NoFloat-reply (Reply.Refused f) = NoFloat-parts (parts_of f)
 NoFloat-reply Reply.TooLong = refl
 NoFloat-reply Reply.Usage = refl

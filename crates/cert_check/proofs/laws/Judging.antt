@@ -1,10 +1,10 @@
 -- What reading bytes says of their acceptance and refusal.
 use Rattle.std.proofs.Common.{◌≡◌, ℕ, List, ◌⊎◌, Ok, Err, ap, ◌∙◌, subst, ⊎_elim, Result, alloc_error}
-use Rattle.cert_format.proofs.Common.{Certificate, IsCertificateText}
-use Rattle.cert_format.specs.ShapeFaults.{IsShapeFault}
-use Rattle.cert_format.specs.declared.shape_fault.ShapeFault.{ShapeFault}
-use Rattle.cert_format.specs.declared.shape_fault.CertFault.{CertFault}
-use Rattle.cert_format.specs.declared.shape_fault.CertFault.TheVariants as cert_fault
+use Rattle.cert_values.proofs.Common.{Certificate, IsCertificateText}
+use Rattle.cert_values.specs.ShapeFaults.{IsShapeFault}
+use Rattle.cert_values.specs.declared.shape_fault.ShapeFault.{ShapeFault}
+use Rattle.cert_format.specs.declared.cert_fault.CertFault.{CertFault}
+use Rattle.cert_format.specs.declared.cert_fault.CertFault.TheVariants as cert_fault
 use Rattle.cert_conditions.specs.declared.verdicts.Verdicts.{Verdicts}
 use Rattle.cert_conditions.specs.declared.refusal.Refusal.{Refusal}
 use Rattle.cert_conditions.specs.declared.refusal.Refusal.TheVariants as refusal

@@ -3,7 +3,7 @@ use Rattle.std.proofs.Common.{◌≡◌, ◌≢◌, sym, subst, List, length, ta
 use Rattle.word_image.proofs.Common.{slice_get-get_or, take_more, All-push, LocalRule, word_of, ring_image, full_set, first_of, second_of, pair_count, IsFirstOf, slice_get-cut}
 use Rattle.word_image.specs.declared.side.Side.TheVariants as side
 use Rattle.tail_config.proofs.Common.{TailConfig, Different, ShareImage}
-use Rattle.cert_format.proofs.Common.{Certificate}
+use Rattle.cert_values.proofs.Common.{Certificate}
 use Rattle.cert_conditions.specs.declared.condition.Condition.{Condition}
 use Rattle.cert_conditions.specs.declared.condition.Condition.TheVariants as condition
 use Rattle.cert_conditions.specs.declared.refusal.TwinCause.{TwinCause}

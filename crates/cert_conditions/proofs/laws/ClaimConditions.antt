@@ -6,11 +6,11 @@ use Rattle.word_image.specs.declared.side.Side.TheVariants.{Right, Left}
 use Rattle.pair_laws.proofs.Common.{IsDetermined-claims, ahead-claims}
 use Rattle.tail_config.proofs.Common.{TailConfig, Different, ShareImage, AgreeLeft, AgreeRight, IsInjective, IsRightSplit, IsRightClosing, IsLeftClosing, IsLeftSplit, IsShortTail}
 use Rattle.tail_laws.proofs.Common.{IsInjective-determined, IsRightClosing-ahead, IsLeftClosing-ahead, no_twins, IsRightClosing-none, IsLeftClosing-none}
-use Rattle.cert_format.proofs.Common.{InjectiveEvidence, SideEvidence, IsInjectiveShape, IsSideShape, Window, Twins, Ahead, Split}
+use Rattle.cert_values.proofs.Common.{InjectiveEvidence, SideEvidence, IsInjectiveShape, IsSideShape, Window, Twins, Ahead, Split}
 use Rattle.cert_conditions.specs.Breaches.{EachBelow}
 use Rattle.cert_conditions.specs.Claims.{claim, Falls, IsWindowPair, IsAheadPair}
 use Rattle.cert_conditions.specs.Conditions.{OfWindow, OfTwins, OfAhead, OfSplit}
-use Rattle.cert_conditions.specs.Accepted.{says_injective, says_closing}
+use Rattle.cert_values.specs.Evidence.{says_injective, says_closing}
 
 -- the claim of each pair falls
 abbrev pub AllFall : Side → LocalRule → List (Option ℕ) → Type 0

@@ -8,7 +8,7 @@ use Rattle.pair_laws.proofs.Claims.{ClaimsRanks, FallsOn-ranks}
 use Rattle.pair_laws.proofs.Common.{IsClaimedApart-ranks, ahead-ranks}
 use Rattle.ring_laws.proofs.FluxWindows.{FlowsAt-flux}
 use Rattle.tail_config.proofs.Common.{TailConfig, AgreeLeft, AgreeRight, IsRightSplit, IsLeftSplit}
-use Rattle.cert_format.specs.declared.cert_version.CertVersion.TheVariants.{One}
+use Rattle.cert_values.specs.declared.cert_version.CertVersion.TheVariants.{One}
 use Rattle.cert_conditions.specs.Breaches.{EachBelow}
 use Rattle.cert_conditions.specs.Claims.{claim, IsWindowPair, IsAheadPair}
 use Rattle.cert_conditions.specs.Sets.{StepIsKept, LeadsTo}

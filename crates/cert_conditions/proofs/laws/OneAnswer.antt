@@ -1,7 +1,7 @@
 -- Bytes are accepted with one list of verdicts, or refused for one reason, and never both.
 use Rattle.std.proofs.Common.{◌≡◌, ℕ, List, sym, ap, ◌∙◌, subst}
-use Rattle.cert_format.proofs.laws.Uniqueness.{IsCertificateText-unique}
-use Rattle.cert_format.proofs.laws.ShapeFaults.{IsCertificateText-no_fault, IsShapeFault-unique}
+use Rattle.cert_values.proofs.laws.Uniqueness.{IsCertificateText-unique}
+use Rattle.cert_values.proofs.laws.ShapeFaults.{IsCertificateText-no_fault, IsShapeFault-unique}
 use Rattle.cert_conditions.specs.declared.verdicts.Verdicts.{Verdicts}
 use Rattle.cert_conditions.specs.declared.refusal.Refusal.{Refusal}
 use Rattle.cert_conditions.specs.declared.refusal.Refusal.TheVariants as refusal

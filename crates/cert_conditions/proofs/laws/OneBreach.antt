@@ -2,8 +2,8 @@
 use Rattle.std.proofs.Common.{◌≡◌, ◌≢◌, refl, ap, ap₂, subst, subst₂, List, length, slice_index, ℕ, ◌^◌, ⊎_elim, arith}
 use Rattle.word_image.proofs.Common.{cases_lt, LocalRule, word_of, first_of, second_of, pair_count, IsFirstOf}
 use Rattle.tail_config.proofs.Common.{TailConfig}
-use Rattle.cert_format.proofs.Common.{Certificate}
-use Rattle.cert_format.proofs.laws.ShapeFaults.{IsFirstWithout-unique}
+use Rattle.cert_values.proofs.Common.{Certificate}
+use Rattle.cert_values.proofs.laws.ShapeFaults.{IsFirstWithout-unique}
 use Rattle.cert_conditions.specs.declared.condition.Condition.{Condition}
 use Rattle.cert_conditions.specs.declared.refusal.TwinCause.{TwinCause}
 use Rattle.cert_conditions.specs.declared.refusal.SplitCause.{SplitCause}

@@ -2,7 +2,7 @@
 use Rattle.std.proofs.Common.{Bool, true, false, refl, sym, subst, List, ℕ, slice_index, ◌↔◌, ◌&&◌, IsTrue}
 use Rattle.word_image.proofs.Common.{false≢true}
 use Rattle.rule_text.proofs.laws.AcceptedRules.{IsRule-text}
-use Rattle.cert_format.proofs.Common.{Certificate, IsShaped, IsCertificateText, IsWeightShape-has}
+use Rattle.cert_values.proofs.Common.{Certificate, IsShaped, IsCertificateText, IsWeightShape-has}
 use Rattle.cert_conditions.specs.declared.condition.Condition.TheVariants.{SideClaims, FullListed, NoneEmpty, Closed, FirstsListed, OffDiagonal, PairsClosed, OrphanRead, WindowClaims, TwinsAlike, SideAhead, SideSplit, FluxFlows, RingLossy}
 use Rattle.word_image.specs.declared.side.Side.TheVariants.{Right, Left}
 use Rattle.cert_conditions.specs.declared.verdicts.Verdicts.{Verdicts}

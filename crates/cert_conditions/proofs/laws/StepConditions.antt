@@ -5,8 +5,8 @@ use Rattle.std.specs.Int.Bits.{and_self}
 use Rattle.word_image.proofs.Common.{bit_at, and_le_r, get_or_default, All-tail, LocalRule, IsRule, IsWord, node_count, IsSurjective, IsOrphan, full_set, IsLastNode, bit_at-IsBitSet, IsBitSet-some, IsOrphan-empty_set}
 use Rattle.word_image.proofs.laws.LastNodes.{IsLastNode-empty, IsLastNode-push}
 use Rattle.search_laws.proofs.Common.{IsLastSet-leads}
-use Rattle.cert_format.specs.declared.cert_version.CertVersion.{CertVersion}
-use Rattle.cert_format.specs.declared.cert_version.CertVersion.TheVariants.{One, Two, Three}
+use Rattle.cert_values.specs.declared.cert_version.CertVersion.{CertVersion}
+use Rattle.cert_values.specs.declared.cert_version.CertVersion.TheVariants.{One, Two, Three}
 use Rattle.cert_conditions.specs.Breaches.{EachBelow}
 use Rattle.cert_conditions.specs.Sets.{IsKept, HasPart, StepIsKept, LeadsTo}
 

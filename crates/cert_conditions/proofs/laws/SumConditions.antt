@@ -3,11 +3,11 @@ use Rattle.std.proofs.Common.{◌≡◌, ℕ, ◌^◌, List, length, refl, ℤ, 
 use Rattle.word_image.proofs.Common.{false≢true, LocalRule, IsRule, IsWord, word_of, node_count, IsFlux, IsLossyRing, IsConserving}
 use Rattle.ring_laws.proofs.Fluxes.{IsConserving-flux}
 use Rattle.ring_laws.proofs.FluxWindows.{IsFlux-windows}
-use Rattle.cert_format.proofs.Common.{SumEvidence, IsSumShape, Flux, Ring}
+use Rattle.cert_values.proofs.Common.{SumEvidence, IsSumShape, Flux, Ring}
 use Rattle.cert_conditions.specs.Breaches.{EachBelow}
 use Rattle.cert_conditions.specs.Sums.{Flows, IsLossy}
 use Rattle.cert_conditions.specs.Conditions.{OfFlux, OfRing}
-use Rattle.cert_conditions.specs.Accepted.{says_conserving}
+use Rattle.cert_values.specs.Evidence.{says_conserving}
 use Rattle.cert_conditions.proofs.laws.WindowFlows.{Flows-value}
 
 -- numbers of the nodes that flow on each window are a flux

@@ -2,13 +2,13 @@
 use Rattle.std.proofs.Common.{◌≢◌, length, slice_index, Contains, refl, ◌↔◌, IsTrue}
 use Rattle.word_image.proofs.Common.{false≢true, LocalRule, IsRule, IsSurjective, full_set, first_of, second_of, pair_count, IsOrphan-not_surjective}
 use Rattle.eden_laws.proofs.ReachedPairs.{IsSurjective-pair_list}
-use Rattle.cert_format.specs.declared.cert_version.CertVersion.{CertVersion}
-use Rattle.cert_format.proofs.Common.{SurjectiveEvidence, IsSurjectiveShape, Sets, Pairs, Orphan}
+use Rattle.cert_values.specs.declared.cert_version.CertVersion.{CertVersion}
+use Rattle.cert_values.proofs.Common.{SurjectiveEvidence, IsSurjectiveShape, Sets, Pairs, Orphan}
 use Rattle.cert_conditions.specs.Breaches.{EachBelow}
 use Rattle.cert_conditions.specs.Sets.{StepIsKept, LeadsTo}
 use Rattle.cert_conditions.specs.Pairs.{FirstIsListed, StepsAreListed}
 use Rattle.cert_conditions.specs.Conditions.{OfSets, OfPairs, OfOrphan}
-use Rattle.cert_conditions.specs.Accepted.{says_surjective}
+use Rattle.cert_values.specs.Evidence.{says_surjective}
 use Rattle.cert_conditions.proofs.laws.PairConditions.{IsPairList-met}
 use Rattle.cert_conditions.proofs.laws.StepConditions.{IsSurjective-sets, IsOrphan-read}
 

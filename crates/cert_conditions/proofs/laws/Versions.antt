@@ -2,8 +2,8 @@
 use Rattle.std.proofs.Common.{ℕ, List, length, slice_index}
 use Rattle.word_image.proofs.Common.{LocalRule}
 use Rattle.word_image.specs.declared.side.Side.TheVariants.{Right, Left}
-use Rattle.cert_format.specs.declared.cert_version.CertVersion.{CertVersion}
-use Rattle.cert_format.proofs.Common.{SurjectiveEvidence, Certificate, Sets, Pairs, Orphan}
+use Rattle.cert_values.specs.declared.cert_version.CertVersion.{CertVersion}
+use Rattle.cert_values.proofs.Common.{SurjectiveEvidence, Certificate, Sets, Pairs, Orphan}
 use Rattle.cert_conditions.specs.declared.condition.Condition.TheVariants.{SideClaims, FullListed, NoneEmpty, Closed, FirstsListed, OffDiagonal, PairsClosed, OrphanRead, WindowClaims, TwinsAlike, SideAhead, SideSplit, FluxFlows, RingLossy}
 use Rattle.cert_conditions.specs.Breaches.{EachBelow}
 use Rattle.cert_conditions.specs.Sets.{HasPart, IsKept, StepIsKept}

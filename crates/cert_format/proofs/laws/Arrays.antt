@@ -8,7 +8,7 @@ use Rattle.serde_json.specs.Events.{items_len}
 use Rattle.serde_json.specs.View.{view, items_view}
 use Rattle.serde_json.specs.declared.value.Value.{Value}
 use Rattle.serde_json.proofs.Views.{items_len-items_view}
-use Rattle.cert_format.specs.CertificateTexts.{IsArrayOf, list_of}
+use Rattle.cert_values.specs.CertificateTexts.{IsArrayOf, list_of}
 
 -- a value with items is their array
 array_from-as_array : (d : Data) (ds : Items) → Some ds ≡ as_array d → d ≡ array ds

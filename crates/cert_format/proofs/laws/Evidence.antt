@@ -2,15 +2,15 @@
 use Rattle.std.proofs.Common.{◌≡◌, ◌≢◌, sym, ap, ◌∙◌, subst, List, [], ◌∷◌, length, ℕ, ◌+◌, ◌<◌, ◌≤◌, ℤ, Option, arith, codes, All}
 use Rattle.word_image.proofs.Common.{AllZip, All-nil, All-cons, All-head, All-tail, All-weaker, LocalRule, node_count, full_set, pair_count}
 use Rattle.serde_json.specs.Data.{Data}
-use Rattle.cert_format.specs.declared.cert_version.CertVersion.{CertVersion}
-use Rattle.cert_format.specs.Evidence.{SurjectiveEvidence, InjectiveEvidence, SumEvidence}
-use Rattle.cert_format.specs.Certificates.{IsClaim, IsNear}
-use Rattle.cert_format.specs.Evidence.SurjectiveEvidence.{Sets, Pairs, Orphan}
-use Rattle.cert_format.specs.Evidence.InjectiveEvidence.{Window, Twins}
-use Rattle.cert_format.specs.Evidence.SumEvidence.{Flux, Ring}
-use Rattle.cert_format.specs.CertificateTexts.{IsWhole, IsSigned, IsDigits, IsClaimValue, IsArrayOf, HasOnly, list_of}
+use Rattle.cert_values.specs.declared.cert_version.CertVersion.{CertVersion}
+use Rattle.cert_values.specs.Evidence.{SurjectiveEvidence, InjectiveEvidence, SumEvidence}
+use Rattle.cert_values.specs.Certificates.{IsClaim, IsNear}
+use Rattle.cert_values.specs.Evidence.SurjectiveEvidence.{Sets, Pairs, Orphan}
+use Rattle.cert_values.specs.Evidence.InjectiveEvidence.{Window, Twins}
+use Rattle.cert_values.specs.Evidence.SumEvidence.{Flux, Ring}
+use Rattle.cert_values.specs.CertificateTexts.{IsWhole, IsSigned, IsDigits, IsClaimValue, IsArrayOf, HasOnly, list_of}
 use Rattle.cert_format.specs.Readings.{IsWordValue, IsWordsValue, IsShort, IsRankValue, IsFlow, AreNumbers, IsFluxFor, IsByte, IsWeightsFor, IsRowFor, IsSurjectiveFor, IsInjectiveFor, IsSumFor}
-use Rattle.cert_format.proofs.laws.Uniqueness.{HasOnly-unique, not_both, sets_or_orphan, sets_or_pairs, pairs_or_orphan, flux_or_ring, IsArrayOf-unique, IsWhole-unique}
+use Rattle.cert_values.proofs.laws.Uniqueness.{HasOnly-unique, not_both, sets_or_orphan, sets_or_pairs, pairs_or_orphan, flux_or_ring, IsArrayOf-unique, IsWhole-unique}
 
 -- the values of one key are one
 at_key : (d : Data) {v u : Data} {k : List ℕ} (P : Data → Type 0) → HasOnly k v d → HasOnly k u d → P u → P v

@@ -11,8 +11,9 @@ use Rattle.serde_json.specs.Events.{members_len}
 use Rattle.serde_json.specs.View.{view, members_view}
 use Rattle.serde_json.specs.declared.value.Value.{Value}
 use Rattle.serde_json.proofs.Views.{Entry, members_len-members_view}
-use Rattle.cert_format.specs.declared.cert_version.CertVersion.{CertVersion}
-use Rattle.cert_format.specs.CertificateTexts.{HasOnly, HasOnlyBoth, HasNoOther, keys_of}
+use Rattle.cert_values.proofs.laws.Members.{found_at, some_passes}
+use Rattle.cert_values.specs.declared.cert_version.CertVersion.{CertVersion}
+use Rattle.cert_values.specs.CertificateTexts.{HasOnly, HasOnlyBoth, HasNoOther, keys_of}
 use Rattle.cert_format.specs.Readings.{members_in}
 
 -- how many members an object has, where it has this many keys alone
@@ -51,13 +52,6 @@ HasOnlyBoth-entries d (e ∷ f ∷ []) name other u x is long first second key l
     let same : e ≡ (name, u) = same_Some _ _ first in let same' : f ≡ (other, x) = same_Some _ _ second in sym is ∙ cc
 HasOnlyBoth-entries d (e ∷ f ∷ g ∷ es) name other u x is long first second key last = absurd (omega (arith, long))
 
--- a member that is found has one of the keys
-pub found_at : (o : Ordering) (k l : List ℕ) (e d : Data) (rest : Option Data) (ks : List (List ℕ)) → slice_cmp nat_cmp k l ≡ o → (rest ≡ Some d → Contains ks k)
-    → match_ordering o rest (Some e) rest ≡ Some d → Contains (l ∷ ks) k
-found_at Less k l e d rest ks is later found = let c = later found in (suc c.0, omega (arith, c.1), c.2)
-found_at Equal k l e d rest ks is later found = (0, omega arith, sym ((bytes_eq-Decides k l).0 (sym (is_eq-slice_cmp k l) ∙ ap is_eq is)))
-found_at Greater k l e d rest ks is later found = let c = later found in (suc c.0, omega (arith, c.1), c.2)
-
 found_key : (es : List Entry) (k : List ℕ) (d : Data) → get_member k (members_view es) ≡ Some d → Contains (map string_bytes (names_of es)) k
 found_key [] k d found = absurd (none-some d found)
 found_key (e ∷ es) k d found = found_at (slice_cmp nat_cmp k (string_bytes e.0)) k (string_bytes e.0) (view e.1) d _ _ refl (found_key es k d) found
@@ -83,10 +77,6 @@ member_of_key (e ∷ es) (suc i) name is = let later = member_of_key es i name i
 pub other_key : (version : CertVersion) (es : List Entry) (i : ℕ) (name : String Global) → slice_get (names_of es) i ≡ Some name → ¬ Contains (keys_of version) (string_bytes name) → ¬ HasNoOther version (members_view es)
 other_key version es i name is other none = let found = member_of_key es i name is in other (none (string_bytes name) found.0 found.1)
 
--- an element that passes a test
-pub some_passes : {X : Type 0} (p : X → Bool) (xs : List X) → list_any p xs ≡ true → (x : X) × Contains xs x × (p x ≡ true)
-some_passes p xs any = let (i, x, within, at, passes) = Any-from_list_any p xs any in (x, (i, within, at), passes)
-
 -- a test of each of a list's elements finds a name exactly where it is one of them
 pub list_any-keys : (keys : List (List ℕ)) (name : List ℕ) (r : Bool) → r ≡ list_any (λ key. bytes_eq key name) keys → IsTrue r ↔ Contains keys name
 list_any-keys keys name r is = (
@@ -98,7 +88,3 @@ list_any-keys keys name r is = (
 pub members_in-entries : (d : Data) (es : List Entry) → Some (members_view es) ≡ as_object d → members_in d ≡ members_view es
 members_in-entries (object ms) es is = sym (same_Some _ _ is)
 members_in-entries _ es is = absurd (none-some (members_view es) (sym is))
-
--- equal values put into equal members
-pub put_same : (k : List ℕ) {d e : Data} {ms ns : Members} → d ≡ e → ms ≡ ns → put k d ms ≡ put k e ns
-put_same k value members = ap₂ (λ (d : Data) (ms : Members). put k d ms) value members

@@ -5,15 +5,15 @@ use Rattle.serde_json.specs.Data.{Data, string, object, Items, Members, no_membe
 use Rattle.serde_json.specs.View.{items_of}
 use Rattle.serde_json.specs.Written.{has_float, items_have_float, members_have_float}
 use Rattle.rule_text.specs.PrintedRules.{printed_rule}
-use Rattle.cert_format.specs.Versions.{number_of}
-use Rattle.cert_format.specs.Evidence.{SurjectiveEvidence, InjectiveEvidence, SideEvidence, SumEvidence}
-use Rattle.cert_format.specs.Certificates.{Certificate}
-use Rattle.cert_format.specs.Evidence.SurjectiveEvidence.{Sets, Pairs, Orphan}
-use Rattle.cert_format.specs.Evidence.InjectiveEvidence.{Window, Twins}
-use Rattle.cert_format.specs.Evidence.SideEvidence.{Ahead, Split}
-use Rattle.cert_format.specs.Evidence.SumEvidence.{Flux, Ring}
-use Rattle.cert_format.specs.WrittenTexts.{array_from, whole_value, signed_value, word_value, tail_value, claim_value, surjective_value, injective_value, side_value, sum_value, ranks_value, weights_members, certificate_value}
-use Rattle.cert_format.proofs.laws.WeightMembers.{weights_members-cases}
+use Rattle.cert_values.specs.Versions.{number_of}
+use Rattle.cert_values.specs.Evidence.{SurjectiveEvidence, InjectiveEvidence, SideEvidence, SumEvidence}
+use Rattle.cert_values.specs.Certificates.{Certificate}
+use Rattle.cert_values.specs.Evidence.SurjectiveEvidence.{Sets, Pairs, Orphan}
+use Rattle.cert_values.specs.Evidence.InjectiveEvidence.{Window, Twins}
+use Rattle.cert_values.specs.Evidence.SideEvidence.{Ahead, Split}
+use Rattle.cert_values.specs.Evidence.SumEvidence.{Flux, Ring}
+use Rattle.cert_values.specs.WrittenTexts.{array_from, whole_value, signed_value, word_value, tail_value, claim_value, surjective_value, injective_value, side_value, sum_value, ranks_value, weights_members, certificate_value}
+use Rattle.cert_values.proofs.laws.WeightMembers.{weights_members-cases}
 
 -- a value that nests no deeper than n, without a float
 pub record IsPlain (n : ℕ) (d : Data) : Type 0 where

@@ -7,20 +7,20 @@ use Rattle.serde_json.specs.Find.{get_member, as_object}
 use Rattle.rule_text.specs.RuleTexts.{IsRuleText}
 use Rattle.cert_format.specs.declared.misread.Misread.{Misread}
 use Rattle.cert_format.specs.declared.misread.Misread.TheVariants as misread
-use Rattle.cert_format.specs.declared.shape_fault.Key.{Key}
-use Rattle.cert_format.specs.declared.shape_fault.Key.TheVariants as key
-use Rattle.cert_format.specs.declared.shape_fault.ShapeFault.TheVariants as shape
-use Rattle.cert_format.specs.declared.shape_fault.CertFault.{CertFault}
-use Rattle.cert_format.specs.declared.shape_fault.CertFault.TheVariants as fault
-use Rattle.cert_format.specs.declared.cert_version.CertVersion.{CertVersion}
-use Rattle.cert_format.specs.Certificates.{Certificate}
-use Rattle.cert_format.specs.Versions.{number_of, names_weights}
-use Rattle.cert_format.specs.CertificateTexts.{IsCertificateText, AreParts, IsObject, IsWhole, IsArrayOf, IsRanksValue, HasVersion, HasRuleText, HasWeights, HasRanks}
-use Rattle.cert_format.specs.CertificateTexts.HasWeights.{Named, Own}
-use Rattle.cert_format.specs.ShapeFaults.{Passes, part_steps}
-use Rattle.cert_format.specs.ShapeFaults.IsShapeFault.{NoJson, NoObject, BadPart}
+use Rattle.cert_values.specs.declared.shape_fault.Key.{Key}
+use Rattle.cert_values.specs.declared.shape_fault.Key.TheVariants as key
+use Rattle.cert_values.specs.declared.shape_fault.ShapeFault.TheVariants as shape
+use Rattle.cert_format.specs.declared.cert_fault.CertFault.{CertFault}
+use Rattle.cert_format.specs.declared.cert_fault.CertFault.TheVariants as fault
+use Rattle.cert_values.specs.declared.cert_version.CertVersion.{CertVersion}
+use Rattle.cert_values.specs.Certificates.{Certificate}
+use Rattle.cert_values.specs.Versions.{number_of, names_weights}
+use Rattle.cert_values.specs.CertificateTexts.{IsCertificateText, AreParts, IsObject, IsWhole, IsArrayOf, IsRanksValue, HasVersion, HasRuleText, HasWeights, HasRanks}
+use Rattle.cert_values.specs.CertificateTexts.HasWeights.{Named, Own}
+use Rattle.cert_values.specs.ShapeFaults.{Passes, part_steps}
+use Rattle.cert_values.specs.ShapeFaults.IsShapeFault.{NoJson, NoObject, BadPart}
 use Rattle.cert_format.specs.Readings.{IsWeightsFor, AreRanksFor, IsStepFault, IsPartFault, IsCertFault}
-use Rattle.cert_format.proofs.laws.Uniqueness.{one_some}
+use Rattle.cert_values.proofs.laws.Uniqueness.{one_some}
 
 -- the step of the ranks fails where the member is no ranks
 pub no_ranks : (r : LocalRule) (ms : Members) (d : Data) → get_member (codes "ranks") ms ≡ Some d → ((forward backward : List (Option ℕ)) → ¬ AreRanksFor r d forward backward) → ¬ ((forward backward : List (Option ℕ)) × HasRanks r ms forward backward)

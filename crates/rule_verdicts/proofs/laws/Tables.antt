@@ -2,7 +2,7 @@
 use Rattle.std.proofs.Common.{◌≡◌, ℕ, zero, suc, ◌+◌, ◌*◌, ◌^◌, ◌<◌, List, [], ◌∷◌, length, reverse, get_or, set, refl, sym, ap, ◌∙◌, subst, arith, pow-suc, pos, mul-add, mul_assoc, mul_comm, mul-one, one-mul}
 use Rattle.word_image.proofs.Common.{pow-zero, reverse-append, reverse-reverse, length-reverse, LocalRule, IsRule, IsWord, value, word_of, wolfram_number, value-snoc, word_of-value, value-word_of, length-word_of, IsWord-reverse}
 use Rattle.rule_text.proofs.laws.Numbers.{wolfram_number-value}
-use Rattle.rule_verdicts.specs.Truths.{table_rule}
+use Rattle.rule_text.specs.RuleTexts.{rule_of_table}
 use Rattle.rule_verdicts.specs.Numbers.{numbered_rule}
 
 -- the number of a table
@@ -45,18 +45,18 @@ value-set_carry k w i x l here last =
     omega (arith, low-value k w, low-value k (set w i 0), low-set k w i 0 l, one, old, mul-one (k ^ i), power, ap (λ n. k ^ i * n) last, none)
 
 -- the rule of a table is that of its number
-pub numbered_rule-table : (k m : ℕ) (table : List ℕ) → IsRule (table_rule k m table) → numbered_rule k m (value k (reverse table)) ≡ table_rule k m table
+pub numbered_rule-table : (k m : ℕ) (table : List ℕ) → IsRule (rule_of_table k m table) → numbered_rule k m (value k (reverse table)) ≡ rule_of_table k m table
 numbered_rule-table k m table rule =
     let word : IsWord k (reverse table) = IsWord-reverse k table rule.letters in
     let long : length (reverse table) ≡ k ^ m = length-reverse table ∙ rule.entries in
     let back : reverse (word_of k (k ^ m) (value k (reverse table))) ≡ table =
     ap (λ n. reverse (word_of k n (value k (reverse table)))) (sym long) ∙ ap reverse (word_of-value k (reverse table) word) ∙ reverse-reverse table in
-    ap (table_rule k m) back
+    ap (rule_of_table k m) back
 
 -- a rule at offset 0 is the rule of its Wolfram number
 pub numbered_rule-wolfram : {r : LocalRule} → IsRule r → r.offset ≡ pos 0 → numbered_rule r.states r.width (wolfram_number r) ≡ r
 numbered_rule-wolfram {r} rule offset =
-    let own : r ≡ table_rule r.states r.width r.table = ap (λ o. record { states = r.states; width = r.width; offset = o; table = r.table }) offset in
+    let own : r ≡ rule_of_table r.states r.width r.table = ap (λ o. record { states = r.states; width = r.width; offset = o; table = r.table }) offset in
     ap (numbered_rule r.states r.width) (wolfram_number-value rule) ∙ numbered_rule-table r.states r.width r.table (subst IsRule own rule) ∙ sym own
 
 -- the table of the rule with a number has k ^ m letters

@@ -1,7 +1,7 @@
 use Rattle.std.proofs.Common.{subst}
 use Rattle.certificate_laws.specs.LeastEvidence.{IsInjectivePart}
-use Rattle.cert_format.specs.declared.parts.InjectivePart.{InjectivePart}
-use Rattle.cert_format.proofs.Common.{injective_of}
+use Rattle.cert_values.specs.declared.parts.InjectivePart.{InjectivePart}
+use Rattle.cert_values.proofs.Common.{injective_of}
 use Rattle.ca_findings.proofs.Common.{IsUnfitFor}
 use Rattle.ca_answers.proofs.inverses.inverse.Goals as goal
 

@@ -1,6 +1,6 @@
 use Rattle.std.proofs.Common.{◌≡◌, ◌+◌, ◌^◌, ◌<◌, [], ◌∷◌, ◌++◌, length, reverse, refl, sym, ap, ◌∙◌, subst, arith}
 use Rattle.word_image.proofs.Common.{length-map-range_with_len, LocalRule, IsRule, value}
-use Rattle.rule_verdicts.specs.Truths.{table_rule}
+use Rattle.rule_text.specs.RuleTexts.{rule_of_table}
 use Rattle.rule_verdicts.specs.Numbers.{numbered_rule}
 use Rattle.rule_verdicts.proofs.laws.Tables.{numbered_rule-table}
 use Rattle.ca_findings.specs.Samples.{survey_rules}
@@ -41,8 +41,8 @@ loop-place-preserved c =
     let sofar = survey_rules k m first i in
     let here : first + i < k ^ length c.args.table.now = omega (arith, c.requires.room, c.loop-place-test.true) in
     let number : value k (reverse table) ≡ first + i = c.loop-place.invariant.number here in
-    let rule : IsRule (table_rule k m table) = record { shape = c.requires.rule.shape; entries = c.loop-place.invariant.long ∙ c.requires.rule.entries; letters = c.loop-place.invariant.word } in
-    let same : table_rule k m table ≡ numbered_rule k m (first + i) = sym (ap (numbered_rule k m) (sym number) ∙ numbered_rule-table k m table rule) in
+    let rule : IsRule (rule_of_table k m table) = record { shape = c.requires.rule.shape; entries = c.loop-place.invariant.long ∙ c.requires.rule.entries; letters = c.loop-place.invariant.word } in
+    let same : rule_of_table k m table ≡ numbered_rule k m (first + i) = sym (ap (numbered_rule k m) (sym number) ∙ numbered_rule-table k m table rule) in
     let power : k ^ length table ≡ k ^ length c.args.table.now = ap (λ n. k ^ n) c.loop-place.invariant.long in
     let counted = c.in_ok-add.ensures sofar (subst (λ (r : LocalRule). IsClassTally r.states r.width sofar c.loop-place.tally) (sym c.rule_of_table.ensures) c.loop-place.invariant.counted) in
     record {

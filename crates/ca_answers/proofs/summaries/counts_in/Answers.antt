@@ -1,6 +1,7 @@
 use Rattle.std.proofs.Common.{◌≡◌, ◌+◌, ◌^◌, [], ◌∷◌, ◌++◌, length, map, ap, sym, ◌∙◌, subst, refl, arith, length-append}
 use Rattle.word_image.proofs.Common.{range_with_len, LocalRule, IsRule}
-use Rattle.rule_verdicts.specs.Truths.{table_rule, AreTruths}
+use Rattle.rule_text.specs.RuleTexts.{rule_of_table}
+use Rattle.rule_verdicts.specs.Truths.{AreTruths}
 use Rattle.ca_findings.specs.Samples.{drawn, drawn_rule, state_after}
 use Rattle.ca_findings.proofs.Common.{AreCounts, counts_of}
 use Rattle.ca_answers.proofs.laws.Samples.{IsRule-drawn, sample-begin, sample-step, sample-end}
@@ -15,8 +16,8 @@ long : (c : After-fill) → length c.loop-i.table ≡ c.args.k ^ c.args.m
 long c = c.loop-i.auto.table ∙ c.requires.long
 
 -- the rule of the filled table is the one that is drawn
-drawn_is : (c : After-fill) → table_rule c.args.k c.args.m c.fill.new.letters ≡ drawn_rule c.args.k c.args.m c.loop-i.generator
-drawn_is c = ap (table_rule c.args.k c.args.m) (c.fill.ensures.letters ∙ ap (λ n. map (drawn c.args.k c.loop-i.generator) (range_with_len 0 n)) (long c))
+drawn_is : (c : After-fill) → rule_of_table c.args.k c.args.m c.fill.new.letters ≡ drawn_rule c.args.k c.args.m c.loop-i.generator
+drawn_is c = ap (rule_of_table c.args.k c.args.m) (c.fill.ensures.letters ∙ ap (λ n. map (drawn c.args.k c.loop-i.generator) (range_with_len 0 n)) (long c))
 
 pub of_table-requires : goal.of_table-requires
 of_table-requires c = subst IsRule (sym (drawn_is (goal.at.of_table-requires c).After-fill)) (IsRule-drawn c.args.k c.args.m c.loop-i.generator c.requires.shape)

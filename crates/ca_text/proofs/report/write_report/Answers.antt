@@ -1,7 +1,7 @@
 use Rattle.std.proofs.Common.{◌++◌, ap, ◌∙◌, cond, codes}
 use Rattle.word_image.proofs.Common.{on_ok_weaker}
 use Rattle.rule_text.specs.PrintedRules.{printed_rule, number_found}
-use Rattle.cert_format.proofs.Common.{injective_of, side_of, sum_of}
+use Rattle.cert_values.proofs.Common.{injective_of, side_of, sum_of}
 use Rattle.rule_text.proofs.laws.NumbersFound.{number_found-is}
 use Rattle.ca_text.specs.Reports.{line, number_line, surjective_line, injective_line, side_line, conserving_line}
 use Rattle.ca_text.proofs.laws.Appended.{appended_twice}
@@ -17,6 +17,6 @@ returns c =
     let four = appended_twice before _ (injective_line (injective_of f.injective)) three c.in_ok-write_injective.ensures in
     let five = appended_twice before _ (side_line (codes "right") (side_of f.right)) four c.in_ok-write_side.ensures in
     let six = appended_twice before _ (side_line (codes "left") (side_of f.left)) five c.in_ok-write_side-2.ensures in
-    let both = ap (λ b. line (cond b (codes "open yes") (codes "open no"))) c.are_ahead.ensures in
+    let both = ap (λ b. line (cond b (codes "open yes") (codes "open no"))) c.is_open.ensures in
     let seven = appended_twice before _ _ six (c.in_ok-write_open.ensures ∙ ap (λ t. c.write_side-2.new.output ++ t) both) in
     on_ok_weaker c.write_conserving.result (λ last. appended_twice before _ (conserving_line (sum_of f.conserving)) seven last) c.write_conserving.ensures

@@ -1,5 +1,5 @@
 use Rattle.std.proofs.Common.{sym, ap, subst, ◌∙◌}
-use Rattle.cert_format.proofs.Common.{Certificate, IsSideShape, side_of, IsOver}
+use Rattle.cert_values.proofs.Common.{Certificate, IsSideShape, side_of, IsOver}
 use Rattle.cert_conditions.proofs.Common.{evidence_on}
 use Rattle.cert_check.proofs.aheads.part_on.Goals as goal
 

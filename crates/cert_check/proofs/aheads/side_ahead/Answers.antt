@@ -1,7 +1,7 @@
 use Rattle.std.proofs.Common.{ℕ, List, Option, sym, ap, subst, subst₂, ◌∙◌}
 use Rattle.word_image.proofs.Common.{LocalRule, pair_count, IsFirstOf}
-use Rattle.cert_format.proofs.Common.{Certificate, IsSideShape, side_of}
-use Rattle.cert_format.specs.declared.parts.SidePart.{SidePart}
+use Rattle.cert_values.proofs.Common.{Certificate, IsSideShape, side_of}
+use Rattle.cert_values.specs.declared.parts.SidePart.{SidePart}
 use Rattle.cert_conditions.proofs.Common.{EachBelow, IsFirstBreach, IsAheadPair, claims_on, OfAhead, NoAhead}
 use Rattle.cert_check.proofs.aheads.side_ahead.Goals as goal
 

@@ -1,6 +1,6 @@
 use Rattle.std.proofs.Common.{length, sym, ap, ◌∙◌}
 use Rattle.word_image.proofs.Common.{pair_count}
-use Rattle.cert_format.proofs.Common.{Certificate}
+use Rattle.cert_values.proofs.Common.{Certificate}
 use Rattle.cert_conditions.proofs.Common.{claims_on}
 use Rattle.cert_check.proofs.claims.claims_on.Goals as goal
 

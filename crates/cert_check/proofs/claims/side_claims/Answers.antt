@@ -1,6 +1,6 @@
 use Rattle.std.proofs.Common.{ℕ, List, Option, ap, subst₂}
 use Rattle.word_image.proofs.Common.{LocalRule, pair_count}
-use Rattle.cert_format.proofs.Common.{Certificate}
+use Rattle.cert_values.proofs.Common.{Certificate}
 use Rattle.cert_conditions.proofs.Common.{EachBelow, IsFirstBreach, Falls, Rising}
 use Rattle.cert_check.proofs.claims.side_claims.Goals as goal
 

@@ -1,6 +1,6 @@
 use Rattle.std.proofs.Common.{◌≡◌, Ok, Err, inl, inr, sym, ap, ◌∙◌, subst, ⊎_elim}
 use Rattle.word_image.proofs.Common.{err_from_is_err_and, handed_on}
-use Rattle.cert_format.specs.declared.shape_fault.CertFault.TheVariants as cert_fault
+use Rattle.cert_format.specs.declared.cert_fault.CertFault.TheVariants as cert_fault
 use Rattle.cert_conditions.specs.declared.refusal.Refusal.TheVariants as refusal
 use Rattle.cert_conditions.proofs.Common.{IsRefusal, AreTrue-accepted}
 use Rattle.cert_conditions.specs.Refusals.IsRefusal.{NoShape, Unmet}

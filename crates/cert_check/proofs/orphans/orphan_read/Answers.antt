@@ -1,6 +1,6 @@
 use Rattle.std.proofs.Common.{ℕ, List, ap, subst}
 use Rattle.word_image.proofs.Common.{full_set}
-use Rattle.cert_format.proofs.Common.{Certificate, surjective_of}
+use Rattle.cert_values.proofs.Common.{Certificate, surjective_of}
 use Rattle.cert_conditions.specs.declared.condition.Condition.TheVariants as condition
 use Rattle.cert_conditions.specs.declared.refusal.Refusal.TheVariants as refusal
 use Rattle.cert_conditions.proofs.Common.{LeadsTo, IsBreach, NoOrphan}

@@ -1,6 +1,6 @@
 use Rattle.std.proofs.Common.{List, ℕ, sym, ap, subst}
 use Rattle.word_image.proofs.Common.{pair_count}
-use Rattle.cert_format.proofs.Common.{Certificate, surjective_of}
+use Rattle.cert_values.proofs.Common.{Certificate, surjective_of}
 use Rattle.cert_conditions.specs.declared.condition.Condition.TheVariants as condition
 use Rattle.cert_conditions.specs.declared.refusal.Refusal.TheVariants as refusal
 use Rattle.cert_conditions.proofs.Common.{EachBelow, IsFirstBreach, FirstIsListed, OfPairs, Holds, IsBreach, NoFirst}

@@ -1,6 +1,6 @@
 use Rattle.std.proofs.Common.{◌≢◌, ℕ, List, length, slice_index, ap, subst}
 use Rattle.word_image.proofs.Common.{first_of, second_of}
-use Rattle.cert_format.proofs.Common.{Certificate, surjective_of}
+use Rattle.cert_values.proofs.Common.{Certificate, surjective_of}
 use Rattle.cert_conditions.specs.declared.condition.Condition.TheVariants as condition
 use Rattle.cert_conditions.specs.declared.refusal.Refusal.TheVariants as refusal
 use Rattle.cert_conditions.proofs.Common.{IsFirstBreach, IsBreach, Diagonal}

@@ -1,7 +1,7 @@
 use Rattle.std.proofs.Common.{ℕ, List, length, slice_index, sym, ap, subst}
 use Rattle.word_image.proofs.Common.{LocalRule}
-use Rattle.cert_format.specs.declared.cert_version.CertVersion.{CertVersion}
-use Rattle.cert_format.proofs.Common.{Certificate, surjective_of}
+use Rattle.cert_values.specs.declared.cert_version.CertVersion.{CertVersion}
+use Rattle.cert_values.proofs.Common.{Certificate, surjective_of}
 use Rattle.cert_conditions.specs.declared.condition.Condition.TheVariants as condition
 use Rattle.cert_conditions.specs.declared.refusal.Refusal.TheVariants as refusal
 use Rattle.cert_conditions.proofs.Common.{EachBelow, IsFirstBreach, StepIsKept, OfSets, Holds, IsBreach, NotClosed}

@@ -1,5 +1,5 @@
 use Rattle.std.proofs.Common.{ℕ, List}
-use Rattle.cert_format.specs.declared.cert_version.CertVersion.{CertVersion}
+use Rattle.cert_values.specs.declared.cert_version.CertVersion.{CertVersion}
 use Rattle.word_image.proofs.Common.{full_set}
 use Rattle.cert_conditions.proofs.Common.{EachBelow, StepIsKept}
 use Rattle.cert_check.specs.Rows.{AreKept}

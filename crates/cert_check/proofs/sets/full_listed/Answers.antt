@@ -1,5 +1,5 @@
 use Rattle.std.proofs.Common.{ℕ, List, Contains, true≢false, eq-eqb, sym, ap, ◌∙◌, subst, subst₂, arith}
-use Rattle.cert_format.proofs.Common.{Certificate, surjective_of}
+use Rattle.cert_values.proofs.Common.{Certificate, surjective_of}
 use Rattle.cert_conditions.specs.declared.condition.Condition.TheVariants as condition
 use Rattle.cert_conditions.specs.declared.refusal.Refusal.TheVariants as refusal
 use Rattle.cert_conditions.proofs.Common.{IsBreach, NoFull}

@@ -1,7 +1,7 @@
 use Rattle.std.proofs.Common.{sym, ap, subst, ◌∙◌}
 use Rattle.word_image.proofs.Common.{LocalRule}
 use Rattle.tail_config.proofs.Common.{Different, ShareImage}
-use Rattle.cert_format.proofs.Common.{Certificate, side_of, IsOver}
+use Rattle.cert_values.proofs.Common.{Certificate, side_of, IsOver}
 use Rattle.cert_conditions.proofs.Common.{AgreeBehind, OfSplit, IsSplitBreach, NoSplit}
 use Rattle.cert_check.proofs.splits.side_split.Goals as goal
 

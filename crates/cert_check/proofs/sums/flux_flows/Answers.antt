@@ -1,6 +1,6 @@
 use Rattle.std.proofs.Common.{◌^◌, List, slice_index, ℤ, ap, subst}
 use Rattle.word_image.proofs.Common.{word_of}
-use Rattle.cert_format.proofs.Common.{Certificate, sum_of}
+use Rattle.cert_values.proofs.Common.{Certificate, sum_of}
 use Rattle.cert_conditions.specs.declared.condition.Condition.TheVariants.{FluxFlows}
 use Rattle.cert_conditions.specs.declared.refusal.Refusal.TheVariants as refusal
 use Rattle.cert_conditions.proofs.Common.{IsFirstBreach, Flows, IsBreach, NoFlux}

@@ -1,6 +1,6 @@
 use Rattle.std.proofs.Common.{◌≡◌, ℕ, List, length, sym, ap, subst, ◌∙◌, arith}
 use Rattle.word_image.proofs.Common.{Decides-eqb}
-use Rattle.cert_format.proofs.Common.{Certificate, Ring, sum_of}
+use Rattle.cert_values.proofs.Common.{Certificate, Ring, sum_of}
 use Rattle.cert_conditions.specs.declared.condition.Condition.TheVariants.{RingLossy}
 use Rattle.cert_conditions.specs.declared.refusal.Refusal.TheVariants as refusal
 use Rattle.cert_conditions.proofs.Common.{IsBreach, NoRing}

@@ -1,5 +1,5 @@
 use Rattle.std.proofs.Common.{ℕ, List, sym, ap, ap₂, subst, ◌∙◌}
-use Rattle.cert_format.proofs.Common.{Certificate, Twins, injective_of}
+use Rattle.cert_values.proofs.Common.{Certificate, Twins, injective_of}
 use Rattle.cert_conditions.specs.declared.condition.Condition.TheVariants.{TwinsAlike}
 use Rattle.cert_conditions.specs.declared.refusal.Refusal.TheVariants as refusal
 use Rattle.cert_conditions.proofs.Common.{IsBreach, NoTwins}

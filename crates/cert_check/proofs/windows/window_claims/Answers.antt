@@ -1,7 +1,7 @@
 use Rattle.std.proofs.Common.{ℕ, List, Option, sym, ap, subst, subst₂, ◌∙◌}
 use Rattle.word_image.proofs.Common.{pair_count}
-use Rattle.cert_format.proofs.Common.{Certificate, injective_of}
-use Rattle.cert_format.specs.declared.parts.InjectivePart.{InjectivePart}
+use Rattle.cert_values.proofs.Common.{Certificate, injective_of}
+use Rattle.cert_values.specs.declared.parts.InjectivePart.{InjectivePart}
 use Rattle.cert_conditions.specs.declared.condition.Condition.TheVariants.{WindowClaims}
 use Rattle.cert_conditions.specs.declared.refusal.Refusal.TheVariants as refusal
 use Rattle.cert_conditions.proofs.Common.{EachBelow, IsFirstBreach, IsWindowPair, Holds, OfWindow, IsBreach, NoWindow}

@@ -1,4 +1,4 @@
-use Rattle.cert_format.specs.declared.cert_version.CertVersion.TheVariants.{Two, Three}
+use Rattle.cert_values.specs.declared.cert_version.CertVersion.TheVariants.{Two, Three}
 use Rattle.cert_conditions.proofs.laws.Versions.{MeetsConditions-later}
 use Rattle.cert_conditions.proofs.theorems.later_versions_ask_no_more.Goals as goal
 

@@ -1,7 +1,7 @@
 use Rattle.std.proofs.Common.{◌≡◌, ◌∙◌, length}
 use Rattle.serde_json.specs.View.{view}
 use Rattle.word_image.proofs.Common.{handed_on}
-use Rattle.cert_format.proofs.laws.Uniqueness.{IsArrayOf-length}
+use Rattle.cert_values.proofs.laws.Uniqueness.{IsArrayOf-length}
 use Rattle.cert_format.proofs.items.array_of.Goals as goal
 
 pub returns-in_err-items-clause-none : goal.returns-in_err-items-clause-none

@@ -4,7 +4,7 @@ use Rattle.std.specs.Map.{keys_of as names_of}
 use Rattle.std.proofs.lemmas.Map.Iter.{iter_turn, iter_end}
 use Rattle.word_image.proofs.Common.{All-push, All-map}
 use Rattle.serde_json.specs.View.{view}
-use Rattle.cert_format.specs.CertificateTexts.{HasNoOther, keys_of}
+use Rattle.cert_values.specs.CertificateTexts.{HasNoOther, keys_of}
 use Rattle.cert_format.proofs.laws.Objects.{HasNoOther-entries, other_key, members_in-entries}
 use Rattle.cert_format.proofs.members.has_no_other.Goals as goal
 

@@ -1,5 +1,5 @@
 use Rattle.std.proofs.Common.{All, Contains, string_bytes}
-use Rattle.cert_format.specs.CertificateTexts.{keys_of}
+use Rattle.cert_values.specs.CertificateTexts.{keys_of}
 use Rattle.cert_format.proofs.members.has_no_other.Given as goal
 
 -- each name so far is a key of a certificate

@@ -1,7 +1,7 @@
 use Rattle.std.proofs.Common.{[], ◌∷◌, string_bytes, codes, if◌then◌else◌}
 use Rattle.word_image.proofs.Common.{Contains-append_left}
-use Rattle.cert_format.specs.Versions.{names_weights}
-use Rattle.cert_format.specs.CertificateTexts.{keys}
+use Rattle.cert_values.specs.Versions.{names_weights}
+use Rattle.cert_values.specs.CertificateTexts.{keys}
 use Rattle.cert_format.proofs.laws.Objects.{list_any-keys}
 use Rattle.cert_format.proofs.members.is_key.Goals as goal
 

@@ -1,4 +1,4 @@
-use Rattle.cert_format.proofs.laws.ShapeFaults.{every_cert, every_cert_fault}
+use Rattle.cert_format.proofs.laws.Answers.{every_cert, every_cert_fault}
 use Rattle.cert_format.proofs.reading.from_bytes.Goals as goal
 
 pub returns-clause-every_cert : goal.returns-clause-every_cert

@@ -2,7 +2,7 @@ use Rattle.serde_json.specs.View.{view}
 use Rattle.std.proofs.Common.{subst}
 use Rattle.rule_text.specs.RuleTexts.{IsTextFault}
 use Rattle.cert_format.specs.Readings.{members_in}
-use Rattle.cert_format.specs.ShapeFaults.IsShapeFault.{NoRule, BadRule}
+use Rattle.cert_values.specs.ShapeFaults.IsShapeFault.{NoRule, BadRule}
 use Rattle.cert_format.proofs.reading.read_head.Goals as goal
 
 pub returns-in_default-clause-fault : goal.returns-in_default-clause-fault

@@ -1,11 +1,11 @@
 use Rattle.std.proofs.Common.{◌≡◌, ◌∙◌, refl, sym, [], ◌∷◌, true, true≢false, inr, rules}
 use Rattle.serde_json.specs.View.{view}
 use Rattle.word_image.proofs.Common.{handed_on}
-use Rattle.cert_format.specs.declared.shape_fault.Key.TheVariants as key
-use Rattle.cert_format.specs.Parts.{IsWeightShape}
-use Rattle.cert_format.specs.CertificateTexts.{HasNoOther}
+use Rattle.cert_values.specs.declared.shape_fault.Key.TheVariants as key
+use Rattle.cert_values.specs.Parts.{IsWeightShape}
+use Rattle.cert_values.specs.CertificateTexts.{HasNoOther}
 use Rattle.cert_format.specs.Readings.{members_in}
-use Rattle.cert_format.proofs.laws.WeightMembers.{IsWeightShape-has}
+use Rattle.cert_values.proofs.laws.WeightMembers.{IsWeightShape-has}
 use Rattle.cert_format.proofs.laws.Steps.{IsPartFault-step}
 use Rattle.cert_format.proofs.reading.read_parts.Goals as goal
 

@@ -1,6 +1,6 @@
 use Rattle.serde_json.specs.View.{view}
 use Rattle.cert_format.specs.Readings.{members_in}
-use Rattle.cert_format.specs.ShapeFaults.IsShapeFault.{NoVersion, OtherVersion}
+use Rattle.cert_values.specs.ShapeFaults.IsShapeFault.{NoVersion, OtherVersion}
 use Rattle.cert_format.proofs.reading.read_version.Goals as goal
 
 pub returns-in_default-clause-fault : goal.returns-in_default-clause-fault

@@ -1,7 +1,7 @@
 use Rattle.serde_json.specs.View.{view}
-use Rattle.cert_format.specs.declared.shape_fault.Key.TheVariants as key
+use Rattle.cert_values.specs.declared.shape_fault.Key.TheVariants as key
 use Rattle.cert_format.specs.Readings.{members_in}
-use Rattle.cert_format.specs.CertificateTexts.{HasRanks}
+use Rattle.cert_values.specs.CertificateTexts.{HasRanks}
 use Rattle.std.proofs.Common.{ℕ, List, Option, sym}
 use Rattle.cert_format.proofs.laws.Steps.{IsStepFault-at, no_ranks}
 use Rattle.cert_format.proofs.steps.ranks_step.Goals as goal

@@ -1,10 +1,10 @@
 use Rattle.std.proofs.Common.{◌≡◌, ℕ, List, true, sym, ap, ◌∙◌}
 use Rattle.word_image.proofs.Common.{false≢true, own_weights}
 use Rattle.serde_json.specs.View.{view}
-use Rattle.cert_format.specs.Versions.{names_weights}
-use Rattle.cert_format.specs.declared.shape_fault.Key.TheVariants as key
-use Rattle.cert_format.specs.CertificateTexts.{HasWeights}
-use Rattle.cert_format.specs.CertificateTexts.HasWeights.{Named, Own}
+use Rattle.cert_values.specs.Versions.{names_weights}
+use Rattle.cert_values.specs.declared.shape_fault.Key.TheVariants as key
+use Rattle.cert_values.specs.CertificateTexts.{HasWeights}
+use Rattle.cert_values.specs.CertificateTexts.HasWeights.{Named, Own}
 use Rattle.cert_format.specs.Readings.{members_in}
 use Rattle.cert_format.proofs.laws.Steps.{IsStepFault-at, no_weights}
 use Rattle.cert_format.proofs.steps.weights_step.Goals as goal

@@ -1,5 +1,5 @@
 use Rattle.serde_json.specs.View.{view}
-use Rattle.cert_format.specs.CertificateTexts.{IsTailString}
+use Rattle.cert_values.specs.CertificateTexts.{IsTailString}
 use Rattle.cert_format.proofs.laws.Arrays.{IsArrayOf-pair}
 use Rattle.cert_format.proofs.words.tails.Goals as goal
 

@@ -1,6 +1,6 @@
 use Rattle.serde_json.specs.View.{view}
 use Rattle.word_image.proofs.Common.{handed_on}
-use Rattle.cert_format.specs.CertificateTexts.{IsDigits}
+use Rattle.cert_values.specs.CertificateTexts.{IsDigits}
 use Rattle.cert_format.proofs.laws.Arrays.{IsArrayOf-pair, IsArrayOf-items}
 use Rattle.cert_format.proofs.words.words.Goals as goal
 

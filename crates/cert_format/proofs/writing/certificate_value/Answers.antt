@@ -1,9 +1,9 @@
 use Rattle.std.proofs.Common.{◌≡◌, ℕ, List, length, map, codes, true≢false, sym, ap, ap₂, subst, ◌∙◌}
 use Rattle.serde_json.specs.Data.{Data, object, Members, put}
 use Rattle.word_image.proofs.Common.{own_weights}
-use Rattle.cert_format.specs.Parts.{IsShaped}
-use Rattle.cert_format.specs.WrittenTexts.{array_from, whole_value, members_before}
-use Rattle.cert_format.proofs.laws.WeightMembers.{weights_members-own, weights_members-other}
+use Rattle.cert_values.specs.Parts.{IsShaped}
+use Rattle.cert_values.specs.WrittenTexts.{array_from, whole_value, members_before}
+use Rattle.cert_values.proofs.laws.WeightMembers.{weights_members-own, weights_members-other}
 use Rattle.cert_format.proofs.writing.certificate_value.Goals as goal
 
 -- the value of a certificate without own weights

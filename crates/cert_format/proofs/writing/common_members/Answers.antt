@@ -2,10 +2,10 @@ use Rattle.std.proofs.Common.{◌≡◌, ap, ◌∙◌, codes, rules}
 use Rattle.serde_json.specs.Data.{string, no_members}
 use Rattle.serde_json.specs.View.{members_view}
 use Rattle.rule_text.specs.PrintedRules.{printed_rule}
-use Rattle.cert_format.specs.Versions.{number_of}
-use Rattle.cert_format.specs.Parts.{side_of}
-use Rattle.cert_format.specs.WrittenTexts.{whole_value, side_value}
-use Rattle.cert_format.proofs.laws.Objects.{put_same}
+use Rattle.cert_values.specs.Versions.{number_of}
+use Rattle.cert_values.specs.Parts.{side_of}
+use Rattle.cert_values.specs.WrittenTexts.{whole_value, side_value}
+use Rattle.cert_values.proofs.laws.Members.{put_same}
 use Rattle.cert_format.proofs.writing.common_members.Goals as goal
 
 -- the members come in the order of their keys, each after the last

@@ -3,7 +3,7 @@ use Rattle.std.proofs.lemmas.Iterator.{YieldsList-from_slice, YieldsList-from_ma
 use Rattle.std.proofs.lemmas.Iterator.Consumers.{map_from_collect}
 use Rattle.word_image.proofs.Common.{IfOk-at_ok}
 use Rattle.serde_json.specs.View.{view}
-use Rattle.cert_format.specs.WrittenTexts.{whole_value, array_from}
+use Rattle.cert_values.specs.WrittenTexts.{whole_value, array_from}
 use Rattle.cert_format.proofs.writing.sets_value.Goals as goal
 
 pub returns : goal.returns

@@ -1,4 +1,4 @@
-use Rattle.cert_format.proofs.laws.Uniqueness.{IsCertificateText-unique}
+use Rattle.cert_values.proofs.laws.Uniqueness.{IsCertificateText-unique}
 use Rattle.cert_format.proofs.writing.text_has_one_certificate.Goals as goal
 
 pub returns : goal.returns

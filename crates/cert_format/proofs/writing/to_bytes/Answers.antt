@@ -3,7 +3,7 @@ use Rattle.word_image.proofs.Common.{IfOk-weaker}
 use Rattle.serde_json.specs.View.{view}
 use Rattle.serde_json.specs.Written.{compact_text}
 use Rattle.cert_format.proofs.laws.PlainValues.{IsPlain, IsPlain-certificate}
-use Rattle.cert_format.proofs.laws.Written.{IsCertificateText-written}
+use Rattle.cert_values.proofs.laws.Written.{IsCertificateText-written}
 use Rattle.cert_format.proofs.writing.to_bytes.Goals as goal
 
 -- two facts of the value there is give a third

@@ -1,6 +1,6 @@
 use Rattle.std.proofs.Common.{◌≡◌, ℕ, ◌+◌, ◌^◌, ◌<◌, List, length, reverse, slice_index, set, refl, sym, ap, ◌∙◌, subst, ⊎_elim, arith, get_or-set_other}
 use Rattle.word_image.proofs.Common.{cases_eq, get_or-set_at, LocalRule, IsRule, value}
-use Rattle.rule_verdicts.specs.Truths.{table_rule}
+use Rattle.rule_text.specs.RuleTexts.{rule_of_table}
 use Rattle.rule_verdicts.specs.Numbers.{numbered_rule, IsVerdictByte}
 use Rattle.rule_verdicts.proofs.laws.Tables.{numbered_rule-table}
 use Rattle.rule_verdicts.proofs.numbers.write_bytes.Goals as goal
@@ -32,8 +32,8 @@ loop-byte-preserved c =
     let i = c.loop-byte.byte-index in
     let here : first + i < k ^ length c.args.table.now = omega (arith, c.requires.room, c.loop-byte-test.true) in
     let number : value k (reverse table) ≡ first + i = c.loop-byte.invariant.number here in
-    let rule : IsRule (table_rule k m table) = record { shape = c.requires.rule.shape; entries = c.loop-byte.invariant.long ∙ c.requires.rule.entries; letters = c.loop-byte.invariant.word } in
-    let same : table_rule k m table ≡ numbered_rule k m (first + i) = sym (ap (numbered_rule k m) (sym number) ∙ numbered_rule-table k m table rule) in
+    let rule : IsRule (rule_of_table k m table) = record { shape = c.requires.rule.shape; entries = c.loop-byte.invariant.long ∙ c.requires.rule.entries; letters = c.loop-byte.invariant.word } in
+    let same : rule_of_table k m table ≡ numbered_rule k m (first + i) = sym (ap (numbered_rule k m) (sym number) ∙ numbered_rule-table k m table rule) in
     let power : k ^ length table ≡ k ^ length c.args.table.now = ap (λ n. k ^ n) c.loop-byte.invariant.long in
     record {
       word = c.next_table-total.ensures.word;

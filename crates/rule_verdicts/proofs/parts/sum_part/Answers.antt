@@ -1,6 +1,6 @@
 use Rattle.std.proofs.Common.{ℕ, zero, suc, ◌<◌, List, [], ◌∷◌, take, slice_index, ◌≡◌, refl, sym, subst, arith, pos, Some, slice_get}
 use Rattle.word_image.proofs.Common.{false≢true, node_count, node_count_pos}
-use Rattle.cert_format.proofs.Common.{Flux, Ring}
+use Rattle.cert_values.proofs.Common.{Flux, Ring}
 use Rattle.certificate_laws.specs.LeastEvidence.{IsConservingPart}
 use Rattle.rule_verdicts.proofs.parts.sum_part.Goals as goal
 

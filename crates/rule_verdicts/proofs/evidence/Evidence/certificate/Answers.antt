@@ -1,6 +1,6 @@
 use Rattle.std.proofs.Common.{refl, subst}
 use Rattle.word_image.specs.declared.side.Side.TheVariants.{Right, Left}
-use Rattle.cert_format.proofs.Common.{Certificate, surjective_of, injective_of, side_of, sum_of}
+use Rattle.cert_values.proofs.Common.{Certificate, surjective_of, injective_of, side_of, sum_of}
 use Rattle.word_image.proofs.Common.{LocalRule}
 use Rattle.certificate_laws.specs.LeastEvidence.{IsOrphanPart}
 use Rattle.certificate_laws.specs.WrittenCertificates.{orphan_of, HasWrittenParts, IsListPart}
@@ -13,19 +13,19 @@ use Rattle.rule_verdicts.proofs.evidence.Evidence.certificate.Goals as goal
 abbrev made : goal.In_ok-surjective_part → Certificate
 made c = record {
   version = c.args.version;
-  rule = c.self.inside.rule;
+  rule = c.self.inside.report.rule;
   surjective = surjective_of c.in_ok-surjective_part.field-0;
-  injective = injective_of c.self.inside.injective;
-  right = side_of c.self.inside.right;
-  left = side_of c.self.inside.left;
-  conserving = sum_of c.self.inside.conserving;
-  weights = c.self.inside.weights;
+  injective = injective_of c.self.inside.report.injective;
+  right = side_of c.self.inside.report.right;
+  left = side_of c.self.inside.report.left;
+  conserving = sum_of c.self.inside.report.conserving;
+  weights = c.self.inside.report.weights;
   forward = c.in_ok-forward.forward;
   backward = c.in_ok-backward.backward;
 }
 
 -- the certificate that is made has the parts that are written for the rule
-HasWrittenParts-made : (c : goal.In_ok-surjective_part) → HasWrittenParts c.args.version c.self.inside.rule c.self.inside.weights (made c)
+HasWrittenParts-made : (c : goal.In_ok-surjective_part) → HasWrittenParts c.args.version c.self.inside.report.rule c.self.inside.report.weights (made c)
 HasWrittenParts-made c =
     let part = surjective_of c.in_ok-surjective_part.field-0 in
     let same = c.self.invariant.1 in

@@ -1,6 +1,6 @@
 use Rattle.std.proofs.Common.{◌≡◌, ◌≤◌, List, ℕ, All, slice_index, rules, refl, ◌∙◌, subst, Option}
 use Rattle.word_image.proofs.Common.{LocalRule}
-use Rattle.cert_format.proofs.Common.{InjectiveEvidence, SideEvidence, SumEvidence}
+use Rattle.cert_values.proofs.Common.{InjectiveEvidence, SideEvidence, SumEvidence}
 use Rattle.closing_test.specs.Closing.{IsRightAnswer, IsLeftAnswer}
 use Rattle.certificate_laws.specs.LeastEvidence.{IsOrphanPart, IsInjectivePart, IsRightPart, IsLeftPart, IsConservingPart, IsLeastEvidence}
 use Rattle.rule_verdicts.proofs.evidence.Evidence.of.Goals as goal

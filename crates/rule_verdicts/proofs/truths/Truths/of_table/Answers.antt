@@ -2,13 +2,13 @@ use Rattle.std.proofs.Common.{sym, ◌∙◌}
 use Rattle.word_image.proofs.Common.{false≢true}
 use Rattle.ring_laws.proofs.SameWeights.{IsConserving-own}
 use Rattle.table_laws.proofs.MeanTables.{HasMean-conserving}
-use Rattle.rule_verdicts.specs.Truths.{table_rule}
+use Rattle.rule_text.specs.RuleTexts.{rule_of_table}
 use Rattle.rule_verdicts.proofs.laws.Means.{HasMean-surjective}
 use Rattle.rule_verdicts.proofs.truths.Truths.of_table.Goals as goal
 
 pub returns-then-not-has_mean : goal.returns-then-not-has_mean
 returns-then-not-has_mean c =
-    let r = table_rule c.args.k c.args.m c.args.table.now in
+    let r = rule_of_table c.args.k c.args.m c.args.table.now in
     c.not_surjective.ensures r c.requires
     (λ every. false≢true (sym c.if-not-has_mean.true ∙ c.has_mean.ensures.mean.1 (HasMean-surjective c.requires every))) (
       (λ no. absurd (false≢true no)),

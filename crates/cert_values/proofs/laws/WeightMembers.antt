@@ -4,12 +4,12 @@ use Rattle.std.proofs.lemmas.Slice.Eq.{bytes_eq-Decides}
 use Rattle.word_image.proofs.Common.{false≢true, LocalRule, IsRule, AreWeights, own_weights}
 use Rattle.serde_json.specs.Data.{Members, no_members, member}
 use Rattle.word_image.proofs.laws.Weights.{AreWeights-own}
-use Rattle.cert_format.specs.declared.cert_version.CertVersion.{CertVersion}
-use Rattle.cert_format.specs.Versions.{names_weights}
-use Rattle.cert_format.specs.Parts.{IsWeightShape}
-use Rattle.cert_format.specs.CertificateTexts.{HasWeights}
-use Rattle.cert_format.specs.CertificateTexts.HasWeights.{Named, Own}
-use Rattle.cert_format.specs.WrittenTexts.{array_from, whole_value, weights_members}
+use Rattle.cert_values.specs.declared.cert_version.CertVersion.{CertVersion}
+use Rattle.cert_values.specs.Versions.{names_weights}
+use Rattle.cert_values.specs.Parts.{IsWeightShape}
+use Rattle.cert_values.specs.CertificateTexts.{HasWeights}
+use Rattle.cert_values.specs.CertificateTexts.HasWeights.{Named, Own}
+use Rattle.cert_values.specs.WrittenTexts.{array_from, whole_value, weights_members}
 
 -- weights that are read are within their limits
 pub IsWeightShape-has : {version : CertVersion} {r : LocalRule} {ms : Members} {weights : List ℕ} → IsRule r → HasWeights version r ms weights → IsWeightShape version r weights

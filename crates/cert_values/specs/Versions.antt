@@ -1,7 +1,7 @@
 -- What the versions of a certificate differ in.
 use Rattle.std.specs.Prelude.{ℕ, Bool, true, false}
-use Rattle.cert_format.specs.declared.cert_version.CertVersion.{CertVersion}
-use Rattle.cert_format.specs.declared.cert_version.CertVersion.TheVariants.{One, Two, Three}
+use Rattle.cert_values.specs.declared.cert_version.CertVersion.{CertVersion}
+use Rattle.cert_values.specs.declared.cert_version.CertVersion.TheVariants.{One, Two, Three}
 
 -- the number of a version
 abbrev pub number_of : CertVersion → ℕ

@@ -6,20 +6,17 @@ use Rattle.serde_json.specs.Data.{Data, object, Members}
 use Rattle.serde_json.specs.Find.{as_object}
 use Rattle.rule_text.specs.RuleTexts.{IsRuleText, IsTextFault}
 use Rattle.rule_text.proofs.laws.Texts.{IsRuleText-unique, IsTextFault-unique, IsRuleText-no_fault}
-use Rattle.cert_format.specs.declared.shape_fault.Key.{Key}
-use Rattle.cert_format.specs.declared.shape_fault.Key.TheVariants as key
-use Rattle.cert_format.specs.declared.shape_fault.ShapeFault.{ShapeFault}
-use Rattle.cert_format.specs.declared.shape_fault.ShapeFault.TheVariants as shape
-use Rattle.cert_format.specs.declared.shape_fault.CertFault.{CertFault}
-use Rattle.cert_format.specs.declared.shape_fault.CertFault.TheVariants as fault
-use Rattle.cert_format.specs.declared.cert_version.CertVersion.{CertVersion}
-use Rattle.cert_format.specs.Certificates.{Certificate}
-use Rattle.cert_format.specs.Versions.{number_of}
-use Rattle.cert_format.specs.CertificateTexts.{IsCertificateText, AreParts, IsJson, IsObject, HasVersion, HasRuleText, IsWhole}
-use Rattle.cert_format.specs.ShapeFaults.{IsShapeFault, IsFirstWithout, Passes, part_steps}
-use Rattle.cert_format.specs.Readings.{IsCertFault}
-use Rattle.cert_format.specs.ShapeFaults.IsShapeFault.{NoJson, NoObject, NoVersion, OtherVersion, NoRule, BadRule, BadPart}
-use Rattle.cert_format.proofs.laws.Uniqueness.{one_some, number_of-injective, IsWhole-unique, HasMember-unique, IsObject-unique, HasRuleText-unique, IsCertificateText-unique}
+use Rattle.cert_values.specs.declared.shape_fault.Key.{Key}
+use Rattle.cert_values.specs.declared.shape_fault.Key.TheVariants as key
+use Rattle.cert_values.specs.declared.shape_fault.ShapeFault.{ShapeFault}
+use Rattle.cert_values.specs.declared.shape_fault.ShapeFault.TheVariants as shape
+use Rattle.cert_values.specs.declared.cert_version.CertVersion.{CertVersion}
+use Rattle.cert_values.specs.Certificates.{Certificate}
+use Rattle.cert_values.specs.Versions.{number_of}
+use Rattle.cert_values.specs.CertificateTexts.{IsCertificateText, AreParts, IsJson, IsObject, HasVersion, HasRuleText, IsWhole}
+use Rattle.cert_values.specs.ShapeFaults.{IsShapeFault, IsFirstWithout, Passes, part_steps}
+use Rattle.cert_values.specs.ShapeFaults.IsShapeFault.{NoJson, NoObject, NoVersion, OtherVersion, NoRule, BadRule, BadPart}
+use Rattle.cert_values.proofs.laws.Uniqueness.{one_some, number_of-injective, IsWhole-unique, HasMember-unique, IsObject-unique, HasRuleText-unique, IsCertificateText-unique}
 
 -- the steps after the rule pass where the members say each part
 passes_all : {ms : Members} {c : Certificate} → AreParts ms c → (k : Key) → Passes c.version c.rule ms k
@@ -152,17 +149,3 @@ same_stage _ _ same = absurd (omega (arith, same))
 -- bytes have one first fault
 pub IsShapeFault-unique : {bytes : List ℕ} {f g : ShapeFault} → IsShapeFault bytes f → IsShapeFault bytes g → f ≡ g
 IsShapeFault-unique a b = same_stage a b (omega (arith, not_before a b, not_before b a))
-
--- a certificate is the only answer to its text, where there is memory
-pub every_cert : (bytes : List ℕ) (answer : Result Certificate CertFault) → IfOk answer (IsCertificateText bytes) → IfErr answer (IsCertFault bytes) → (c : Certificate) → IsCertificateText bytes c
-    → (answer ≡ Ok c) ⊎ (answer ≡ Err (fault.Memory alloc_error))
-every_cert bytes (Ok d) cert wrong c text = inl (ap Ok (IsCertificateText-unique cert text))
-every_cert bytes (Err f) cert (inl memory) c text = inr (ap Err memory)
-every_cert bytes (Err f) cert (inr wrong) c text = absurd (IsCertificateText-no_fault text wrong.2)
-
--- a first fault is the only answer to its text, where there is memory
-pub every_cert_fault : (bytes : List ℕ) (answer : Result Certificate CertFault) → IfOk answer (IsCertificateText bytes) → IfErr answer (IsCertFault bytes) → (s : ShapeFault) → IsShapeFault bytes s
-    → (answer ≡ Err (fault.Format s)) ⊎ (answer ≡ Err (fault.Memory alloc_error))
-every_cert_fault bytes (Ok c) cert wrong s first = absurd (IsCertificateText-no_fault cert first)
-every_cert_fault bytes (Err f) cert (inl memory) s first = inr (ap Err memory)
-every_cert_fault bytes (Err f) cert (inr wrong) s first = inl (ap Err (wrong.1 ∙ ap fault.Format (IsShapeFault-unique wrong.2 first)))

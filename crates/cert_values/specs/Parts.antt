@@ -1,20 +1,20 @@
 -- What the parts of a certificate are seen as, and all their limits.
 use Rattle.std.specs.Prelude.{◌≡◌, ℕ, ⊤, List, false}
 use Rattle.word_image.specs.LocalRules.{IsRule, LocalRule}
-use Rattle.cert_format.specs.declared.parts.SurjectivePart.{SurjectivePart}
-use Rattle.cert_format.specs.declared.parts.SurjectivePart.TheVariants.{Sets, Pairs, Orphan}
-use Rattle.cert_format.specs.declared.parts.InjectivePart.{InjectivePart}
-use Rattle.cert_format.specs.declared.parts.InjectivePart.TheVariants.{Window, Twins}
-use Rattle.cert_format.specs.declared.parts.SidePart.{SidePart}
-use Rattle.cert_format.specs.declared.parts.SidePart.TheVariants.{Ahead, Split}
-use Rattle.cert_format.specs.declared.parts.SumPart.{SumPart}
-use Rattle.cert_format.specs.declared.parts.SumPart.TheVariants.{Flux, Ring}
-use Rattle.cert_format.specs.declared.cert.Cert.TheInside.{Inside}
-use Rattle.cert_format.specs.Evidence.{SurjectiveEvidence, InjectiveEvidence, SideEvidence, SumEvidence}
-use Rattle.cert_format.specs.Certificates.{Certificate, IsSurjectiveShape, IsInjectiveShape, IsSideShape, IsSumShape, IsRankShape}
+use Rattle.cert_values.specs.declared.parts.SurjectivePart.{SurjectivePart}
+use Rattle.cert_values.specs.declared.parts.SurjectivePart.TheVariants.{Sets, Pairs, Orphan}
+use Rattle.cert_values.specs.declared.parts.InjectivePart.{InjectivePart}
+use Rattle.cert_values.specs.declared.parts.InjectivePart.TheVariants.{Window, Twins}
+use Rattle.cert_values.specs.declared.parts.SidePart.{SidePart}
+use Rattle.cert_values.specs.declared.parts.SidePart.TheVariants.{Ahead, Split}
+use Rattle.cert_values.specs.declared.parts.SumPart.{SumPart}
+use Rattle.cert_values.specs.declared.parts.SumPart.TheVariants.{Flux, Ring}
+use Rattle.cert_values.specs.declared.cert.Cert.TheInside.{Inside}
+use Rattle.cert_values.specs.Evidence.{SurjectiveEvidence, InjectiveEvidence, SideEvidence, SumEvidence}
+use Rattle.cert_values.specs.Certificates.{Certificate, IsSurjectiveShape, IsInjectiveShape, IsSideShape, IsSumShape, IsRankShape}
 use Rattle.word_image.specs.Weights.{AreWeights, own_weights}
-use Rattle.cert_format.specs.declared.cert_version.CertVersion.{CertVersion}
-use Rattle.cert_format.specs.Versions.{names_weights}
+use Rattle.cert_values.specs.declared.cert_version.CertVersion.{CertVersion}
+use Rattle.cert_values.specs.Versions.{names_weights}
 
 -- the evidence of a part
 abbrev pub surjective_of : SurjectivePart → SurjectiveEvidence

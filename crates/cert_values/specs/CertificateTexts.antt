@@ -9,10 +9,10 @@ use Rattle.word_image.specs.Weights.{AreWeights, own_weights}
 use Rattle.tail_config.specs.Tails.{TailConfig}
 use Rattle.tail_config.specs.TailTexts.{Spells, HasParts}
 use Rattle.rule_text.specs.RuleTexts.{IsRuleText}
-use Rattle.cert_format.specs.declared.cert_version.CertVersion.{CertVersion}
-use Rattle.cert_format.specs.Versions.{number_of, names_weights}
-use Rattle.cert_format.specs.Evidence.{SurjectiveEvidence, InjectiveEvidence, SideEvidence, SumEvidence, Sets, Pairs, Orphan, Window, Twins, Ahead, Split, Flux, Ring}
-use Rattle.cert_format.specs.Certificates.{Certificate, IsSurjectiveShape, IsInjectiveShape, IsSideShape, IsSumShape, IsRankShape}
+use Rattle.cert_values.specs.declared.cert_version.CertVersion.{CertVersion}
+use Rattle.cert_values.specs.Versions.{number_of, names_weights}
+use Rattle.cert_values.specs.Evidence.{SurjectiveEvidence, InjectiveEvidence, SideEvidence, SumEvidence, Sets, Pairs, Orphan, Window, Twins, Ahead, Split, Flux, Ring}
+use Rattle.cert_values.specs.Certificates.{Certificate, IsSurjectiveShape, IsInjectiveShape, IsSideShape, IsSumShape, IsRankShape}
 
 -- The JSON value of each part
 

@@ -5,14 +5,14 @@ use Rattle.serde_json.specs.Find.{as_object}
 use Rattle.word_image.specs.LocalRules.{LocalRule}
 use Rattle.rule_text.specs.RuleTexts.{IsRuleText, IsTextFault}
 use Rattle.rule_text.specs.declared.text_fault.TextFault.{TextFault}
-use Rattle.cert_format.specs.declared.cert_version.CertVersion.{CertVersion}
-use Rattle.cert_format.specs.declared.shape_fault.Key.{Key}
-use Rattle.cert_format.specs.declared.shape_fault.Key.TheVariants as key
-use Rattle.cert_format.specs.declared.shape_fault.ShapeFault.{ShapeFault}
-use Rattle.cert_format.specs.declared.shape_fault.ShapeFault.TheVariants as fault
-use Rattle.cert_format.specs.Evidence.{SurjectiveEvidence, InjectiveEvidence, SideEvidence, SumEvidence}
-use Rattle.cert_format.specs.Versions.{number_of}
-use Rattle.cert_format.specs.CertificateTexts.{IsJson, IsObject, HasVersion, HasRuleText, HasSurjective, HasInjective, HasSide, HasConserving, HasWeights, HasRanks, HasNoOther}
+use Rattle.cert_values.specs.declared.cert_version.CertVersion.{CertVersion}
+use Rattle.cert_values.specs.declared.shape_fault.Key.{Key}
+use Rattle.cert_values.specs.declared.shape_fault.Key.TheVariants as key
+use Rattle.cert_values.specs.declared.shape_fault.ShapeFault.{ShapeFault}
+use Rattle.cert_values.specs.declared.shape_fault.ShapeFault.TheVariants as fault
+use Rattle.cert_values.specs.Evidence.{SurjectiveEvidence, InjectiveEvidence, SideEvidence, SumEvidence}
+use Rattle.cert_values.specs.Versions.{number_of}
+use Rattle.cert_values.specs.CertificateTexts.{IsJson, IsObject, HasVersion, HasRuleText, HasSurjective, HasInjective, HasSide, HasConserving, HasWeights, HasRanks, HasNoOther}
 
 -- what the step of a key asks of the members, for the steps after the rule
 abbrev pub Passes : CertVersion → LocalRule → Members → Key → Type 0

@@ -10,9 +10,9 @@ use Rattle.word_image.specs.Digits.{lower_digit}
 use Rattle.tail_config.specs.Tails.{TailConfig}
 use Rattle.tail_config.specs.TailTexts as tail
 use Rattle.rule_text.specs.PrintedRules.{printed_rule}
-use Rattle.cert_format.specs.Evidence.{SurjectiveEvidence, InjectiveEvidence, SideEvidence, SumEvidence, Sets, Pairs, Orphan, Window, Twins, Ahead, Split, Flux, Ring}
-use Rattle.cert_format.specs.Certificates.{Certificate}
-use Rattle.cert_format.specs.Versions.{number_of}
+use Rattle.cert_values.specs.Evidence.{SurjectiveEvidence, InjectiveEvidence, SideEvidence, SumEvidence, Sets, Pairs, Orphan, Window, Twins, Ahead, Split, Flux, Ring}
+use Rattle.cert_values.specs.Certificates.{Certificate}
+use Rattle.cert_values.specs.Versions.{number_of}
 
 -- values as an array
 abbrev pub array_from : List Data → Data

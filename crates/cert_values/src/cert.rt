@@ -31,11 +31,11 @@ pub struct Cert {
 }
 
 impl Model for Cert {
-    ghost use Rattle.cert_format.specs.Certificates.{Certificate};
+    ghost use Rattle.cert_values.specs.Certificates.{Certificate};
 
     ghost Value = { Certificate };
 
-    ghost use Rattle.cert_format.specs.Parts.{certificate_of, IsOver, IsShaped};
+    ghost use Rattle.cert_values.specs.Parts.{certificate_of, IsOver, IsShaped};
 
     ghost view = { certificate_of };
 

@@ -3,9 +3,9 @@ use Rattle.std.specs.Prelude.{◌≡◌, ℕ, ◌+◌, ◌-◌, ◌^◌, ◌<◌
 use Rattle.word_image.specs.LocalRules.{LocalRule, IsWord, node_count}
 use Rattle.word_image.specs.Graphs.{pair_count}
 use Rattle.tail_config.specs.TailTexts.{IsShortTail}
-use Rattle.cert_format.specs.declared.cert_version.CertVersion.{CertVersion}
-use Rattle.cert_format.specs.Versions.{lists_pairs}
-use Rattle.cert_format.specs.Evidence.{SurjectiveEvidence, InjectiveEvidence, SideEvidence, SumEvidence, Sets, Pairs, Orphan, Window, Twins, Ahead, Split, Flux, Ring}
+use Rattle.cert_values.specs.declared.cert_version.CertVersion.{CertVersion}
+use Rattle.cert_values.specs.Versions.{lists_pairs}
+use Rattle.cert_values.specs.Evidence.{SurjectiveEvidence, InjectiveEvidence, SideEvidence, SumEvidence, Sets, Pairs, Orphan, Window, Twins, Ahead, Split, Flux, Ring}
 
 -- the weights are a number for each letter, and the claims a bound of the rank of each pair, or None where nothing is claimed
 pub record Certificate : Type 0 where

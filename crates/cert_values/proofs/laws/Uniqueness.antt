@@ -7,17 +7,17 @@ use Rattle.serde_json.specs.Events.{members_len}
 use Rattle.rule_text.specs.RuleTexts.{IsRuleText}
 use Rattle.rule_text.proofs.laws.Texts.{IsRuleText-unique}
 use Rattle.tail_config.proofs.Common.{TailConfig, HasParts, HasParts-unique}
-use Rattle.cert_format.specs.declared.cert_version.CertVersion.{CertVersion}
-use Rattle.cert_format.specs.declared.cert_version.CertVersion.TheVariants.{One, Two, Three}
-use Rattle.cert_format.specs.Versions.{number_of}
-use Rattle.cert_format.specs.Evidence.{SurjectiveEvidence, InjectiveEvidence, SideEvidence, SumEvidence}
-use Rattle.cert_format.specs.Certificates.{Certificate}
-use Rattle.cert_format.specs.Evidence.SurjectiveEvidence.{Sets, Pairs, Orphan}
-use Rattle.cert_format.specs.Evidence.InjectiveEvidence.{Window, Twins}
-use Rattle.cert_format.specs.Evidence.SideEvidence.{Ahead, Split}
-use Rattle.cert_format.specs.Evidence.SumEvidence.{Flux, Ring}
-use Rattle.cert_format.specs.CertificateTexts.{IsCertificateText, IsObject, IsWhole, IsSigned, IsDigits, IsTailString, IsClaimValue, IsArrayOf, IsSurjectiveValue, IsInjectiveValue, IsSideValue, IsSumValue, IsRanksValue, HasOnly, HasOnlyBoth, HasMember, HasRuleText, HasWeights, list_of}
-use Rattle.cert_format.specs.CertificateTexts.HasWeights.{Named, Own}
+use Rattle.cert_values.specs.declared.cert_version.CertVersion.{CertVersion}
+use Rattle.cert_values.specs.declared.cert_version.CertVersion.TheVariants.{One, Two, Three}
+use Rattle.cert_values.specs.Versions.{number_of}
+use Rattle.cert_values.specs.Evidence.{SurjectiveEvidence, InjectiveEvidence, SideEvidence, SumEvidence}
+use Rattle.cert_values.specs.Certificates.{Certificate}
+use Rattle.cert_values.specs.Evidence.SurjectiveEvidence.{Sets, Pairs, Orphan}
+use Rattle.cert_values.specs.Evidence.InjectiveEvidence.{Window, Twins}
+use Rattle.cert_values.specs.Evidence.SideEvidence.{Ahead, Split}
+use Rattle.cert_values.specs.Evidence.SumEvidence.{Flux, Ring}
+use Rattle.cert_values.specs.CertificateTexts.{IsCertificateText, IsObject, IsWhole, IsSigned, IsDigits, IsTailString, IsClaimValue, IsArrayOf, IsSurjectiveValue, IsInjectiveValue, IsSideValue, IsSumValue, IsRanksValue, HasOnly, HasOnlyBoth, HasMember, HasRuleText, HasWeights, list_of}
+use Rattle.cert_values.specs.CertificateTexts.HasWeights.{Named, Own}
 
 -- an option holds one value
 pub one_some : {A : Type 0} {o : Option A} {x y : A} → o ≡ Some x → o ≡ Some y → x ≡ y

@@ -8,21 +8,21 @@ use Rattle.tail_config.proofs.Common.{TailConfig, IsShortTail, Spells-word_text}
 use Rattle.tail_config.specs.TailTexts as tail
 use Rattle.rule_text.specs.PrintedRules.{printed_rule}
 use Rattle.rule_text.proofs.laws.Printed.{IsRuleText-printed_rule}
-use Rattle.cert_format.specs.declared.cert_version.CertVersion.{CertVersion}
-use Rattle.cert_format.specs.declared.cert_version.CertVersion.TheVariants.{One}
-use Rattle.cert_format.specs.Versions.{number_of, names_weights}
-use Rattle.cert_format.specs.Evidence.{SurjectiveEvidence, InjectiveEvidence, SideEvidence, SumEvidence}
-use Rattle.cert_format.specs.Certificates.{Certificate, IsNear, IsClaim, IsSurjectiveShape, IsInjectiveShape, IsSideShape, IsSumShape, IsRankShape}
-use Rattle.cert_format.specs.Parts.{IsShaped, IsWeightShape}
-use Rattle.cert_format.specs.Evidence.SurjectiveEvidence.{Sets, Pairs, Orphan}
-use Rattle.cert_format.specs.Evidence.InjectiveEvidence.{Window, Twins}
-use Rattle.cert_format.specs.Evidence.SideEvidence.{Ahead, Split}
-use Rattle.cert_format.specs.Evidence.SumEvidence.{Flux, Ring}
-use Rattle.cert_format.specs.CertificateTexts.HasWeights.{Named, Own}
-use Rattle.cert_format.specs.CertificateTexts.{IsJson, IsWhole, IsSigned, IsDigits, IsTailString, IsClaimValue, IsArrayOf, IsSurjectiveValue, IsInjectiveValue, IsSideValue, IsSumValue, IsRanksValue, HasWeights, HasNoOther, IsCertificateText, keys, list_of}
-use Rattle.cert_format.specs.WrittenTexts.{array_from, whole_value, signed_value, word_value, tail_value, claim_value, surjective_value, injective_value, side_value, sum_value, ranks_value, members_before, certificate_members, certificate_value}
-use Rattle.cert_format.proofs.laws.WeightMembers.{names_weights-other, weights_member, weights_members-cases}
-use Rattle.cert_format.proofs.laws.Objects.{found_at}
+use Rattle.cert_values.specs.declared.cert_version.CertVersion.{CertVersion}
+use Rattle.cert_values.specs.declared.cert_version.CertVersion.TheVariants.{One}
+use Rattle.cert_values.specs.Versions.{number_of, names_weights}
+use Rattle.cert_values.specs.Evidence.{SurjectiveEvidence, InjectiveEvidence, SideEvidence, SumEvidence}
+use Rattle.cert_values.specs.Certificates.{Certificate, IsNear, IsClaim, IsSurjectiveShape, IsInjectiveShape, IsSideShape, IsSumShape, IsRankShape}
+use Rattle.cert_values.specs.Parts.{IsShaped, IsWeightShape}
+use Rattle.cert_values.specs.Evidence.SurjectiveEvidence.{Sets, Pairs, Orphan}
+use Rattle.cert_values.specs.Evidence.InjectiveEvidence.{Window, Twins}
+use Rattle.cert_values.specs.Evidence.SideEvidence.{Ahead, Split}
+use Rattle.cert_values.specs.Evidence.SumEvidence.{Flux, Ring}
+use Rattle.cert_values.specs.CertificateTexts.HasWeights.{Named, Own}
+use Rattle.cert_values.specs.CertificateTexts.{IsJson, IsWhole, IsSigned, IsDigits, IsTailString, IsClaimValue, IsArrayOf, IsSurjectiveValue, IsInjectiveValue, IsSideValue, IsSumValue, IsRanksValue, HasWeights, HasNoOther, IsCertificateText, keys, list_of}
+use Rattle.cert_values.specs.WrittenTexts.{array_from, whole_value, signed_value, word_value, tail_value, claim_value, surjective_value, injective_value, side_value, sum_value, ranks_value, members_before, certificate_members, certificate_value}
+use Rattle.cert_values.proofs.laws.WeightMembers.{names_weights-other, weights_member, weights_members-cases}
+use Rattle.cert_values.proofs.laws.Members.{found_at}
 
 -- the names of an object
 abbrev names_of : Members → List (List ℕ)

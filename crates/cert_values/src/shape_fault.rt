@@ -1,7 +1,5 @@
 //! Why bytes are no text of a certificate.
 use rule_text::TextFault;
-use std::alloc::AllocError;
-use thiserror::Error;
 
 /// The part of a certificate that has no right shape.
 #[derive(Clone, Copy, Debug, PartialEq, Eq)]
@@ -41,15 +39,4 @@ pub enum ShapeFault {
     Shape(Key),
     /// The rule's text has this fault.
     Rule(TextFault),
-}
-
-/// Why bytes give no certificate.
-#[derive(Debug, PartialEq, Eq, Drop, Error)]
-pub enum CertFault {
-    /// They are no text of a certificate, for this fault.
-    #[error("the bytes are no certificate: {0:?}")]
-    Format(ShapeFault),
-    /// There is not enough memory.
-    #[error(transparent)]
-    Memory(AllocError),
 }

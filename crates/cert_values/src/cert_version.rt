@@ -1,6 +1,6 @@
 //! The version of a certificate.
 ghost use Rattle.std.specs.Prelude.{◌≡◌, ◌≢◌, IfSome, IfNone};
-ghost use Rattle.cert_format.specs.Versions.{number_of, names_weights, lists_pairs};
+ghost use Rattle.cert_values.specs.Versions.{number_of, names_weights, lists_pairs};
 
 /// What a certificate may say, and by which conditions it is judged.
 #[derive(Clone, Copy, Debug, PartialEq, Eq)]
@@ -15,7 +15,7 @@ pub enum CertVersion {
 
 impl CertVersion {
     /// The version with this number.
-    pub(crate) fn of(number: u64) -> Option<CertVersion>
+    pub fn of(number: u64) -> Option<CertVersion>
         ensures some { IfSome result (λ v. number ≡ number_of v) }
         ensures none { IfNone result ((v : CertVersion) → number ≢ number_of v) }
     {
@@ -28,7 +28,7 @@ impl CertVersion {
     }
 
     /// The number of the version.
-    pub(crate) fn number(self) -> u64
+    pub fn number(self) -> u64
         ensures { result ≡ number_of self }
     {
         match self {
@@ -39,7 +39,7 @@ impl CertVersion {
     }
 
     /// Whether the weights of the letters may be named.
-    pub(crate) fn names_weights(self) -> bool
+    pub fn names_weights(self) -> bool
         ensures { result ≡ names_weights self }
     {
         match self {
@@ -49,7 +49,7 @@ impl CertVersion {
     }
 
     /// Whether pairs of nodes may be listed.
-    pub(crate) fn lists_pairs(self) -> bool
+    pub fn lists_pairs(self) -> bool
         ensures { result ≡ lists_pairs self }
     {
         match self {

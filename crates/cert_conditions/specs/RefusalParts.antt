@@ -1,0 +1,113 @@
+-- The parts of which a refusal consists when it is told: words and numbers.
+use Rattle.std.specs.Prelude.{ℕ, List, [], codes, Option, Some, None}
+use Rattle.std.specs.Option.{option_map}
+use Rattle.word_image.specs.declared.side.Side.{Side}
+use Rattle.word_image.specs.declared.side.Side.TheVariants as side
+use Rattle.rule_text.specs.FaultTexts.{fault_name, fault_place}
+use Rattle.cert_values.specs.declared.shape_fault.ShapeFault.{ShapeFault}
+use Rattle.cert_values.specs.declared.shape_fault.ShapeFault.TheVariants as shape
+use Rattle.cert_values.specs.declared.shape_fault.Key.{Key}
+use Rattle.cert_values.specs.declared.shape_fault.Key.TheVariants as key
+use Rattle.cert_conditions.specs.declared.refusal.TwinCause.{TwinCause}
+use Rattle.cert_conditions.specs.declared.refusal.TwinCause.TheVariants as twin
+use Rattle.cert_conditions.specs.declared.refusal.SplitCause.{SplitCause}
+use Rattle.cert_conditions.specs.declared.refusal.SplitCause.TheVariants as split
+use Rattle.cert_conditions.specs.declared.refusal.Refusal.{Refusal}
+use Rattle.cert_conditions.specs.declared.refusal.Refusal.TheVariants as refusal
+use Rattle.cert_conditions.specs.declared.refusal_parts.RefusalNumbers.{RefusalNumbers}
+use Rattle.cert_conditions.specs.declared.refusal_parts.RefusalNumbers.TheVariants as numbers
+use Rattle.cert_conditions.specs.declared.refusal_parts.RefusalParts.{RefusalParts}
+
+-- a word for the part that has no right shape
+abbrev pub key_text : Key → List ℕ
+key_text key.Top = codes "top"
+key_text key.Version = codes "version"
+key_text key.Rule = codes "rule"
+key_text key.Surjective = codes "surjective"
+key_text key.Injective = codes "injective"
+key_text key.Right = codes "right"
+key_text key.Left = codes "left"
+key_text key.Conserving = codes "conserving"
+key_text key.Weights = codes "weights"
+key_text key.Ranks = codes "ranks"
+key_text key.Unknown = codes "unknown"
+
+-- a word for each side
+abbrev pub side_text : Side → List ℕ
+side_text side.Right = codes "right"
+side_text side.Left = codes "left"
+
+-- a word for why two words are no twins
+abbrev pub twin_text : TwinCause → List ℕ
+twin_text twin.Length = codes "length"
+twin_text twin.Same = codes "same"
+twin_text twin.Image = codes "image"
+
+-- a word for why two configurations are no split
+abbrev pub split_text : SplitCause → List ℕ
+split_text split.Same = codes "same"
+split_text split.Apart = codes "apart"
+split_text split.Image = codes "image"
+
+-- a cause, and what else is said: a side, a reason, a key, a fault of the rule's text, and numbers
+pub record Parts : Type 0 where
+  pub cause : List ℕ
+  pub side : Option (List ℕ)
+  pub because : Option (List ℕ)
+  pub key : Option (List ℕ)
+  pub fault : Option (List ℕ)
+  pub numbers : RefusalNumbers
+
+-- a cause with its numbers and no other parts
+abbrev pub with : List ℕ → RefusalNumbers → Parts
+with cause ns = record { cause = cause; side = None; because = None; key = None; fault = None; numbers = ns }
+
+-- the same parts, and a side
+abbrev pub on : Side → Parts → Parts
+on s p = record { cause = p.cause; side = Some (side_text s); because = p.because; key = p.key; fault = p.fault; numbers = p.numbers }
+
+-- the same parts, and a reason
+abbrev pub because : List ℕ → Parts → Parts
+because why p = record { cause = p.cause; side = p.side; because = Some why; key = p.key; fault = p.fault; numbers = p.numbers }
+
+-- the place of a fault, if it has one
+abbrev pub place_number : Option ℕ → RefusalNumbers
+place_number None = numbers.None
+place_number (Some place) = numbers.One place
+
+-- the parts of the first fault of a certificate's shape
+abbrev pub of_shape : ShapeFault → Parts
+of_shape shape.NotJson = because (codes "notjson") (with (codes "format") numbers.None)
+of_shape (shape.Version v) = because (codes "version") (with (codes "format") (numbers.One v))
+of_shape (shape.Shape k) = record { cause = codes "format"; side = None; because = Some (codes "shape"); key = Some (key_text k); fault = None; numbers = numbers.None }
+of_shape (shape.Rule f) = record { cause = codes "format"; side = None; because = Some (codes "rule"); key = None; fault = Some (fault_name f); numbers = place_number (fault_place f) }
+
+-- the parts of a refusal: the first condition that isn't met, and what is said of it; want of memory isn't one
+abbrev pub parts_of : Refusal → Parts
+parts_of (refusal.Format f) = of_shape f
+parts_of (refusal.Rank s p) = on s (with (codes "rank") (numbers.One p))
+parts_of refusal.NoFull = with (codes "nofull") numbers.None
+parts_of (refusal.EmptySet i) = with (codes "emptyset") (numbers.One i)
+parts_of (refusal.NotClosed i a) = with (codes "notclosed") (numbers.Two i a)
+parts_of (refusal.NoFirst p) = with (codes "nofirst") (numbers.One p)
+parts_of (refusal.Diagonal i) = with (codes "diagonal") (numbers.One i)
+parts_of (refusal.Leaves i a b) = with (codes "leaves") (numbers.Three i a b)
+parts_of refusal.Orphan = with (codes "orphan") numbers.None
+parts_of (refusal.Window p) = with (codes "window") (numbers.One p)
+parts_of (refusal.Twins cause) = because (twin_text cause) (with (codes "twins") numbers.None)
+parts_of (refusal.Ahead s p) = on s (with (codes "ahead") (numbers.One p))
+parts_of (refusal.Split s cause) = because (split_text cause) (on s (with (codes "split") numbers.None))
+parts_of (refusal.Flux w) = with (codes "flux") (numbers.One w)
+parts_of refusal.Ring = with (codes "ring") numbers.None
+parts_of (refusal.Memory _) = with [] numbers.None
+
+-- the parts that the code has
+abbrev pub said_in : RefusalParts → Parts
+said_in p = record {
+  cause = p.cause.now;
+  side = option_map (λ s. s.now) p.side;
+  because = option_map (λ s. s.now) p.because;
+  key = option_map (λ s. s.now) p.key;
+  fault = option_map (λ s. s.now) p.fault;
+  numbers = p.numbers;
+}

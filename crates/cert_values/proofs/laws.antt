@@ -1,0 +1,5 @@
+pub mod Members
+pub mod Uniqueness
+pub mod WeightMembers
+pub mod ShapeFaults
+pub mod Written

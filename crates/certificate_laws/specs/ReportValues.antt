@@ -1,0 +1,16 @@
+-- What a report of the code is seen as.
+use Rattle.cert_values.specs.Parts.{injective_of, side_of, sum_of}
+use Rattle.cert_conditions.specs.declared.report.Report.{Report}
+use Rattle.certificate_laws.specs.LeastEvidence.{Evidence}
+
+-- the evidence in a report
+abbrev pub evidence_of : Report → Evidence
+evidence_of e = record {
+  rule = e.rule;
+  weights = e.weights;
+  orphan = e.orphan;
+  injective = injective_of e.injective;
+  right = side_of e.right;
+  left = side_of e.left;
+  conserving = sum_of e.conserving;
+}
