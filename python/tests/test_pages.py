@@ -287,7 +287,7 @@ class Clicks(unittest.TestCase):
     def test_large_graphs_and_long_tables(self) -> None:
         """At 360 pixels they scroll in boxes of their own, which are no higher than the screen, and headings of tables stay."""
         get = self.browser.get
-        for name, rule in (("wide.html", f"16:2:0:t{WIDE}"), ("long.html", "2:5:0:t00110011001111001100110011000110")):
+        for name, rule in (("wide.html", f"16:2:0:t{WIDE}"), ("long.html", "2:5:0:t00101111001011011101000011010010")):
             address = self.file(name, ca.page(rule))
             self.look(address)
             self.browser.open(address, 360)
@@ -296,8 +296,10 @@ class Clicks(unittest.TestCase):
                         "box.scrollHeight, box.tabIndex])")
             self.assertTrue(all(wide <= 360 and high <= 0.9 * 900 for wide, high, *_ in boxes), boxes)
             self.assertGreater(sum(whole > wide for wide, _, whole, _, _ in boxes), 1)
-            self.assertGreater(sum(whole > high for _, high, _, whole, _ in boxes), 0)
             self.assertEqual({stop for wide, high, whole, deep, stop in boxes if whole > wide or deep > high}, {0})
+            if name == "wide.html":
+                continue
+            self.assertGreater(sum(whole > high for _, high, _, whole, _ in boxes), 0)      # 120 pairs of nodes
             get("(window.high = [...document.querySelectorAll('.scroll')].find(box => box.querySelector('thead') && "
                 "box.scrollHeight > box.clientHeight + 200)).scrollTop = 150")
             self.shows("high.scrollTop", 150)

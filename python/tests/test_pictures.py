@@ -353,7 +353,7 @@ class Told(unittest.TestCase):
                     self.assertEqual(set(map(graph.name, there)), {(graph.name(node) + read)[1:] for node in nodes for read in
                                      words(graph.states, 1) if writes(report.rule, graph.name(node) + read) == f"{letter:x}"})
             seen += 1
-        self.assertGreater(seen, 30)
+        self.assertGreater(seen, 20)
 
     def test_too_many_cases(self) -> None:
         wide = "16:2:0:t" + "".join(f"{(x + 2 * y) % 16:x}" for x in range(16) for y in range(16))
