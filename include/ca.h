@@ -4,7 +4,7 @@
  * ./library builds libca_c.a and libca_c.so in crates/ca_c/out/library, and prints their paths. ./install PREFIX installs
  * them as libca.a and libca.so, with this header and ca.pc for pkg-config. The functions are those of
  * crates/ca_c/src/exports.rt, whose contracts say what is proved about them. The structs are RuleVerdicts of
- * crates/c_values/src/table_verdicts.rt, RuleReport of rule_reports.rt, the structs of letter_rows.rt, and KeptSums of
+ * crates/c_structs/src/table_verdicts.rt, RuleReport of rule_reports.rt, the structs of letter_rows.rt, and KeptSums of
  * crates/kept_sums/src/kept.rt. It is tested, not proved, that this header agrees with these sources.
  *
  * Pointers. A pointer that is passed with a length points to as many bytes as the length says. It may be NULL if the length is

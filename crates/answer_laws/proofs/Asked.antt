@@ -6,13 +6,13 @@ use Rattle.rule_text.specs.RuleTexts.{by_number, in_text}
 use Rattle.rule_text.proofs.laws.Texts.{IsRuleText-no_fault, IsTextFault-unique}
 use Rattle.rule_text.proofs.laws.AcceptedRules.{IsRule-said, IsRule-text, none_map}
 use Rattle.rule_verdicts.specs.Numbers.{numbered_rule, numbers_fault}
-use Rattle.ca_words.specs.declared.names.Name.{Name}
-use Rattle.ca_words.specs.declared.names.Name.TheVariants as name
-use Rattle.ca_words.specs.Commands.{Command, Form, IsCommand, form_of, rule_count}
-use Rattle.ca_findings.proofs.Common.{Question, AreRules}
-use Rattle.ca_findings.specs.Samples.{survey_rules, state_after, drawn_rule, sample_rules}
-use Rattle.ca_answers.proofs.laws.Samples.{survey-accepted, IsRule-drawn}
-use Rattle.ca_words.specs.Asked.{AreRuleTexts, Asks, IsAsked, IsFirstFault, IsShapeFault, IsOperandFault}
+use Rattle.ca_commands.specs.declared.names.Name.{Name}
+use Rattle.ca_commands.specs.declared.names.Name.TheVariants as name
+use Rattle.ca_commands.specs.Commands.{Command, Form, IsCommand, form_of, rule_count}
+use Rattle.ca_questions.proofs.Common.{Question, AreRules}
+use Rattle.ca_questions.specs.Samples.{survey_rules, state_after, drawn_rule, sample_rules}
+use Rattle.ca_answering.proofs.laws.Samples.{survey-accepted, IsRule-drawn}
+use Rattle.ca_commands.specs.Asked.{AreRuleTexts, Asks, IsAsked, IsFirstFault, IsShapeFault, IsOperandFault}
 
 -- The rules of a question
 

@@ -13,7 +13,7 @@ use Rattle.cert_values.specs.declared.cert_version.CertVersion.TheVariants.{Two,
 use Rattle.cert_values.proofs.Common.{SurjectiveEvidence, Sets, Pairs, Orphan, Certificate}
 use Rattle.certificate_laws.specs.LeastEvidence.{Evidence, IsOrphanPart}
 use Rattle.certificate_laws.specs.WrittenCertificates.{orphan_of, IsListPart, IsRankRow, IsWritten}
-use Rattle.eden_laws.specs.ReachedPairs.{AreReached}
+use Rattle.garden_laws.specs.ReachedPairs.{AreReached}
 use Rattle.answer_laws.proofs.Orders.{word_cmp_total, one_word}
 use Rattle.answer_laws.proofs.Lists.{same_members}
 use Rattle.answer_laws.proofs.Evidence.{IsLeastEvidence-unique}

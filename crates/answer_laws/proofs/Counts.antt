@@ -2,8 +2,8 @@
 use Rattle.std.proofs.Common.{◌≡◌, ◌≤◌, ℕ, ◌+◌, List, length, All, Contains, refl, sym, ap, ◌∙◌, subst, arith}
 use Rattle.word_image.proofs.Common.{All-contains, LocalRule, IsRule}
 use Rattle.rule_classes.proofs.laws.Classes.{IsLeastOfClass-unique}
-use Rattle.ca_findings.proofs.Common.{AreMany, Counts, AreCounts, AreLeastRules, IsLeastOfItsClass}
-use Rattle.ca_findings.specs.Counts.AreMany.{None, One, Other}
+use Rattle.ca_questions.proofs.Common.{AreMany, Counts, AreCounts, AreLeastRules, IsLeastOfItsClass}
+use Rattle.ca_questions.specs.Counts.AreMany.{None, One, Other}
 use Rattle.answer_laws.proofs.Lists.{length-le_from_contained}
 
 -- one number alone counts the rules of a list that have a property

@@ -5,7 +5,7 @@ use Rattle.tail_laws.proofs.Common.{IsInjective-determined}
 use Rattle.tail_preimage.proofs.laws.LeastPreimages.{IsLeastPreimage-unique}
 use Rattle.image_minimal.proofs.laws.ClassLists.{IsLeastAutomaton-unique}
 use Rattle.rule_classes.proofs.laws.Classes.{IsLeastOfClass-unique}
-use Rattle.ca_findings.proofs.Common.{Question, AreRules, Finding, Unfit, IsFinding, IsUnfitFor}
+use Rattle.ca_questions.proofs.Common.{Question, AreRules, Finding, Unfit, IsFinding, IsUnfitFor}
 use Rattle.answer_laws.proofs.Least.{IsLeastTwins-unique, IsLeastDetermined-unique}
 use Rattle.answer_laws.proofs.Evidence.{IsOrphanPart-unique, IsLeastEvidence-unique}
 use Rattle.answer_laws.proofs.Certificates.{IsWritten-unique}

@@ -3,7 +3,7 @@ use Rattle.std.proofs.Common.{◌≡◌, ℕ, ◌^◌, ◌<◌, List, get_or, sl
 use Rattle.word_image.proofs.Common.{same_number_lists, LocalRule, value, word_of, IsPreimage, length-word_of, IsWord-word_of, value-word_of}
 use Rattle.tail_config.proofs.Common.{WindowMap, IsInverseMap}
 use Rattle.inverse_table.specs.InverseMaps.{GivesBack}
-use Rattle.ca_findings.proofs.Common.{Finding, IsMapRule, IsInverseFound}
+use Rattle.ca_questions.proofs.Common.{Finding, IsMapRule, IsInverseFound}
 use Rattle.answer_laws.proofs.Least.{IsLeastDetermined-unique}
 
 -- what the map of a window says of the word of a value is a letter of each preimage of the word

@@ -2,7 +2,7 @@
 use Rattle.std.proofs.Common.{inr, ◌≡◌, ℕ, ◌<◌, List, sym, ap, ◌∙◌, arith}
 use Rattle.word_image.proofs.Common.{LocalRule, IsLeastOrphan, IsLeastTwins, IsLeastLossyRing, IsLeastErasable, IsLeastDetermined, IsLeastRightAhead}
 use Rattle.tail_config.proofs.Common.{TailConfig, mirror_of, config_of, IsLeastRightSplit, IsLeastLeftSplit}
-use Rattle.ca_findings.proofs.Fits.{IsLeastDetermined-length}
+use Rattle.ca_questions.proofs.Fits.{IsLeastDetermined-length}
 use Rattle.answer_laws.proofs.Orders.{one_word, one_pair, one_split}
 
 -- a rule has one least orphan

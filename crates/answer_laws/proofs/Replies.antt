@@ -2,10 +2,10 @@
 use Rattle.std.proofs.Common.{◌≡◌, ℕ, List, refl, sym, ap, ap₂, ◌∙◌, subst, Option, Some}
 use Rattle.cert_conditions.proofs.Common.{IsAccepted, IsRefusal}
 use Rattle.cert_conditions.proofs.laws.OneAnswer.{IsAccepted-unique, IsRefusal-unique}
-use Rattle.ca_words.specs.declared.names.Name.TheVariants as name
-use Rattle.ca_words.specs.Commands.{Command, IsCommand}
-use Rattle.ca_findings.proofs.Common.{IsFinding, IsUnfitFor, Reply}
-use Rattle.ca_findings.proofs.Fits.{IsFinding-fit}
+use Rattle.ca_commands.specs.declared.names.Name.TheVariants as name
+use Rattle.ca_commands.specs.Commands.{Command, IsCommand}
+use Rattle.ca_questions.proofs.Common.{IsFinding, IsUnfitFor, Reply}
+use Rattle.ca_questions.proofs.Fits.{IsFinding-fit}
 use Rattle.ca_cli.specs.declared.status.Status.{Status}
 use Rattle.ca_cli.specs.Inputs.{IsWholeInput}
 use Rattle.ca_cli.specs.Readings.{ReadsNothing}
@@ -13,7 +13,7 @@ use Rattle.ca_text.specs.Replies.{reply_text}
 use Rattle.ca_cli.specs.Statuses.{reply_status}
 use Rattle.ca_cli.specs.RightAnswers.{IsReply, IsReplyTo, IsAnswer}
 use Rattle.ca_cli.specs.RightAnswers.IsReply.{Found, NoFit, RuleFault, Accepted, Refused, TooLong}
-use Rattle.ca_words.proofs.laws.Asked.{IsAsked-unique, IsAsked-reads_nothing}
+use Rattle.ca_commands.proofs.laws.Asked.{IsAsked-unique, IsAsked-reads_nothing}
 use Rattle.ca_cli.proofs.laws.RightAnswers.{to_command}
 use Rattle.ca_cli.proofs.laws.OneStatus.{one_status_told, one_status_unread}
 use Rattle.answer_laws.proofs.Findings.{IsFinding-unique, IsUnfitFor-unique}

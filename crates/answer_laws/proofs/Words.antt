@@ -6,7 +6,7 @@ use Rattle.tail_config.proofs.Common.{TailConfig}
 use Rattle.tail_preimage.specs.Preimages.{IsGap}
 use Rattle.tail_preimage.specs.declared.answer.Pre.TheVariants as pre
 use Rattle.tail_preimage.proofs.laws.Answers.{IsPreimageAnswer-unique}
-use Rattle.ca_findings.proofs.Common.{Finding, IsSameFound, IsErasedFound, preimage_of}
+use Rattle.ca_questions.proofs.Common.{Finding, IsSameFound, IsErasedFound, preimage_of}
 use Rattle.answer_laws.proofs.Orders.{one_first}
 use Rattle.answer_laws.proofs.Least.{IsLeastErasable-unique}
 

@@ -12,8 +12,8 @@
 
 ghost use Rattle.std.specs.Prelude.{◌≡◌, ℕ, List, Option, Some};
 ghost use Rattle.ca_cli.specs.declared.status.Status.{Status};
-ghost use Rattle.ca_words.specs.Commands.{Command, IsCommand};
-ghost use Rattle.ca_findings.specs.Replies.{Reply};
+ghost use Rattle.ca_commands.specs.Commands.{Command, IsCommand};
+ghost use Rattle.ca_questions.specs.Replies.{Reply};
 ghost use Rattle.ca_cli.specs.Readings.{ReadsNothing};
 ghost use Rattle.ca_cli.specs.RightAnswers.{IsAnswer, IsReplyTo};
 

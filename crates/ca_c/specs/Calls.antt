@@ -1,6 +1,6 @@
 -- What a call of the interface hands back.
 use Rattle.std.specs.Prelude.{◌≡◌, ℕ, ◌<◌, ◌≤◌, List, ◌++◌, length, drop, Some}
-use Rattle.ca_findings.specs.Replies.{Reply}
+use Rattle.ca_questions.specs.Replies.{Reply}
 use Rattle.ca_text.specs.Replies.{reply_text}
 use Rattle.ca_json.specs.Replies.{json_text}
 use Rattle.ca_cli.specs.declared.status.Status.{Status}

@@ -1,14 +1,14 @@
 //! A call of the program over bytes in memory.
 ghost use Rattle.std.specs.Prelude.{◌≡◌, ◌≢◌, ℕ, List, ◌++◌, ◌↔◌, ◌≤◌, length, drop, IfOk, IsTrue, IsFalse};
-ghost use Rattle.ca_findings.specs.Values.{reply_of};
-ghost use Rattle.ca_findings.specs.Writable.{IsWritableReply};
+ghost use Rattle.ca_questions.specs.Values.{reply_of};
+ghost use Rattle.ca_questions.specs.Writable.{IsWritableReply};
 ghost use Rattle.ca_c.specs.Blocks.{AreWords};
 ghost use Rattle.ca_c.specs.Calls.{IsAnswerIn, IsHandedBack, bytes_in};
 
 use crate::blocks::words;
 use crate::sources::SliceSource;
 use ca_cli::{Status, reply, right_replies_are_writable};
-use ca_findings::Reply;
+use ca_questions::Reply;
 use ca_json::reply_json;
 use ca_text::{Output, reply_text};
 use std::alloc::{AllocError, Global};

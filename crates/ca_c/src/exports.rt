@@ -6,19 +6,19 @@ ghost use Rattle.ca_json.specs.Replies.{json_text};
 ghost use Rattle.ca_c.specs.Calls.{IsHandedBack};
 ghost use Rattle.ca_c.specs.Weights.{first_weights};
 ghost use Rattle.rule_verdicts.specs.Numbers.{numbers_fault, AreVerdictBytes};
-ghost use Rattle.c_values.specs.NumberedVerdicts.{number_code};
+ghost use Rattle.c_structs.specs.NumberedVerdicts.{number_code};
 ghost use Rattle.kept_sums.specs.Stages.{AreKeptSums};
-ghost use Rattle.c_values.specs.RuleSums.{sums_code, IsFluxCall};
+ghost use Rattle.c_structs.specs.RuleSums.{sums_code, IsFluxCall};
 ghost use Rattle.rule_text.specs.RuleTexts.{rule_of_table};
 ghost use Rattle.rule_verdicts.specs.Truths.{AreTruths};
-ghost use Rattle.c_values.specs.Verdicts.{AreNone, fault_code, truths_in};
-ghost use Rattle.c_values.specs.NextRules.{IsNext, IsWindowOrder};
-ghost use Rattle.c_values.specs.Images.{IsImageCall};
-ghost use Rattle.c_values.specs.Reports.{IsReportCall, named_weights, rule_with};
+ghost use Rattle.c_structs.specs.Verdicts.{AreNone, fault_code, truths_in};
+ghost use Rattle.c_structs.specs.NextRules.{IsNext, IsWindowOrder};
+ghost use Rattle.c_structs.specs.Images.{IsImageCall};
+ghost use Rattle.c_structs.specs.Reports.{IsReportCall, named_weights, rule_with};
 ghost use Rattle.tail_config.specs.TailValues.{config_of};
 
 use crate::calls::{Form, SHORT, hand_back, put};
-use c_values::{
+use c_structs::{
     Parts, RuleReport, RuleVerdicts, fault_number, joined, letters_of, next_rule, number_of,
     property_of, range_number, report_of_table, shape_rule, write_image, write_table,
 };

@@ -21,7 +21,7 @@
 //! No function keeps a pointer or has a state: what one call gives depends on its arguments and on
 //! whether there is memory, and on nothing else. A call of [`ca_run`] takes the time and the memory of `ca_cli::reply`, and
 //! besides **O(n)** of both for n bytes of words and output; one of [`ca_run_json`] the same, with the time O(n log n); one
-//! of [`ca_report`] those of `ca_answers::report`, and **O(n)** for n letters. All other calls take no memory.
+//! of [`ca_report`] those of `ca_answering::report`, and **O(n)** for n letters. All other calls take no memory.
 #![tactic(auto)]
 
 mod blocks;
@@ -29,7 +29,7 @@ mod calls;
 mod exports;
 mod sources;
 
-pub use c_values::{RuleReport, RuleVerdicts};
+pub use c_structs::{RuleReport, RuleVerdicts};
 pub use exports::{
     ca_flux, ca_kept_sums, ca_next_rule, ca_report, ca_run, ca_run_json, ca_verdict_bytes,
     ca_verdicts, ca_version, ca_window_order,

@@ -1,11 +1,11 @@
 -- Within the crate: the result of answering words.
 use Rattle.std.specs.Prelude.{ℕ, List, Result, MatchResult}
-use Rattle.ca_words.specs.Asking.{Ask, IsStop}
-use Rattle.ca_findings.specs.declared.found.Found.{Found}
-use Rattle.ca_findings.specs.declared.found.Stop.{Stop}
-use Rattle.ca_findings.specs.Findings.{IsFinding}
-use Rattle.ca_findings.specs.Questions.{Question}
-use Rattle.ca_findings.specs.Values.{finding_of}
+use Rattle.ca_commands.specs.Asking.{Ask, IsStop}
+use Rattle.ca_questions.specs.declared.found.Found.{Found}
+use Rattle.ca_questions.specs.declared.found.Stop.{Stop}
+use Rattle.ca_questions.specs.Findings.{IsFinding}
+use Rattle.ca_questions.specs.Questions.{Question}
+use Rattle.ca_questions.specs.Values.{finding_of}
 
 -- a finding that is right for the question of the words, or a reason why there is none
 abbrev pub IsOutcome : List (List ℕ) → Result Found Stop → Type 0

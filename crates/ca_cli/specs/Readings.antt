@@ -5,8 +5,8 @@ use Rattle.ca_io.specs.Faults.{Rose}
 use Rattle.ca_cli.specs.declared.status.Status.{Status}
 use Rattle.ca_cli.specs.declared.status.Status.TheVariants as status
 use Rattle.ca_cli.specs.Inputs.{most_input}
-use Rattle.ca_words.specs.declared.names.Name.TheVariants as name
-use Rattle.ca_words.specs.Commands.{Command}
+use Rattle.ca_commands.specs.declared.names.Name.TheVariants as name
+use Rattle.ca_commands.specs.Commands.{Command}
 
 -- at most this many of the first bytes were taken
 pub record TakesAtMost (most : ℕ) (before after : Option (List ℕ)) : Type 0 where

@@ -5,15 +5,15 @@ use Rattle.cert_conditions.specs.Accepted.{IsAccepted, AreTrue}
 use Rattle.cert_conditions.specs.Refusals.{IsRefusal}
 use Rattle.cert_conditions.specs.declared.refusal.Refusal.{Refusal}
 use Rattle.cert_conditions.specs.declared.verdicts.Verdicts.{Verdicts}
-use Rattle.ca_words.specs.declared.names.Name.TheVariants as name
-use Rattle.ca_words.specs.Commands.{Command, IsCommand}
-use Rattle.ca_findings.specs.Questions.{Question}
-use Rattle.ca_findings.specs.Findings.{Finding, Unfit, IsFinding, IsUnfitFor}
-use Rattle.ca_findings.specs.Replies.{Reply}
+use Rattle.ca_commands.specs.declared.names.Name.TheVariants as name
+use Rattle.ca_commands.specs.Commands.{Command, IsCommand}
+use Rattle.ca_questions.specs.Questions.{Question}
+use Rattle.ca_questions.specs.Findings.{Finding, Unfit, IsFinding, IsUnfitFor}
+use Rattle.ca_questions.specs.Replies.{Reply}
 use Rattle.ca_text.specs.Replies.{reply_text}
 use Rattle.ca_cli.specs.declared.status.Status.{Status}
 use Rattle.ca_cli.specs.Statuses.{reply_status}
-use Rattle.ca_words.specs.Asked.{IsAsked, IsOperandFault}
+use Rattle.ca_commands.specs.Asked.{IsAsked, IsOperandFault}
 use Rattle.ca_cli.specs.Inputs.{IsWholeInput, IsLongInput}
 
 -- the reply is right for the command: a right finding or cause for its question, the fault of an operand, or the result of judging the input

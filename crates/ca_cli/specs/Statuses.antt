@@ -1,6 +1,6 @@
 -- The statuses with which the program ends.
 use Rattle.std.specs.Prelude.{ℕ, ⊤}
-use Rattle.ca_findings.specs.Replies.{Reply}
+use Rattle.ca_questions.specs.Replies.{Reply}
 use Rattle.ca_cli.specs.declared.status.Status.{Status}
 use Rattle.ca_cli.specs.declared.status.Status.TheVariants.{Done, Refused, Usage, RuleFault, NotFit, TooLong, ReadFault, WriteFault, Memory}
 

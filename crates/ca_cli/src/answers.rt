@@ -1,6 +1,6 @@
 //! The answer, which is whole in memory before anything is written.
 ghost use Rattle.std.specs.Prelude.{◌≡◌, IfOk, map, string_bytes};
-ghost use Rattle.ca_words.specs.Commands.{IsCommand, check_command};
+ghost use Rattle.ca_commands.specs.Commands.{IsCommand, check_command};
 ghost use Rattle.ca_cli.specs.Readings.{IsReadFor, Reading};
 ghost use Rattle.ca_cli.specs.RightAnswers.{IsAnswer};
 

@@ -1,14 +1,14 @@
 //! The command that judges a certificate.
 ghost use Rattle.std.specs.Prelude.{◌≡◌, ◌≢◌, alloc_error, IfOk, MatchResult};
-ghost use Rattle.ca_words.specs.declared.names.Name.TheVariants as name;
-ghost use Rattle.ca_words.specs.Commands.{Command};
-ghost use Rattle.ca_findings.specs.declared.reply.Reply.TheVariants as said;
-ghost use Rattle.ca_findings.specs.Values.{reply_of};
+ghost use Rattle.ca_commands.specs.declared.names.Name.TheVariants as name;
+ghost use Rattle.ca_commands.specs.Commands.{Command};
+ghost use Rattle.ca_questions.specs.declared.reply.Reply.TheVariants as said;
+ghost use Rattle.ca_questions.specs.Values.{reply_of};
 ghost use Rattle.ca_cli.specs.Readings.{IsReadFor, Reading};
 ghost use Rattle.ca_cli.specs.RightAnswers.{IsReply};
 ghost use Rattle.ca_cli.specs.Statuses.{reply_status};
 
-use ca_findings::Reply;
+use ca_questions::Reply;
 use ca_io::{InputFault, Source, read_up_to};
 use cert_check::judge;
 use cert_conditions::Refusal;

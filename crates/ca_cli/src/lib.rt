@@ -4,9 +4,9 @@
 //! and an output, which are the bytes for the sink. Only the command `check` reads the source: the whole input, or one
 //! byte more than the judge accepts. [`run`] takes five steps from the words to the bytes:
 //!
-//! 1. `question` of ca_words reads the words into a question, and each operand once. Or the words are no command, or an
+//! 1. `question` of ca_commands reads the words into a question, and each operand once. Or the words are no command, or an
 //!    operand isn't the text of a rule, or the parts of a configuration don't fit.
-//! 2. `answer` of ca_answers finds the answer to the question, or the cause why nothing fits. Only `check` reads the
+//! 2. `answer` of ca_answering finds the answer to the question, or the cause why nothing fits. Only `check` reads the
 //!    source: it passes the input to the judge.
 //! 3. [`reply`] returns either as a value, for callers who want another form than the text.
 //! 4. The text of the reply is written into memory as a whole.

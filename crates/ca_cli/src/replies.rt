@@ -1,17 +1,17 @@
 //! From words to a reply as a value.
 ghost use Rattle.std.specs.Prelude.{◌≡◌, ℕ, List, Option, IfOk, map, string_bytes};
-ghost use Rattle.ca_words.specs.Commands.{IsCommand, check_command};
-ghost use Rattle.ca_findings.specs.Values.{reply_of};
+ghost use Rattle.ca_commands.specs.Commands.{IsCommand, check_command};
+ghost use Rattle.ca_questions.specs.Values.{reply_of};
 ghost use Rattle.ca_cli.specs.Outcomes.{IsOutcome};
 ghost use Rattle.ca_cli.specs.Readings.{IsReadFor, Reading};
 ghost use Rattle.ca_cli.specs.RightAnswers.{IsReplyTo};
 ghost use Rattle.ca_cli.specs.Statuses.{reply_status};
 
 use crate::checks::check;
-use ca_answers::answer;
-use ca_findings::{Found, Reply, Stop};
+use ca_answering::answer;
+use ca_questions::{Found, Reply, Stop};
 use ca_io::{InputFault, Source};
-use ca_words::{is_check, question};
+use ca_commands::{is_check, question};
 use std::alloc::{AllocError, Global};
 
 /// Returns the reply to these words and to the bytes that the source has left, which only `check` reads. Returns an

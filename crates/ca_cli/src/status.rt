@@ -1,9 +1,9 @@
 //! The statuses of the program.
 ghost use Rattle.std.specs.Prelude.{◌≡◌};
-ghost use Rattle.ca_findings.specs.Values.{reply_of};
+ghost use Rattle.ca_questions.specs.Values.{reply_of};
 ghost use Rattle.ca_cli.specs.Statuses.{code_of, reply_status};
 
-use ca_findings::Reply;
+use ca_questions::Reply;
 
 /// The status with which the program ends.
 #[derive(Clone, Copy, Debug, PartialEq, Eq)]

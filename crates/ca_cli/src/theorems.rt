@@ -8,19 +8,19 @@ ghost use Rattle.cert_conditions.specs.declared.refusal.Refusal.{Refusal};
 ghost use Rattle.cert_conditions.specs.declared.verdicts.Verdicts.{Verdicts};
 ghost use Rattle.cert_values.specs.declared.cert_version.CertVersion.{CertVersion};
 ghost use Rattle.rule_text.specs.declared.text_fault.TextFault.{TextFault};
-ghost use Rattle.ca_words.specs.Commands.{Command, IsCommand, check_command};
-ghost use Rattle.ca_findings.specs.Questions.{Question};
-ghost use Rattle.ca_findings.specs.Findings.{Unfit, IsUnfitFor, weights_by};
-ghost use Rattle.ca_findings.specs.Replies.{Reply};
-ghost use Rattle.ca_findings.specs.Writable.{IsWritableReply};
-ghost use Rattle.ca_words.specs.Asked.{IsAsked, IsOperandFault};
+ghost use Rattle.ca_commands.specs.Commands.{Command, IsCommand, check_command};
+ghost use Rattle.ca_questions.specs.Questions.{Question};
+ghost use Rattle.ca_questions.specs.Findings.{Unfit, IsUnfitFor, weights_by};
+ghost use Rattle.ca_questions.specs.Replies.{Reply};
+ghost use Rattle.ca_questions.specs.Writable.{IsWritableReply};
+ghost use Rattle.ca_commands.specs.Asked.{IsAsked, IsOperandFault};
 ghost use Rattle.ca_cli.specs.Inputs.{most_input};
 ghost use Rattle.ca_cli.specs.Readings.{ReadsNothing};
 ghost use Rattle.ca_text.specs.StatusLines.{accepted_lines, operand_fault_line, refused_line, too_long_line, usage_line};
 ghost use Rattle.ca_cli.specs.RightAnswers.{IsAnswer, IsReplyOf, IsReplyTo};
 
 use crate::status::Status;
-use ca_findings::{found_or_unfit, right_findings_are_writable};
+use ca_questions::{found_or_unfit, right_findings_are_writable};
 
 /// Law: words have at most one right status. This holds over any source if they are no command or a command that
 /// reads nothing, and for all words over a source that tells its bytes.

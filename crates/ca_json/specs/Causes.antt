@@ -4,7 +4,7 @@ use Rattle.serde_json.specs.Data.{Data, null, string, Members, put}
 use Rattle.tail_config.specs.declared.faults.TailFault.{TailFault}
 use Rattle.tail_config.specs.declared.faults.TailFault.TheVariants as tail
 use Rattle.cert_values.specs.WrittenTexts.{whole_value, word_value}
-use Rattle.ca_findings.specs.Findings.{Unfit}
+use Rattle.ca_questions.specs.Findings.{Unfit}
 use Rattle.rule_algebra.specs.FaultTexts.{algebra_text}
 use Rattle.rule_classes.specs.FaultTexts.{lift_text}
 use Rattle.cert_conditions.specs.declared.refusal_parts.RefusalNumbers.{RefusalNumbers}

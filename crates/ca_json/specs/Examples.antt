@@ -7,8 +7,8 @@ use Rattle.rule_text.specs.declared.text_fault.TextFault.TheVariants.{Form}
 use Rattle.cert_values.specs.declared.shape_fault.Key.TheVariants.{Left}
 use Rattle.cert_values.specs.declared.shape_fault.ShapeFault.TheVariants.{Shape}
 use Rattle.cert_conditions.specs.declared.refusal.Refusal.TheVariants.{Format, Rank}
-use Rattle.ca_findings.specs.Findings.{Finding, Unfit}
-use Rattle.ca_findings.specs.Replies.{Reply}
+use Rattle.ca_questions.specs.Findings.{Finding, Unfit}
+use Rattle.ca_questions.specs.Replies.{Reply}
 use Rattle.ca_json.specs.Replies.{json_text}
 
 json_text-orphan : json_text (Reply.Found (Finding.Orphan (Some (0 ∷ 1 ∷ 0 ∷ 1 ∷ 0 ∷ [])))) ≡ codes "{\"finding\":{\"orphan\":\"01010\"},\"status\":\"done\"}"

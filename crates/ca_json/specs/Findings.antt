@@ -10,8 +10,8 @@ use Rattle.tail_preimage.specs.Preimages.{PlacedConfig}
 use Rattle.cert_values.specs.WrittenTexts.{array_from, whole_value, signed_value, word_value, claim_value, certificate_value}
 use Rattle.cert_values.specs.Evidence.{says_open}
 use Rattle.certificate_laws.specs.LeastEvidence.{Evidence}
-use Rattle.ca_findings.specs.Counts.{Counts}
-use Rattle.ca_findings.specs.Findings.{Finding}
+use Rattle.ca_questions.specs.Counts.{Counts}
+use Rattle.ca_questions.specs.Findings.{Finding}
 use Rattle.ca_json.specs.Values.{object_of, tagged, two, numbers_json, word_or_null, number_or_null, tail_json, surjective_json, injective_json, side_json, conserving_json}
 
 -- -- the printed rule, or null if there is none

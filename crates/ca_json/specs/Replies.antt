@@ -7,7 +7,7 @@ use Rattle.cert_conditions.specs.declared.verdicts.Verdicts.{Verdicts}
 use Rattle.rule_text.specs.FaultTexts.{fault_name, fault_place}
 use Rattle.cert_conditions.specs.RefusalParts.{parts_of}
 use Rattle.cert_conditions.specs.Accepted.{is_open}
-use Rattle.ca_findings.specs.Replies.{Reply}
+use Rattle.ca_questions.specs.Replies.{Reply}
 use Rattle.ca_json.specs.Values.{object_of, status, numbers_json}
 use Rattle.ca_json.specs.Findings.{finding_json}
 use Rattle.ca_json.specs.Causes.{unfit_json, operand_json, parts_json}

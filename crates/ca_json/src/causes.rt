@@ -1,13 +1,13 @@
 //! Why nothing fits, and the fault of an operand.
 ghost use Rattle.std.specs.Prelude.{◌≡◌, IfOk};
 ghost use Rattle.serde_json.specs.View.{view};
-ghost use Rattle.ca_findings.specs.Values.{unfit_of};
-ghost use Rattle.ca_findings.specs.Writable.{IsWritableUnfit};
+ghost use Rattle.ca_questions.specs.Values.{unfit_of};
+ghost use Rattle.ca_questions.specs.Writable.{IsWritableUnfit};
 ghost use Rattle.rule_text.specs.FaultTexts as texts;
 ghost use Rattle.ca_json.specs.Causes as causes;
 
 use crate::values::{pair_value, tagged};
-use ca_findings::Cause;
+use ca_questions::Cause;
 use rule_algebra::algebra_name;
 use rule_classes::lift_name;
 use rule_text::{TextFault, fault_name, fault_place};

@@ -3,9 +3,9 @@ ghost use Rattle.std.specs.Prelude.{◌≡◌, IfOk};
 ghost use Rattle.serde_json.specs.View.{view};
 ghost use Rattle.cert_values.specs.Parts.{injective_of, side_of, sum_of};
 ghost use Rattle.certificate_laws.specs.ReportValues.{evidence_of};
-ghost use Rattle.ca_findings.specs.Findings.{Finding};
+ghost use Rattle.ca_questions.specs.Findings.{Finding};
 ghost use Rattle.rule_text.specs.PrintedRules.{number_found};
-ghost use Rattle.ca_findings.specs.Writable.{HasDigits, HasRingDigits, HasTwinDigits, IsWritable};
+ghost use Rattle.ca_questions.specs.Writable.{HasDigits, HasRingDigits, HasTwinDigits, IsWritable};
 ghost use Rattle.ca_json.specs.Findings.{report_json};
 ghost use Rattle.ca_json.specs.Values.{conserving_json, injective_json, number_or_null, side_json, surjective_json, tail_json};
 

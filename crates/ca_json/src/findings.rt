@@ -2,14 +2,14 @@
 ghost use Rattle.std.specs.Prelude.{◌≡◌, codes, IfOk};
 ghost use Rattle.serde_json.specs.View.{view};
 ghost use Rattle.tail_preimage.specs.Answers.{placed_config};
-ghost use Rattle.ca_findings.specs.Values.{counts_of, finding_of, pair_of, preimage_of};
-ghost use Rattle.ca_findings.specs.Writable.{HasTailDigits, HavePairDigits, IsWritable};
+ghost use Rattle.ca_questions.specs.Values.{counts_of, finding_of, pair_of, preimage_of};
+ghost use Rattle.ca_questions.specs.Writable.{HasTailDigits, HavePairDigits, IsWritable};
 ghost use Rattle.ca_json.specs.Findings.{counts_json, finding_json, inverse_json, pair_or_null, placed_json, rule_or_null};
 
 use crate::evidence::report_value;
 use crate::languages::automaton_value;
 use crate::values::{number_or_null, pair_value, tagged, tail_value, word_or_null};
-use ca_findings::{Counts, Found, Inverse, Pair};
+use ca_questions::{Counts, Found, Inverse, Pair};
 use cert_format::{certificate_value, rule_value, word_value};
 use serde_json::{Value, json};
 use std::alloc::{AllocError, Global};

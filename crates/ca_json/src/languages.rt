@@ -3,12 +3,12 @@ ghost use Rattle.std.specs.Prelude.{◌≡◌, ◌<◌, IfOk, map};
 ghost use Rattle.std.specs.List.{range_with_len};
 ghost use Rattle.serde_json.specs.View.{view};
 ghost use Rattle.cert_values.specs.WrittenTexts.{array_from};
-ghost use Rattle.ca_findings.specs.Values.{automaton_of};
-ghost use Rattle.ca_findings.specs.Writable.{HasRows};
+ghost use Rattle.ca_questions.specs.Values.{automaton_of};
+ghost use Rattle.ca_questions.specs.Writable.{HasRows};
 ghost use Rattle.ca_json.specs.Findings.{automaton_json, row_json};
 ghost use Rattle.ca_json.specs.Values.{numbers_json};
 
-use ca_findings::Automaton;
+use ca_questions::Automaton;
 use serde_json::{Value, json};
 use std::alloc::{AllocError, Global};
 

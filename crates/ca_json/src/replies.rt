@@ -1,14 +1,14 @@
 //! From a reply to its JSON.
 ghost use Rattle.std.specs.Prelude.{◌≡◌, IfOk, string_bytes};
 ghost use Rattle.serde_json.specs.View.{view};
-ghost use Rattle.ca_findings.specs.Values.{reply_of};
-ghost use Rattle.ca_findings.specs.Writable.{IsWritableReply};
+ghost use Rattle.ca_questions.specs.Values.{reply_of};
+ghost use Rattle.ca_questions.specs.Writable.{IsWritableReply};
 ghost use Rattle.ca_json.specs.Replies.{json_of, json_text, verdicts_json};
 
 use crate::causes::{operand_value, unfit_value};
 use crate::findings::finding_value;
 use crate::refusals::refusal_value;
-use ca_findings::Reply;
+use ca_questions::Reply;
 use cert_conditions::Verdicts;
 use cert_format::{rule_value, weights_value};
 use serde_json::{Value, json};

@@ -4,7 +4,7 @@ ghost use Rattle.serde_json.specs.View.{view};
 ghost use Rattle.word_image.specs.LocalRules.{IsWord};
 ghost use Rattle.tail_config.specs.TailValues.{config_of};
 ghost use Rattle.cert_values.specs.WrittenTexts as written;
-ghost use Rattle.ca_findings.specs.Writable.{HasDigits};
+ghost use Rattle.ca_questions.specs.Writable.{HasDigits};
 ghost use Rattle.ca_json.specs.Values as values;
 
 use cert_format::word_value;

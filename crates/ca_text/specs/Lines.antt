@@ -9,7 +9,7 @@ use Rattle.tail_config.specs.TailTexts as tail
 use Rattle.tail_config.specs.InverseMaps.{WindowMap}
 use Rattle.image_minimal.specs.ImageLanguages.{Automaton}
 use Rattle.tail_preimage.specs.Preimages.{PlacedConfig}
-use Rattle.ca_findings.specs.Counts.{Counts}
+use Rattle.ca_questions.specs.Counts.{Counts}
 use Rattle.ca_text.specs.Reports.{line}
 
 -- the text of a rule, or that there is none

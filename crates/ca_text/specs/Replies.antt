@@ -1,6 +1,6 @@
 -- The texts of all replies.
 use Rattle.std.specs.Prelude.{ℕ, List}
-use Rattle.ca_findings.specs.Replies.{Reply}
+use Rattle.ca_questions.specs.Replies.{Reply}
 use Rattle.ca_text.specs.Texts.{text_of, unfit_text}
 use Rattle.ca_text.specs.StatusLines.{usage_line, operand_fault_line, unfit_line, accepted_lines, refused_line, too_long_line}
 

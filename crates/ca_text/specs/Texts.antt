@@ -8,7 +8,7 @@ use Rattle.rule_classes.specs.FaultTexts.{lift_text}
 use Rattle.tail_config.specs.declared.faults.TailFault.{TailFault}
 use Rattle.tail_config.specs.declared.faults.TailFault.TheVariants as tail
 use Rattle.cert_values.specs.WrittenTexts.{certificate_text}
-use Rattle.ca_findings.specs.Findings.{Finding, Unfit}
+use Rattle.ca_questions.specs.Findings.{Finding, Unfit}
 use Rattle.ca_text.specs.Reports.{line, number_line, surjective_line, report_lines}
 use Rattle.ca_text.specs.Lines.{map_lines, automaton_lines, placed_text, gap_text, counts_lines, count_line}
 

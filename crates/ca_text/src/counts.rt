@@ -1,10 +1,10 @@
 //! The lines of counts.
 ghost use Rattle.std.specs.Prelude.{◌≡◌, ◌++◌, codes, OnOk};
-ghost use Rattle.ca_findings.specs.Values.{counts_of};
+ghost use Rattle.ca_questions.specs.Values.{counts_of};
 ghost use Rattle.ca_text.specs.Lines.{count_line, counts_lines};
 
 use crate::output::Output;
-use ca_findings::Counts;
+use ca_questions::Counts;
 use std::alloc::{AllocError, Global};
 
 /// Appends the seven lines of a summary.

@@ -1,12 +1,12 @@
 //! The lines of faults and of causes why nothing fits.
 ghost use Rattle.std.specs.Prelude.{◌≡◌, IfOk};
-ghost use Rattle.ca_findings.specs.Values.{unfit_of};
+ghost use Rattle.ca_questions.specs.Values.{unfit_of};
 ghost use Rattle.ca_text.specs.StatusLines.{operand_fault_line, unfit_line};
 ghost use Rattle.ca_text.specs.Texts.{tail_text, unfit_text};
-ghost use Rattle.ca_findings.specs.Writable.{IsWritableUnfit};
+ghost use Rattle.ca_questions.specs.Writable.{IsWritableUnfit};
 
 use crate::output::Output;
-use ca_findings::Cause;
+use ca_questions::Cause;
 use rule_algebra::algebra_name;
 use rule_classes::lift_name;
 use rule_text::{TextFault, fault_kind};

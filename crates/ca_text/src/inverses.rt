@@ -8,7 +8,7 @@ ghost use Rattle.ca_text.specs.Lines.{map_lines, rule_text};
 
 use crate::output::Output;
 use crate::report::write_rule;
-use ca_findings::Inverse;
+use ca_questions::Inverse;
 use inverse_table::InverseMap;
 use std::alloc::{AllocError, Global};
 use word_image::Rule;

@@ -2,14 +2,14 @@
 ghost use Rattle.std.specs.Prelude.{◌≡◌, ℕ, ◌+◌, ◌<◌, ◌≤◌, ◌++◌, drop, length, slice_index, IfOk, OnOk};
 ghost use Rattle.std.specs.Fmt.{decimal};
 ghost use Rattle.image_minimal.specs.ImageLanguages as languages;
-ghost use Rattle.ca_findings.specs.Values.{automaton_of, pair_of};
+ghost use Rattle.ca_questions.specs.Values.{automaton_of, pair_of};
 ghost use Rattle.ca_text.specs.Lines.{after_class, automaton_lines, class_line, dead_line};
 ghost use Rattle.ca_text.specs.Texts.{erased_line, same_line};
-ghost use Rattle.ca_findings.specs.Writable.{HasDigits, HasRows, HavePairDigits};
+ghost use Rattle.ca_questions.specs.Writable.{HasDigits, HasRows, HavePairDigits};
 
 use crate::decimals::write_decimal;
 use crate::output::Output;
-use ca_findings::{Automaton, Pair};
+use ca_questions::{Automaton, Pair};
 use std::alloc::{AllocError, Global};
 use word_image::{MOST_STATES, Word};
 

@@ -9,7 +9,7 @@
 //! its own value.
 //!
 //! A word is written with a hexadecimal digit for each letter, so letters must be below 16. The law
-//! `right_findings_are_writable` of ca_findings says that they are, in each right finding about accepted rules.
+//! `right_findings_are_writable` of ca_questions says that they are, in each right finding about accepted rules.
 //!
 //! A text is in memory as a whole, as an [`Output`], and takes time and memory **O(n)** for its n bytes.
 #![tactic(auto)]

@@ -2,11 +2,11 @@
 ghost use Rattle.std.specs.Prelude.{◌≡◌, IfOk};
 ghost use Rattle.word_image.specs.LocalRules.{IsWord};
 ghost use Rattle.tail_preimage.specs.Answers.{placed_config};
-ghost use Rattle.ca_findings.specs.Values.{preimage_of};
+ghost use Rattle.ca_questions.specs.Values.{preimage_of};
 ghost use Rattle.ca_text.specs.Reports.{line};
 ghost use Rattle.ca_text.specs.Lines.{gap_text, placed_text};
 ghost use Rattle.ca_text.specs.Texts.{text_of};
-ghost use Rattle.ca_findings.specs.Writable.{HasTailDigits, IsWritable};
+ghost use Rattle.ca_questions.specs.Writable.{HasTailDigits, IsWritable};
 
 use crate::output::Output;
 use std::alloc::{AllocError, Global};

@@ -1,7 +1,7 @@
 //! The text of a reply.
 ghost use Rattle.std.specs.Prelude.{◌≡◌, IfOk};
-ghost use Rattle.ca_findings.specs.Values.{reply_of};
-ghost use Rattle.ca_findings.specs.Writable.{IsWritableReply};
+ghost use Rattle.ca_questions.specs.Values.{reply_of};
+ghost use Rattle.ca_questions.specs.Writable.{IsWritableReply};
 ghost use Rattle.ca_text.specs.Replies.{reply_text};
 ghost use Rattle.ca_text.specs.StatusLines.{accepted_lines};
 
@@ -9,7 +9,7 @@ use crate::faults::{operand_fault_output, unfit_output};
 use crate::output::Output;
 use crate::texts::text;
 use crate::verdicts::{refused_output, write_accepted};
-use ca_findings::Reply;
+use ca_questions::Reply;
 use cert_conditions::Verdicts;
 use std::alloc::{AllocError, Global};
 

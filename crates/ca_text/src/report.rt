@@ -7,8 +7,8 @@ ghost use Rattle.cert_values.specs.Evidence.InjectiveEvidence.{Window};
 ghost use Rattle.cert_values.specs.Parts.{injective_of, side_of, sum_of};
 ghost use Rattle.certificate_laws.specs.ReportValues.{evidence_of};
 ghost use Rattle.ca_text.specs.Reports.{line, number_line, surjective_line, injective_line, side_line, conserving_line, report_lines};
-ghost use Rattle.ca_findings.specs.Findings.{Finding};
-ghost use Rattle.ca_findings.specs.Writable.{HasDigits, HasTwinDigits, HasRingDigits, IsWritable};
+ghost use Rattle.ca_questions.specs.Findings.{Finding};
+ghost use Rattle.ca_questions.specs.Writable.{HasDigits, HasTwinDigits, HasRingDigits, IsWritable};
 
 use crate::output::Output;
 use cert_conditions::Report;

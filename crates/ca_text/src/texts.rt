@@ -2,12 +2,12 @@
 ghost use Rattle.std.specs.Prelude.{◌≡◌, ◌++◌, codes, IfOk};
 ghost use Rattle.rule_text.specs.PrintedRules.{printed_rule};
 ghost use Rattle.certificate_laws.specs.ReportValues.{evidence_of};
-ghost use Rattle.ca_findings.specs.Values.{counts_of, finding_of};
-ghost use Rattle.ca_findings.specs.Findings.{Finding};
+ghost use Rattle.ca_questions.specs.Values.{counts_of, finding_of};
+ghost use Rattle.ca_questions.specs.Findings.{Finding};
 ghost use Rattle.ca_text.specs.Reports.{line, number_line, report_lines, surjective_line};
 ghost use Rattle.ca_text.specs.Lines.{count_line, counts_lines};
 ghost use Rattle.ca_text.specs.Texts.{text_of};
-ghost use Rattle.ca_findings.specs.Writable.{HasDigits, IsWritable};
+ghost use Rattle.ca_questions.specs.Writable.{HasDigits, IsWritable};
 
 use crate::counts::{write_classes, write_counts};
 use crate::inverses::map_output;
@@ -15,7 +15,7 @@ use crate::languages::{automaton_output, erased_output, same_output};
 use crate::output::Output;
 use crate::preimages::preimage_output;
 use crate::report::{write_number, write_report, write_surjective};
-use ca_findings::{Counts, Found};
+use ca_questions::{Counts, Found};
 use cert_conditions::Report;
 use cert_format::to_bytes;
 use rule_text::print;

@@ -2,7 +2,7 @@
 use Rattle.std.proofs.Common.{◌≢◌, ℕ, zero, suc, ◌^◌, List, [], ◌∷◌, length, slice_index, Contains, Option, refl, sym, subst, subst₂, ⊎_elim, arith}
 use Rattle.word_image.proofs.Common.{AllZip, Contains-get_or, LocalRule, IsRule, word_of, IsSurjective, full_set, first_of, second_of, pair_count, IsFirstOfRight, IsFirstOfLeft, IsFamily, IsLeastWordOf, covers_of, IsLastSet, BeginTogether, EndTogether, IsOrphan-empty_set, IsOrphan-not_surjective}
 use Rattle.word_image.specs.declared.side.Side.TheVariants as side
-use Rattle.eden_laws.proofs.ReachedPairs.{IsPairList-reached}
+use Rattle.garden_laws.proofs.ReachedPairs.{IsPairList-reached}
 use Rattle.tail_config.proofs.Common.{AgreeLeft, AgreeRight}
 use Rattle.tail_laws.proofs.Common.{IsLeftSplit-least}
 use Rattle.cert_values.specs.declared.cert_version.CertVersion.{CertVersion}

@@ -5,9 +5,9 @@ use Rattle.std.proofs.lemmas.Map.Steps.{length-le_from_distinct_below}
 use Rattle.std.proofs.lemmas.Map.Views.{Contains-from_any}
 use Rattle.word_image.proofs.Common.{Decides-eqb, Contains-get_or, LocalRule, IsRule, first_of, second_of, pair_count, IsPairList}
 use Rattle.std.proofs.lemmas.List.Kept.{AllPairs-from_increasing}
-use Rattle.eden_laws.proofs.ReachedPairs.{IsReached-below}
+use Rattle.garden_laws.proofs.ReachedPairs.{IsReached-below}
 use Rattle.cert_conditions.proofs.Common.{EachBelow, FirstIsListed, StepsAreListed}
-use Rattle.eden_laws.specs.ReachedPairs.{AreReached}
+use Rattle.garden_laws.specs.ReachedPairs.{AreReached}
 
 -- a pair list meets the conditions
 pub pair_list-met : {r : LocalRule} {pairs : List ℕ} → IsPairList r pairs

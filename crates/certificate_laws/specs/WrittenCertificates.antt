@@ -11,7 +11,7 @@ use Rattle.cert_values.specs.Certificates.{Certificate}
 use Rattle.cert_values.specs.WrittenTexts.{certificate_text}
 use Rattle.cert_conditions.specs.Accepted.{IsAccepted, verdicts_of}
 use Rattle.certificate_laws.specs.LeastEvidence.{IsLeastEvidence}
-use Rattle.eden_laws.specs.ReachedPairs.{AreReached}
+use Rattle.garden_laws.specs.ReachedPairs.{AreReached}
 
 -- the orphan, if there is one
 abbrev pub orphan_of : SurjectiveEvidence → Option (List ℕ)

@@ -4,7 +4,7 @@ use Rattle.std.specs.List.{range_with_len}
 use Rattle.word_image.proofs.Common.{one-le-pow, some_letter, get_or-map-range_with_len, length-map-range_with_len, LocalRule, IsRule, IsWord, value, word_of, IsPreimage, IsSurjective, IsDetermined, IsWord-image, IsWord-word_of, word_of-value, value-below}
 use Rattle.tail_config.proofs.Common.{IsInjective, WindowMap, IsInverseMap, image_of}
 use Rattle.tail_laws.proofs.Common.{IsInjective-window}
-use Rattle.eden_laws.proofs.Preinjective.{IsSurjective-injective}
+use Rattle.garden_laws.proofs.Preinjective.{IsSurjective-injective}
 use Rattle.config_laws.specs.Maps.{IsBijectiveMap}
 use Rattle.config_laws.proofs.Images.{IsConfig-image}
 use Rattle.config_laws.proofs.Injective.{IsInjective-everywhere}

@@ -2,8 +2,8 @@
 use Rattle.std.proofs.Common.{◌≡◌, ◌≢◌, ℕ, zero, suc, ◌+◌, ◌-◌, ◌<◌, ◌≤◌, List, [], ◌++◌, length, take, drop, get_or, refl, sym, ap, ap₂, ◌∙◌, subst, arith, length-append, length-drop, take-append-drop, take_at, drop_at, append_assoc, append-nil, get_or-append-add, length-take-le}
 use Rattle.word_image.proofs.Common.{take-append-le, get_or_append_left, All-nil, All-append, All-drop, LocalRule, IsRule, IsWord, value, node_count, image, IsPreimage, IsSurjective, IsErasable, value-injective, IsWord-image, length-image, image-drop, twice_below}
 use Rattle.pair_laws.proofs.Common.{image-cut, image-join}
-use Rattle.eden_laws.proofs.Blocks.{last-below}
-use Rattle.eden_laws.proofs.GardenOfEden.{garden_of_eden}
+use Rattle.garden_laws.proofs.Blocks.{last-below}
+use Rattle.garden_laws.proofs.GardenOfEden.{garden_of_eden}
 
 -- two words differ at a place of both
 abbrev pub Apart : List ℕ → List ℕ → Type 0

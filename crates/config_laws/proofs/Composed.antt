@@ -4,7 +4,7 @@ use Rattle.std.proofs.Math.Path.{fun_ext}
 use Rattle.word_image.proofs.Common.{ints, by_lt_z, LocalRule, IsRule, IsWord, image, IsSurjective, IsConserving, mirrored, IsRule-mirrored}
 use Rattle.tail_config.proofs.Common.{Config, IsConfig, run, image_of, AgreeFarLeft, AgreeFarRight, IsInjective, IsRightClosing, IsLeftClosing, IsOpen, length-run, IsWord-run, image-run, same-run, image_of-window}
 use Rattle.tail_laws.proofs.Common.{IsRightClosing-window, IsLeftClosing-mirrored}
-use Rattle.eden_laws.proofs.Preinjective.{IsSurjective-right_closing}
+use Rattle.garden_laws.proofs.Preinjective.{IsSurjective-right_closing}
 use Rattle.config_laws.specs.Maps.{IsRightClosingMap}
 use Rattle.config_laws.specs.Composed.{IsOneAfter, IsUndoneBy}
 use Rattle.config_laws.proofs.Images.{IsConfig-image}

@@ -3,8 +3,8 @@ use Rattle.std.proofs.Common.{◌≡◌, ℕ, suc, ◌+◌, ◌*◌, ◌<◌, �
 use Rattle.std.proofs.Math.Path.{fun_ext}
 use Rattle.word_image.proofs.Common.{cases_lt, ints, by_lt_z, mul-le, mod-mul-add, get_or_past, get_or_default, LocalRule, IsRule, IsWord, IsSurjective, IsRing, ring_letter, IsErasable, ring_letter-below}
 use Rattle.tail_config.proofs.Common.{DifferAt, differ_at, Config, IsConfig, run, image_of, run-by_letters}
-use Rattle.eden_laws.proofs.Exchange.{IsErasable-long, image_of-exchange}
-use Rattle.eden_laws.proofs.GardenOfEden.{garden_of_eden}
+use Rattle.garden_laws.proofs.Exchange.{IsErasable-long, image_of-exchange}
+use Rattle.garden_laws.proofs.GardenOfEden.{garden_of_eden}
 use Rattle.config_laws.specs.Maps.{Differ, AreMany}
 use Rattle.config_laws.proofs.Joined.{joined, joined-left, joined-right, IsConfig-joined}
 

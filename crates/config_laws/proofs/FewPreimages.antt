@@ -1,8 +1,8 @@
 -- Under a surjective rule no more configurations than there are nodes have one image (Hedlund 1969).
 use Rattle.std.proofs.Common.{◌≡◌, ◌≢◌, ◌⊎◌, ℕ, suc, ◌+◌, ◌-◌, ◌<◌, ◌≤◌, ◌↔◌, inl, inr, ⊎_elim, ℤ, pos, ◌+ℤ◌, ◌-ℤ◌, neg_ℤ, unsigned_abs, sym, ap, ◌∙◌, subst, arith}
 use Rattle.word_image.proofs.Common.{cases_lt, ints, LocalRule, IsRule, node_count, IsPreimage, IsSurjective, twice_below}
-use Rattle.eden_laws.specs.Preimages.{HasPreimages}
-use Rattle.eden_laws.proofs.Balance.{IsSurjective-IsBalanced}
+use Rattle.garden_laws.specs.Preimages.{HasPreimages}
+use Rattle.garden_laws.proofs.Balance.{IsSurjective-IsBalanced}
 use Rattle.tail_config.proofs.Common.{Config, run, image_of, IsWord-run, same-run}
 use Rattle.config_laws.specs.Maps.{Differ, AreMany}
 use Rattle.config_laws.proofs.Images.{IsConfig-image, IsPreimage-run}

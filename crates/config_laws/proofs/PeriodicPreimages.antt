@@ -2,8 +2,8 @@
 use Rattle.std.proofs.Common.{◌≡◌, ◌⊎◌, ℕ, zero, suc, ◌+◌, ◌-◌, ◌*◌, ◌<◌, ◌≤◌, ◌↔◌, inl, inr, ⊎_elim, List, length, ℤ, pos, ◌+ℤ◌, ◌-ℤ◌, neg_ℤ, unsigned_abs, refl, sym, ap, ◌∙◌, subst, arith, mul_comm, ◌<ℤ◌, ◌≤ℤ◌}
 use Rattle.std.proofs.Math.Path.{fun_ext}
 use Rattle.word_image.proofs.Common.{cases_eq, ints, by_lt_z, mul-le, LocalRule, IsRule, node_count, IsSurjective, IsErasable, ring_letter}
-use Rattle.eden_laws.proofs.Exchange.{IsErasable-long}
-use Rattle.eden_laws.proofs.GardenOfEden.{garden_of_eden}
+use Rattle.garden_laws.proofs.Exchange.{IsErasable-long}
+use Rattle.garden_laws.proofs.GardenOfEden.{garden_of_eden}
 use Rattle.tail_config.proofs.Common.{DifferAt, differ_at, Config, IsConfig, image_of}
 use Rattle.config_laws.specs.Periodic.{HasPeriod, HasPeriodicPreimages}
 use Rattle.config_laws.proofs.Images.{image_of-moved}

@@ -3,8 +3,8 @@ use Rattle.std.proofs.Common.{◌↔◌, ap}
 use Rattle.std.proofs.Math.Path.{fun_ext}
 use Rattle.word_image.proofs.Common.{LocalRule, IsRule, IsSurjective}
 use Rattle.tail_config.proofs.Common.{Config, cell, cell-below}
-use Rattle.eden_laws.proofs.GardenOfEden.{garden_of_eden}
-use Rattle.eden_laws.proofs.Preinjective.{IsSurjective-preinjective, agree_between}
+use Rattle.garden_laws.proofs.GardenOfEden.{garden_of_eden}
+use Rattle.garden_laws.proofs.Preinjective.{IsSurjective-preinjective, agree_between}
 use Rattle.config_laws.specs.Maps.{IsPreinjectiveMap}
 
 -- a rule is surjective exactly if it is preinjective

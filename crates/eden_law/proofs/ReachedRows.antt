@@ -4,9 +4,9 @@ use Rattle.word_image.proofs.Common.{cases_eq, le_or_l, or_lt, LocalRule, IsRule
 use Rattle.std.proofs.lemmas.List.{length-set}
 use Rattle.pair_laws.proofs.Common.{next-digits, row_cases, HasBit-or, IsBitSet-minus, IsBitSet-shl, first_of-pair_of, second_of-pair_of, first_of-below, second_of-below, follow-pair_of, follow-some, follow-below}
 use Rattle.word_image.specs.declared.side.Side.TheVariants.{Right}
-use Rattle.eden_laws.specs.ReachedPairs.{IsReached}
-use Rattle.eden_laws.specs.ReachedPairs.IsReached.{First, On}
-use Rattle.eden_laws.proofs.ReachedPairs.{IsSurjective-reached, IsReached-below, holds-reached}
+use Rattle.garden_laws.specs.ReachedPairs.{IsReached}
+use Rattle.garden_laws.specs.ReachedPairs.IsReached.{First, On}
+use Rattle.garden_laws.proofs.ReachedPairs.{IsSurjective-reached, IsReached-below, holds-reached}
 use Rattle.eden_law.specs.ReachedRows.{LeadsApart, LeadsBeside, AreNodeRows, AreAdded, IsRowSearch}
 
 -- with no letter nothing is added

@@ -2,7 +2,7 @@
 use Rattle.std.specs.Prelude.{◌≡◌, ◌≢◌, ℕ, ◌<◌, ◌≤◌, ◌⊎◌, ◌↔◌, List, length, slice_index, IsBitSet}
 use Rattle.word_image.specs.LocalRules.{LocalRule, node_count, most_nodes}
 use Rattle.word_image.specs.Graphs.{next, label, pair_of, HasBit, AreSets}
-use Rattle.eden_laws.specs.ReachedPairs.{IsReached}
+use Rattle.garden_laws.specs.ReachedPairs.{IsReached}
 
 -- a letter other than a leads from the node to v, with the same label as a
 pub record LeadsApart (r : LocalRule) (node a v : ℕ) : Type 0 where

@@ -1,7 +1,7 @@
 -- How many edges from each node have the label 0.
 use Rattle.std.specs.Prelude.{◌≡◌, ℕ, ◌+◌, ◌*◌, ◌<◌, ◌≤◌, ◌==◌, List, slice_index}
 use Rattle.word_image.specs.LocalRules.{most_nodes}
-use Rattle.table_laws.specs.ZeroPairs.{count_below}
+use Rattle.garden_laws.specs.ZeroPairs.{count_below}
 
 -- the row has the number for each of the first n nodes, at most 16
 pub record AreZeroEdges (k : ℕ) (table : List ℕ) (n : ℕ) (row : List ℕ) : Type 0 where

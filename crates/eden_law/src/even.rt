@@ -2,7 +2,7 @@
 ghost use Rattle.std.specs.Prelude.{◌≡◌, ◌==◌, ◌≤◌, ◌↔◌, length, count_by, IsTrue};
 ghost use Rattle.word_image.specs.LocalRules.{LocalRule, IsRule, most_states, most_windows};
 ghost use Rattle.word_image.specs.Words.{IsSurjective};
-ghost use Rattle.table_laws.specs.Tables.{IsEven};
+ghost use Rattle.garden_laws.specs.Tables.{IsEven};
 
 /// Returns whether all k letters occur equally often in a table. If they don't, no rule with this table is
 /// surjective.

@@ -2,7 +2,7 @@
 ghost use Rattle.std.specs.Prelude.{◌≡◌, ◌==◌, ℕ, ◌+◌, ◌*◌, ◌<◌, ◌≤◌, ◌↔◌, length, slice_index, IsTrue};
 ghost use Rattle.word_image.specs.LocalRules.{LocalRule, IsRule, most_nodes, most_states, most_windows};
 ghost use Rattle.word_image.specs.Words.{IsSurjective};
-ghost use Rattle.table_laws.specs.ZeroPairs.{count_below, gives_zeros, zero_pairs};
+ghost use Rattle.garden_laws.specs.ZeroPairs.{count_below, gives_zeros, zero_pairs};
 ghost use Rattle.eden_law.specs.ZeroEdges.{AreZeroEdges};
 
 use word_image::MOST_NODES;

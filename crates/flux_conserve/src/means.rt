@@ -2,7 +2,7 @@
 ghost use Rattle.std.specs.Prelude.{◌≡◌, ◌+◌, ◌-◌, ◌*◌, ◌<◌, ◌≤◌, ◌↔◌, length, slice_index, sum, IsTrue};
 ghost use Rattle.word_image.specs.LocalRules.{LocalRule, IsRule, most_windows};
 ghost use Rattle.word_image.specs.Rings.{IsConserving};
-ghost use Rattle.table_laws.specs.Tables.{HasMean};
+ghost use Rattle.garden_laws.specs.Tables.{HasMean};
 
 /// Returns whether the letters of a table have the mean of k letters, (k - 1) / 2. If they don't, a rule with this
 /// table changes the sum of some ring, if each letter weighs its own value.

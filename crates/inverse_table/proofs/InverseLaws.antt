@@ -3,7 +3,7 @@ use Rattle.std.proofs.Common.{◌≡◌, ℕ, ◌+◌, ◌-◌, ◌/◌, ◌%◌
 use Rattle.word_image.proofs.Common.{range_with_len, ints, fill_by_all, length-map-range_with_len, All-from_get_or, All-take, All-drop, LocalRule, IsRule, IsWord, value, word_of, local_map, image, IsPreimage, IsSurjective, IsDetermined, value-below, value-injective, length-word_of, IsWord-word_of, value-word_of, IsWord-image, length-image, get_or-image, image-drop, image-take, letter-value}
 use Rattle.tail_config.proofs.Common.{run, image_of, TailConfig, IsTail, cell, cells, image_cell, length-run, get_or-run, IsWord-run, image-run, cell-below, WindowMap, IsInverseMap, map_letter}
 use Rattle.tail_laws.proofs.Common.{IsInjective-determined}
-use Rattle.eden_laws.proofs.Preinjective.{IsSurjective-injective}
+use Rattle.garden_laws.proofs.Preinjective.{IsSurjective-injective}
 use Rattle.inverse_table.specs.InverseMaps.{GivesBack, map_image}
 use Rattle.inverse_table.specs.MapLimits.{IsWindowMap}
 use Rattle.inverse_table.specs.InverseFaults.{IsApartAt}

@@ -1,7 +1,7 @@
 -- What fixed letters alone lead to is reached in each rule that has them.
 use Rattle.std.proofs.Common.{◌≡◌, ℕ, List}
 use Rattle.word_image.proofs.Common.{LocalRule, IsRule, first_of, second_of}
-use Rattle.eden_laws.specs.ReachedPairs.{IsReached}
+use Rattle.garden_laws.specs.ReachedPairs.{IsReached}
 use Rattle.rule_lists.specs.Completions.{IsCompletion, IsLost}
 use Rattle.rule_lists.specs.Reached.{IsFixedReached}
 use Rattle.rule_lists.specs.Reached.IsFixedReached.{First, On}

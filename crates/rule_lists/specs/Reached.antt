@@ -1,7 +1,7 @@
 -- Pairs of nodes that the fixed letters of a table already reach.
 use Rattle.std.specs.Prelude.{ℕ, List}
 use Rattle.word_image.specs.LocalRules.{LocalRule}
-use Rattle.eden_laws.specs.ReachedPairs.{IsReached}
+use Rattle.garden_laws.specs.ReachedPairs.{IsReached}
 use Rattle.rule_lists.specs.Completions.{IsCompletion}
 use Rattle.rule_lists.specs.EndlessPairs.{IsFixedStep, IsFixedFirst}
 

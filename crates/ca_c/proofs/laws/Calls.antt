@@ -1,6 +1,6 @@
 -- What is handed back, in the words of the code.
 use Rattle.std.proofs.Common.{◌≡◌, ◌≢◌, ℕ, ◌≤◌, List, ◌++◌, length, drop, sym, ap, subst, ◌∙◌, arith}
-use Rattle.ca_findings.proofs.Common.{Reply}
+use Rattle.ca_questions.proofs.Common.{Reply}
 use Rattle.ca_cli.specs.declared.status.Status.{Status}
 use Rattle.ca_cli.specs.Statuses.{code_of, reply_status}
 use Rattle.ca_c.specs.Calls.{IsAnswerIn, IsHandedBack}

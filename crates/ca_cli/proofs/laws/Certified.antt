@@ -6,19 +6,19 @@ use Rattle.cert_values.proofs.Common.{Certificate, certificate_text}
 use Rattle.cert_conditions.proofs.Common.{IsAccepted, AreTrue, verdicts_of, AreTrue-accepted}
 use Rattle.cert_conditions.specs.declared.verdicts.Verdicts.{Verdicts}
 use Rattle.certificate_laws.specs.WrittenCertificates.{IsWritten}
-use Rattle.ca_words.specs.Commands.{Command, IsCommand, check_command, words_of}
-use Rattle.ca_findings.proofs.Common.{Question, Finding, IsFinding, weights_by, Reply}
+use Rattle.ca_commands.specs.Commands.{Command, IsCommand, check_command, words_of}
+use Rattle.ca_questions.proofs.Common.{Question, Finding, IsFinding, weights_by, Reply}
 use Rattle.ca_text.specs.Texts.{text_of}
 use Rattle.ca_text.specs.Replies.{reply_text}
 use Rattle.ca_text.specs.StatusLines.{accepted_lines}
 use Rattle.ca_cli.specs.declared.status.Status.{Status}
 use Rattle.ca_cli.specs.declared.status.Status.TheVariants as status
-use Rattle.ca_words.specs.Asked.{IsAsked}
+use Rattle.ca_commands.specs.Asked.{IsAsked}
 use Rattle.ca_cli.specs.Inputs.{most_input}
 use Rattle.ca_cli.specs.RightAnswers.{IsReply, IsReplyOf}
 use Rattle.ca_cli.specs.Statuses.{reply_status}
 use Rattle.ca_cli.specs.RightAnswers.IsReply.{Found, NoFit, RuleFault, Accepted, Refused, TooLong}
-use Rattle.ca_words.proofs.laws.Asked.{IsAsked-unique, IsAsked-reads_nothing}
+use Rattle.ca_commands.proofs.laws.Asked.{IsAsked-unique, IsAsked-reads_nothing}
 use Rattle.ca_cli.proofs.laws.CheckAnswers.{accepted_exactly}
 
 -- what is said of a text that is a written certificate

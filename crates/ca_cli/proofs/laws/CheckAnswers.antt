@@ -4,9 +4,9 @@ use Rattle.cert_conditions.proofs.Common.{IsAccepted, IsRefusal, AreTrue-accepte
 use Rattle.cert_conditions.specs.declared.refusal.Refusal.{Refusal}
 use Rattle.cert_conditions.specs.declared.verdicts.Verdicts.{Verdicts}
 use Rattle.cert_conditions.proofs.laws.OneAnswer.{IsAccepted-unique, IsRefusal-unique, accepted_not_refused}
-use Rattle.ca_words.specs.declared.names.Name.TheVariants as name
-use Rattle.ca_words.specs.Commands.{Command, IsCommand, check_command}
-use Rattle.ca_findings.proofs.Common.{Reply}
+use Rattle.ca_commands.specs.declared.names.Name.TheVariants as name
+use Rattle.ca_commands.specs.Commands.{Command, IsCommand, check_command}
+use Rattle.ca_questions.proofs.Common.{Reply}
 use Rattle.ca_text.specs.Replies.{reply_text}
 use Rattle.ca_text.specs.StatusLines.{accepted_lines, refused_line, too_long_line}
 use Rattle.ca_cli.specs.declared.status.Status.{Status}
@@ -15,7 +15,7 @@ use Rattle.ca_cli.specs.Inputs.{most_input}
 use Rattle.ca_cli.specs.Statuses.{reply_status}
 use Rattle.ca_cli.specs.RightAnswers.{IsReply, IsReplyOf, IsAnswer}
 use Rattle.ca_cli.specs.RightAnswers.IsReply.{Found, NoFit, RuleFault, Accepted, Refused, TooLong}
-use Rattle.ca_words.proofs.laws.Asked.{IsAsked-reads_nothing, IsOperandFault-reads_nothing}
+use Rattle.ca_commands.proofs.laws.Asked.{IsAsked-reads_nothing, IsOperandFault-reads_nothing}
 use Rattle.ca_cli.proofs.laws.RightAnswers.{right_exactly, reply_alone}
 
 -- the reply has the status and the text of another

@@ -2,17 +2,17 @@
 use Rattle.std.proofs.Common.{◌≡◌, ℕ, ◌≤◌, List, [], length, refl, sym, ap, ◌∙◌, subst, arith, Option, Some}
 use Rattle.rule_text.specs.declared.text_fault.TextFault.{TextFault}
 use Rattle.cert_conditions.proofs.Common.{IsAccepted, IsRefusal}
-use Rattle.ca_words.specs.Commands.{Command, IsCommand}
-use Rattle.ca_findings.proofs.Common.{Reply}
+use Rattle.ca_commands.specs.Commands.{Command, IsCommand}
+use Rattle.ca_questions.proofs.Common.{Reply}
 use Rattle.ca_cli.specs.declared.status.Status.{Status}
 use Rattle.ca_cli.specs.declared.status.Status.TheVariants as status
-use Rattle.ca_words.specs.Asked.{IsOperandFault}
+use Rattle.ca_commands.specs.Asked.{IsOperandFault}
 use Rattle.ca_cli.specs.Inputs.{IsWholeInput, most_input}
 use Rattle.ca_cli.specs.Readings.{ReadsNothing}
 use Rattle.ca_cli.specs.RightAnswers.{IsReply, IsReplyTo, IsAnswer}
 use Rattle.ca_cli.specs.Statuses.{reply_status}
 use Rattle.ca_cli.specs.RightAnswers.IsReply.{Found, NoFit, RuleFault, Accepted, Refused, TooLong}
-use Rattle.ca_words.proofs.laws.Asked.{IsAsked-no_fault, IsOperandFault-reads_nothing}
+use Rattle.ca_commands.proofs.laws.Asked.{IsAsked-no_fault, IsOperandFault-reads_nothing}
 use Rattle.ca_cli.proofs.laws.RightAnswers.{FoundOrUnfit, to_command, found_says, not_fit_says}
 use Rattle.ca_cli.proofs.laws.CheckAnswers.{accepted_alone, refused_alone, long_alone}
 

@@ -1,19 +1,19 @@
 -- What the right answers to words have in common.
 use Rattle.std.proofs.Common.{◌≡◌, ◌≢◌, ℕ, List, refl, sym, ◌∙◌, subst, Option, ◌↔◌}
 use Rattle.rule_text.specs.declared.text_fault.TextFault.{TextFault}
-use Rattle.ca_words.specs.Commands.{Command, IsCommand}
-use Rattle.ca_words.proofs.laws.Names.{IsCommand-unique}
-use Rattle.ca_findings.proofs.Common.{Question, Finding, Unfit, IsFinding, IsUnfitFor, Reply}
+use Rattle.ca_commands.specs.Commands.{Command, IsCommand}
+use Rattle.ca_commands.proofs.laws.Names.{IsCommand-unique}
+use Rattle.ca_questions.proofs.Common.{Question, Finding, Unfit, IsFinding, IsUnfitFor, Reply}
 use Rattle.ca_text.specs.Replies.{reply_text}
 use Rattle.ca_text.specs.StatusLines.{usage_line, operand_fault_line}
 use Rattle.ca_cli.specs.declared.status.Status.{Status}
 use Rattle.ca_cli.specs.declared.status.Status.TheVariants as status
 use Rattle.ca_cli.specs.Statuses.{IsAnswered, reply_status}
-use Rattle.ca_words.specs.Asked.{IsAsked, IsOperandFault}
+use Rattle.ca_commands.specs.Asked.{IsAsked, IsOperandFault}
 use Rattle.ca_cli.specs.Readings.{ReadsNothing}
 use Rattle.ca_cli.specs.RightAnswers.{IsReply, IsReplyOf, IsReplyTo, IsAnswer}
 use Rattle.ca_cli.specs.RightAnswers.IsReply.{Found, NoFit, RuleFault, Accepted, Refused, TooLong}
-use Rattle.ca_words.proofs.laws.Asked.{IsAsked-unique, IsAsked-no_fault, IsAsked-reads_nothing}
+use Rattle.ca_commands.proofs.laws.Asked.{IsAsked-unique, IsAsked-no_fault, IsAsked-reads_nothing}
 
 -- no answer is a failed write or want of memory
 answered : (reply : Reply) → IsAnswered (reply_status reply)
@@ -73,7 +73,7 @@ pub rule_fault_says : {words : List (List ℕ)} {input : Option (List ℕ)} {out
     → (c : Command) × (i : ℕ) × (f : TextFault) × IsCommand words c × IsOperandFault c i f × (out ≡ operand_fault_line i f)
 rule_fault_says answer = let (c, i, f, is, fault, line) = fault_to answer.right answer.status_is in (c, i, f, is, fault, answer.output_is ∙ line)
 
--- no question has both a right finding and a right cause, as the law `found_or_unfit` of ca_findings says
+-- no question has both a right finding and a right cause, as the law `found_or_unfit` of ca_questions says
 abbrev pub FoundOrUnfit : Type 0
 FoundOrUnfit = (q : Question) (f : Finding) (u : Unfit) → IsFinding q f → ¬ IsUnfitFor q u
 

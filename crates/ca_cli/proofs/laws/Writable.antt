@@ -3,11 +3,11 @@ use Rattle.std.proofs.Common.{ℕ, List, ◌∷◌, inl, inr, Option, ◌⊎◌}
 use Rattle.std.specs.Prelude.{⊤}
 use Rattle.word_image.proofs.Common.{LocalRule, IsRule}
 use Rattle.rule_text.proofs.laws.AcceptedRules.{IsRule-text}
-use Rattle.ca_words.specs.declared.names.Name.{Name}
-use Rattle.ca_findings.proofs.Common.{Question, AreRules, Finding, Unfit, IsFinding, IsUnfitFor, Reply}
-use Rattle.ca_findings.specs.Writable.{IsWritable, IsWritableUnfit, IsWritableReply}
-use Rattle.ca_words.specs.Commands.{Command}
-use Rattle.ca_words.specs.Asked.{AreRuleTexts, Asks}
+use Rattle.ca_commands.specs.declared.names.Name.{Name}
+use Rattle.ca_questions.proofs.Common.{Question, AreRules, Finding, Unfit, IsFinding, IsUnfitFor, Reply}
+use Rattle.ca_questions.specs.Writable.{IsWritable, IsWritableUnfit, IsWritableReply}
+use Rattle.ca_commands.specs.Commands.{Command}
+use Rattle.ca_commands.specs.Asked.{AreRuleTexts, Asks}
 use Rattle.ca_cli.specs.RightAnswers.{IsReply, IsReplyTo}
 
 -- the question is one of many rules

@@ -11,7 +11,7 @@ use Rattle.cert_values.proofs.Common.{InjectiveEvidence, SideEvidence, SumEviden
 use Rattle.cert_format.proofs.laws.PlainValues.{IsPlain-certificate}
 use Rattle.certificate_laws.specs.LeastEvidence.{Evidence}
 use Rattle.rule_text.specs.PrintedRules.{number_found}
-use Rattle.ca_findings.proofs.Common.{Finding, Unfit, Reply}
+use Rattle.ca_questions.proofs.Common.{Finding, Unfit, Reply}
 use Rattle.ca_json.specs.Values.{members_of, numbers_json, number_or_null, word_or_null, surjective_json, injective_json, side_json, conserving_json}
 use Rattle.ca_json.specs.Findings.{rule_or_null, pair_or_null, report_json, inverse_json, row_json, automaton_json, finding_json}
 use Rattle.ca_json.specs.Causes.{unfit_json, operand_json, named, places_json, parts_json}

@@ -1,7 +1,7 @@
 -- What is said of surjectivity by listed sets, listed pairs or an orphan is true where its conditions are met.
 use Rattle.std.proofs.Common.{◌≢◌, length, slice_index, Contains, refl, ◌↔◌, IsTrue}
 use Rattle.word_image.proofs.Common.{false≢true, LocalRule, IsRule, IsSurjective, full_set, first_of, second_of, pair_count, IsOrphan-not_surjective}
-use Rattle.eden_laws.proofs.ReachedPairs.{IsSurjective-pair_list}
+use Rattle.garden_laws.proofs.ReachedPairs.{IsSurjective-pair_list}
 use Rattle.cert_values.specs.declared.cert_version.CertVersion.{CertVersion}
 use Rattle.cert_values.proofs.Common.{SurjectiveEvidence, IsSurjectiveShape, Sets, Pairs, Orphan}
 use Rattle.cert_conditions.specs.Breaches.{EachBelow}

@@ -1,9 +1,9 @@
 -- What the table of a rule shows before the rule is looked at.
 use Rattle.std.proofs.Common.{◌<◌, ◌≤◌, length, arith}
 use Rattle.word_image.proofs.Common.{one-le-pow, LocalRule, IsRule, IsSurjective}
-use Rattle.table_laws.specs.Tables.{HasMean}
-use Rattle.table_laws.proofs.MeanTables.{HasMean-even}
-use Rattle.table_laws.proofs.EvenTables.{IsEven-surjective}
+use Rattle.garden_laws.specs.Tables.{HasMean}
+use Rattle.garden_laws.proofs.MeanTables.{HasMean-even}
+use Rattle.garden_laws.proofs.EvenTables.{IsEven-surjective}
 
 -- a table has a letter
 pub some_letters : {r : LocalRule} → IsRule r → 0 < length r.table

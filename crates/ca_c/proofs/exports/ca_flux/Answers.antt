@@ -3,7 +3,7 @@ use Rattle.word_image.proofs.Common.{false≢true, LocalRule}
 use Rattle.kept_sums.specs.Sums.{IsKept}
 use Rattle.kept_sums.specs.Rows.{at, IsSmall}
 use Rattle.kept_sums.specs.Fluxes.{IsFluxList}
-use Rattle.c_values.specs.RuleSums.{IsFluxCall}
+use Rattle.c_structs.specs.RuleSums.{IsFluxCall}
 use Rattle.ca_c.specs.Weights.{first_weights}
 use Rattle.ca_c.proofs.exports.ca_flux.Goals as goal
 

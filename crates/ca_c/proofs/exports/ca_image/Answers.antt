@@ -2,8 +2,8 @@ use Rattle.std.proofs.Common.{ℕ, ℤ, of_z, to_z, w64, w8, sym, subst, ap, ◌
 use Rattle.std.proofs.lemmas.Int.{to_z-of_z}
 use Rattle.word_image.proofs.Common.{LocalRule, rule_fault}
 use Rattle.tail_config.proofs.Common.{config_of}
-use Rattle.c_values.specs.Images.{IsImageCall}
-use Rattle.c_values.specs.Reports.{rule_with}
+use Rattle.c_structs.specs.Images.{IsImageCall}
+use Rattle.c_structs.specs.Reports.{rule_with}
 use Rattle.ca_c.proofs.exports.ca_image.Goals as goal
 
 pub returns-in-Ok : goal.returns-in-Ok

@@ -1,7 +1,7 @@
 use Rattle.std.proofs.Common.{◌≡◌, ◌^◌, ◌≤◌, length, refl, sym, ◌∙◌, arith}
 use Rattle.word_image.proofs.Common.{false≢true}
-use Rattle.c_values.specs.NextRules.{IsNext, IsQuestion}
-use Rattle.c_values.proofs.laws.NextRules.{IsNext-fault, IsNext-no_order, IsNext-no_beginning, IsNext-none, IsNext-rule, IsQuestion-size, size-rule_of_table}
+use Rattle.c_structs.specs.NextRules.{IsNext, IsQuestion}
+use Rattle.c_structs.proofs.laws.NextRules.{IsNext-fault, IsNext-no_order, IsNext-no_beginning, IsNext-none, IsNext-rule, IsQuestion-size, size-rule_of_table}
 use Rattle.ca_c.proofs.exports.ca_next_rule.Goals as goal
 
 pub returns-in-Err : goal.returns-in-Err

@@ -1,8 +1,8 @@
 use Rattle.std.proofs.Common.{◌≡◌, w8, FitsSigned, to_z, of_z, refl, sym, ap, subst, length, ◌∙◌, rules}
 use Rattle.word_image.proofs.Common.{false≢true}
 use Rattle.std.proofs.lemmas.Int.{to_z-of_z}
-use Rattle.c_values.specs.Reports.{IsReported, IsReportCall, named_weights, rule_with}
-use Rattle.c_values.proofs.laws.Reports.{IsReportCall-whole, IsReportCall-short}
+use Rattle.c_structs.specs.Reports.{IsReported, IsReportCall, named_weights, rule_with}
+use Rattle.c_structs.proofs.laws.Reports.{IsReportCall-whole, IsReportCall-short}
 use Rattle.ca_c.proofs.exports.ca_report.Goals as goal
 
 pub returns-then-put : goal.returns-then-put

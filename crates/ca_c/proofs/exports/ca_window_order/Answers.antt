@@ -1,6 +1,6 @@
 use Rattle.std.proofs.Common.{refl, sym, ◌∙◌}
-use Rattle.c_values.specs.NextRules.{IsWindowOrder}
-use Rattle.c_values.proofs.laws.NextRules.{IsWindowOrder-fault, IsWindowOrder-length, IsWindowOrder-order}
+use Rattle.c_structs.specs.NextRules.{IsWindowOrder}
+use Rattle.c_structs.proofs.laws.NextRules.{IsWindowOrder-fault, IsWindowOrder-length, IsWindowOrder-order}
 use Rattle.ca_c.proofs.exports.ca_window_order.Goals as goal
 
 pub returns-in-Err : goal.returns-in-Err

@@ -4,11 +4,11 @@ use Rattle.cert_conditions.specs.declared.refusal.Refusal.{Refusal}
 use Rattle.cert_conditions.specs.declared.refusal.Refusal.TheVariants as refusal
 use Rattle.ca_io.specs.declared.input.InputFault.{InputFault}
 use Rattle.ca_io.specs.declared.input.InputFault.TheVariants as fault
-use Rattle.ca_words.specs.declared.names.Name.TheVariants as name
-use Rattle.ca_words.specs.Commands.{Command}
-use Rattle.ca_findings.specs.declared.reply.Reply as code
-use Rattle.ca_findings.specs.declared.reply.Reply.TheVariants as said
-use Rattle.ca_findings.proofs.Common.{reply_of}
+use Rattle.ca_commands.specs.declared.names.Name.TheVariants as name
+use Rattle.ca_commands.specs.Commands.{Command}
+use Rattle.ca_questions.specs.declared.reply.Reply as code
+use Rattle.ca_questions.specs.declared.reply.Reply.TheVariants as said
+use Rattle.ca_questions.proofs.Common.{reply_of}
 use Rattle.ca_cli.specs.Inputs.{most_input, IsWholeInput}
 use Rattle.ca_cli.specs.RightAnswers.{IsReply}
 use Rattle.ca_cli.proofs.laws.Inputs.{IsLongInput-taken, IsWholeInput-taken}

@@ -1,6 +1,6 @@
 use Rattle.std.proofs.Common.{refl}
 use Rattle.word_image.proofs.Common.{IfOk-weaker}
-use Rattle.ca_words.specs.Commands.{check_command}
+use Rattle.ca_commands.specs.Commands.{check_command}
 use Rattle.ca_cli.specs.RightAnswers.{IsReplyTo}
 use Rattle.ca_cli.proofs.replies.reply.Goals as goal
 

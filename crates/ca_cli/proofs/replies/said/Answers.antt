@@ -1,5 +1,5 @@
 use Rattle.std.proofs.Common.{subst}
-use Rattle.ca_words.specs.Asking.{IsStop}
+use Rattle.ca_commands.specs.Asking.{IsStop}
 use Rattle.ca_cli.specs.Outcomes.{IsOutcome}
 use Rattle.ca_cli.specs.RightAnswers.{IsReply, IsReplyTo}
 use Rattle.ca_cli.proofs.replies.said.Goals as goal

@@ -1,5 +1,5 @@
 use Rattle.std.proofs.Common.{refl}
-use Rattle.ca_findings.proofs.Common.{Reply}
+use Rattle.ca_questions.proofs.Common.{Reply}
 use Rattle.ca_cli.specs.RightAnswers.{IsReply, IsReplyTo}
 use Rattle.ca_cli.proofs.laws.RightAnswers.{rule_fault_says}
 use Rattle.ca_cli.proofs.theorems.rule_fault_exactly.Goals as goal

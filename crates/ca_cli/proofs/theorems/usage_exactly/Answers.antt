@@ -1,5 +1,5 @@
 use Rattle.std.proofs.Common.{refl}
-use Rattle.ca_findings.proofs.Common.{Reply}
+use Rattle.ca_questions.proofs.Common.{Reply}
 use Rattle.ca_cli.specs.RightAnswers.{IsReplyTo}
 use Rattle.ca_cli.proofs.laws.RightAnswers.{usage_says}
 use Rattle.ca_cli.proofs.theorems.usage_exactly.Goals as goal

@@ -2,7 +2,7 @@ use Rattle.std.proofs.Common.{List, [], ◌∷◌, ◌++◌, map, ap, ap₂, sym
 use Rattle.word_image.proofs.Common.{map-append, map-range_with_len_more}
 use Rattle.serde_json.specs.Data.{Data}
 use Rattle.serde_json.specs.View.{view}
-use Rattle.ca_findings.proofs.Common.{automaton_of}
+use Rattle.ca_questions.proofs.Common.{automaton_of}
 use Rattle.ca_json.specs.Findings.{row_json}
 use Rattle.ca_json.proofs.languages.rows_value.Goals as goal
 

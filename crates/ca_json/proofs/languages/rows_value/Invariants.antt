@@ -1,7 +1,7 @@
 use Rattle.std.proofs.Common.{◌≡◌, map}
 use Rattle.word_image.proofs.Common.{range_with_len}
 use Rattle.serde_json.specs.View.{view}
-use Rattle.ca_findings.proofs.Common.{automaton_of}
+use Rattle.ca_questions.proofs.Common.{automaton_of}
 use Rattle.ca_json.specs.Findings.{row_json}
 use Rattle.ca_json.proofs.languages.rows_value.Given as goal
 

@@ -1,7 +1,7 @@
 use Rattle.std.proofs.Common.{◌∙◌, ap, sym, subst}
 use Rattle.word_image.proofs.Common.{IfOk-weaker}
 use Rattle.serde_json.specs.Written.{compact_text}
-use Rattle.ca_findings.proofs.Common.{reply_of}
+use Rattle.ca_questions.proofs.Common.{reply_of}
 use Rattle.ca_json.proofs.laws.NoFloats.{NoFloat, NoFloat-reply}
 use Rattle.ca_json.proofs.replies.reply_json.Goals as goal
 

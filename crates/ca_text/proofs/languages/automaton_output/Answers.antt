@@ -1,6 +1,6 @@
 use Rattle.std.proofs.Common.{◌≡◌, ℕ, List, ◌++◌, append-nil, sym, ap, ap₂, ◌∙◌, arith, codes, flat_map, decimal}
 use Rattle.word_image.proofs.Common.{range_with_len}
-use Rattle.ca_findings.proofs.Common.{automaton_of}
+use Rattle.ca_questions.proofs.Common.{automaton_of}
 use Rattle.ca_text.specs.Reports.{line}
 use Rattle.ca_text.specs.Lines.{class_line, classes_line, dead_line}
 use Rattle.ca_text.proofs.laws.Rows.{rows-more}

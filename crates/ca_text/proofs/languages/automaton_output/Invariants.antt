@@ -1,6 +1,6 @@
 use Rattle.std.proofs.Common.{◌≡◌, ◌++◌, flat_map}
 use Rattle.word_image.proofs.Common.{range_with_len}
-use Rattle.ca_findings.proofs.Common.{automaton_of}
+use Rattle.ca_questions.proofs.Common.{automaton_of}
 use Rattle.ca_text.specs.Lines.{class_line, classes_line, dead_line}
 use Rattle.ca_text.proofs.languages.automaton_output.Given as goal
 

@@ -1,7 +1,7 @@
 use Rattle.std.proofs.Common.{ℕ, ◌+◌, ◌-◌, ◌*◌, ◌<◌, List, get_or, drop, refl, ap₂, ◌∙◌, arith}
 use Rattle.std.proofs.lemmas.List.{get_or-take, get_or-drop}
 use Rattle.word_image.proofs.Common.{on_ok_weaker}
-use Rattle.ca_findings.proofs.Common.{automaton_of}
+use Rattle.ca_questions.proofs.Common.{automaton_of}
 use Rattle.ca_text.proofs.languages.write_class.Goals as goal
 
 pub returns : goal.returns

@@ -1,4 +1,4 @@
-use Rattle.eden_laws.proofs.Preinjective.{IsSurjective-left_closing}
+use Rattle.garden_laws.proofs.Preinjective.{IsSurjective-left_closing}
 use Rattle.closing_test.proofs.look_ahead.ahead_left.Goals as goal
 
 pub returns-clause-surjective : goal.returns-clause-surjective

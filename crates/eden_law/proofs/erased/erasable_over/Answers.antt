@@ -1,7 +1,7 @@
 use Rattle.std.proofs.Common.{◌≡◌, map, true, false, refl, subst}
 use Rattle.word_image.proofs.Common.{LocalRule, IsRule, pair_count, IsSurjective, IsLeastErasable}
 use Rattle.search_laws.proofs.Common.{uncode}
-use Rattle.eden_laws.proofs.GardenOfEden.{IsSurjective-none_erasable, none_erasable-surjective}
+use Rattle.garden_laws.proofs.GardenOfEden.{IsSurjective-none_erasable, none_erasable-surjective}
 use Rattle.eden_law.specs.Erasures.{IsErasure}
 use Rattle.tail_laws.proofs.Common.{NoneBelow, IsFirstBelow, spelled_pair}
 use Rattle.eden_law.proofs.LeastErasures.{IsLeastErasable-first, none_erasable-below, length-IsLeastErasable}

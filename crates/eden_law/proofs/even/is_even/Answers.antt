@@ -1,7 +1,7 @@
 use Rattle.std.proofs.Common.{◌≡◌, ℕ, ◌+◌, ◌*◌, ◌<◌, List, length, count_by, refl, sym, ap₂, subst, ⊎_elim, arith, ◌==◌}
 use Rattle.word_image.proofs.Common.{cases_eq}
-use Rattle.table_laws.specs.Tables.{IsEven}
-use Rattle.table_laws.proofs.EvenTables.{IsEven-surjective}
+use Rattle.garden_laws.specs.Tables.{IsEven}
+use Rattle.garden_laws.proofs.EvenTables.{IsEven-surjective}
 use Rattle.eden_law.proofs.even.is_even.Goals as goal
 
 -- a letter that stands equally often, after others that do

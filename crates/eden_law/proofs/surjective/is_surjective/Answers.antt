@@ -1,7 +1,7 @@
 use Rattle.std.proofs.Common.{◌≡◌, ℕ, ◌<◌, ◌≤◌, replicate, slice_index, refl, subst, arith}
 use Rattle.word_image.proofs.Common.{get_or-replicate, LocalRule, IsRule, node_count, next-below}
 use Rattle.std.proofs.lemmas.Nat.{pow_pos}
-use Rattle.eden_laws.proofs.Preinjective.{IsSurjective-injective, IsSurjective-right_closing, IsSurjective-left_closing}
+use Rattle.garden_laws.proofs.Preinjective.{IsSurjective-injective, IsSurjective-right_closing, IsSurjective-left_closing}
 use Rattle.eden_law.proofs.ReachedRows.{IsRowSearch-start, IsRowSearch-firsts, HasFirsts, HasFirsts-added, IsSurjective-rows}
 use Rattle.eden_law.proofs.surjective.is_surjective.Goals as goal
 

@@ -2,9 +2,9 @@ use Rattle.std.proofs.Common.{◌≡◌, ℕ, ◌+◌, ◌-◌, ◌*◌, ◌/◌
 use Rattle.std.proofs.Math.Nat.{add-mul, one-mul, zero-mul, mul_comm}
 use Rattle.word_image.proofs.Common.{mul-div_cancel_left, LocalRule, IsRule, node_count}
 use Rattle.std.proofs.lemmas.Bool.{eq-eqb, eqb-true}
-use Rattle.table_laws.specs.ZeroPairs.{count_below, gives_zeros, zero_pairs}
-use Rattle.table_laws.proofs.Counts.{count_below-none, count_below-add}
-use Rattle.table_laws.proofs.ZeroPairs.{zero_pairs-surjective}
+use Rattle.garden_laws.specs.ZeroPairs.{count_below, gives_zeros, zero_pairs}
+use Rattle.garden_laws.proofs.Counts.{count_below-none, count_below-add}
+use Rattle.garden_laws.proofs.ZeroPairs.{zero_pairs-surjective}
 use Rattle.eden_law.proofs.zeros.is_even_at_zeros.Goals as goal
 
 pub loop-letter-init : goal.loop-letter-init

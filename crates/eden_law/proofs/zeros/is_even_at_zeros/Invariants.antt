@@ -1,5 +1,5 @@
 use Rattle.std.proofs.Common.{◌≡◌, ◌*◌, ◌≤◌}
-use Rattle.table_laws.specs.ZeroPairs.{count_below, gives_zeros}
+use Rattle.garden_laws.specs.ZeroPairs.{count_below, gives_zeros}
 use Rattle.eden_law.proofs.zeros.is_even_at_zeros.Given as goal
 
 -- how many of the words that begin with the letters so far

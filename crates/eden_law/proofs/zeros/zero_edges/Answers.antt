@@ -1,7 +1,7 @@
 use Rattle.std.proofs.Common.{◌≡◌, ℕ, ◌+◌, ◌*◌, ◌<◌, ◌≤◌, List, length, slice_index, set, sym, ap, ap₂, ◌∙◌, subst, ⊎_elim, refl, arith, ◌==◌, add-mul, one-mul, mul_comm, mul-le-mul_left}
 use Rattle.word_image.proofs.Common.{cases_eq, get_or-set_at}
 use Rattle.std.proofs.lemmas.List.{get_or-set_other, length-set}
-use Rattle.table_laws.specs.ZeroPairs.{count_below}
+use Rattle.garden_laws.specs.ZeroPairs.{count_below}
 use Rattle.eden_law.specs.ZeroEdges.{AreZeroEdges}
 use Rattle.eden_law.proofs.zeros.zero_edges.Goals as goal
 

@@ -1,5 +1,5 @@
 use Rattle.std.proofs.Common.{◌≡◌, ◌+◌, ◌*◌, ◌≤◌}
-use Rattle.table_laws.specs.ZeroPairs.{count_below, gives_zeros}
+use Rattle.garden_laws.specs.ZeroPairs.{count_below, gives_zeros}
 use Rattle.eden_law.proofs.zeros.zeros_behind.Given as goal
 
 -- how many of the words that begin with the letter and the nodes so far

@@ -1,6 +1,6 @@
 use Rattle.std.proofs.Common.{◌≡◌, ℕ, ◌+◌, ◌≤◌, Bool, true, false, slice_index, sym, ap, ◌∙◌, arith, ◌==◌}
 use Rattle.word_image.proofs.Common.{from_bool}
-use Rattle.table_laws.proofs.Counts.{count_below-none, count_below-more}
+use Rattle.garden_laws.proofs.Counts.{count_below-none, count_below-more}
 use Rattle.eden_law.proofs.zeros.zeros_from.Goals as goal
 
 -- a truth value as a number is 0 or 1

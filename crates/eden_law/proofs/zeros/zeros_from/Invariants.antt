@@ -1,5 +1,5 @@
 use Rattle.std.proofs.Common.{◌≡◌, ◌+◌, ◌≤◌, slice_index, ◌==◌}
-use Rattle.table_laws.specs.ZeroPairs.{count_below}
+use Rattle.garden_laws.specs.ZeroPairs.{count_below}
 use Rattle.eden_law.proofs.zeros.zeros_from.Given as goal
 
 -- how many of the letters so far are 0

@@ -1,6 +1,6 @@
 use Rattle.std.proofs.Common.{◌≡◌, ◌+◌, ◌*◌, length, subst, sym}
-use Rattle.table_laws.specs.Tables.{HasMean}
-use Rattle.table_laws.proofs.MeanTables.{HasMean-conserving}
+use Rattle.garden_laws.specs.Tables.{HasMean}
+use Rattle.garden_laws.proofs.MeanTables.{HasMean-conserving}
 use Rattle.flux_conserve.proofs.means.has_mean.Goals as goal
 
 pub returns-clause-mean : goal.returns-clause-mean

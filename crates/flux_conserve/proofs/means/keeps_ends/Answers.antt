@@ -1,5 +1,5 @@
 use Rattle.std.proofs.Common.{◌≡◌, ℕ, ◌-◌, ◌≤◌, List, length, slice_index, sym, ap, ◌∙◌, arith, eq-eqb}
-use Rattle.table_laws.proofs.MeanTables.{keeps-zeros, keeps-greatest}
+use Rattle.garden_laws.proofs.MeanTables.{keeps-zeros, keeps-greatest}
 use Rattle.flux_conserve.proofs.means.keeps_ends.Goals as goal
 
 pub returns-then-table-eq0-clause-conserving : goal.returns-then-table-eq0-clause-conserving

@@ -2,7 +2,7 @@ use Rattle.std.proofs.Common.{◌≡◌, ◌-◌, sym, ◌∙◌, subst, arith}
 use Rattle.word_image.proofs.Common.{false≢true, IsRule}
 use Rattle.tail_config.proofs.Common.{IsInjective}
 use Rattle.tail_laws.proofs.Common.{IsInjective-window}
-use Rattle.eden_laws.proofs.Preinjective.{IsSurjective-injective}
+use Rattle.garden_laws.proofs.Preinjective.{IsSurjective-injective}
 use Rattle.inverse_window.specs.FirstWindows.{IsFirstWindowOf}
 use Rattle.inverse_window.proofs.FirstSearches.{earlier-most}
 use Rattle.inverse_window.proofs.LeastWindows.{IsBefore, IsFirstWindowOf-next, IsLeastDetermined-first, IsInjective-least}

@@ -1,8 +1,8 @@
 use Rattle.std.proofs.Common.{◌≡◌, ◌+◌, ◌*◌, length, sym, ◌∙◌, subst}
 use Rattle.word_image.proofs.Common.{false≢true}
-use Rattle.table_laws.specs.Tables.{HasMean}
+use Rattle.garden_laws.specs.Tables.{HasMean}
 use Rattle.ring_laws.proofs.SameWeights.{IsConserving-own}
-use Rattle.table_laws.proofs.MeanTables.{HasMean-conserving}
+use Rattle.garden_laws.proofs.MeanTables.{HasMean-conserving}
 use Rattle.rule_text.specs.RuleTexts.{rule_of_table}
 use Rattle.rule_verdicts.proofs.laws.Means.{HasMean-surjective}
 use Rattle.rule_verdicts.proofs.numbers.verdict_byte.Goals as goal

@@ -1,6 +1,6 @@
 use Rattle.std.proofs.Common.{false, ◌↔◌, IsTrue}
 use Rattle.word_image.proofs.Common.{false≢true}
-use Rattle.eden_laws.proofs.Preinjective.{IsSurjective-injective, IsSurjective-right_closing, IsSurjective-left_closing}
+use Rattle.garden_laws.proofs.Preinjective.{IsSurjective-injective, IsSurjective-right_closing, IsSurjective-left_closing}
 use Rattle.cert_conditions.proofs.Common.{both_true}
 use Rattle.rule_verdicts.proofs.truths.Truths.not_surjective.Goals as goal
 

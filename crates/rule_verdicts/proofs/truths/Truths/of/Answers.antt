@@ -1,6 +1,6 @@
 use Rattle.std.proofs.Common.{◌≡◌, ℕ, List, sym, ◌∙◌, subst}
 use Rattle.word_image.proofs.Common.{false≢true, LocalRule}
-use Rattle.table_laws.specs.Tables.{HasMean}
+use Rattle.garden_laws.specs.Tables.{HasMean}
 use Rattle.ring_laws.proofs.SameWeights.{IsConserving-own}
 use Rattle.rule_verdicts.proofs.laws.Means.{HasMean-surjective}
 use Rattle.rule_verdicts.proofs.truths.Truths.of.Goals as goal

@@ -1,7 +1,7 @@
 use Rattle.std.proofs.Common.{sym, ◌∙◌}
 use Rattle.word_image.proofs.Common.{false≢true}
 use Rattle.ring_laws.proofs.SameWeights.{IsConserving-own}
-use Rattle.table_laws.proofs.MeanTables.{HasMean-conserving}
+use Rattle.garden_laws.proofs.MeanTables.{HasMean-conserving}
 use Rattle.rule_text.specs.RuleTexts.{rule_of_table}
 use Rattle.rule_verdicts.proofs.laws.Means.{HasMean-surjective}
 use Rattle.rule_verdicts.proofs.truths.Truths.of_table.Goals as goal

@@ -1,0 +1,11 @@
+use Rattle.std.proofs.Common.{length, refl, ap, ◌∙◌, arith, w64}
+use Rattle.std.proofs.lemmas.Int.{to_z-of_z}
+use Rattle.tail_config.specs.Tails.{cell, cells}
+use Rattle.tail_config.proofs.Common.{run-by_letters}
+use Rattle.c_structs.proofs.images.Parts.write_cells.Goals as goal
+
+pub returns : goal.returns
+returns c =
+    let t = c.args.self.now in
+    let passed = to_z-of_z w64 c.args.start c.ranges.start in
+    run-by_letters (cell t) c.args.start (length c.loop-j.row) c.loop-j.row refl (λ a l. rw passed at (c.loop-j.invariant a (omega arith))) ∙ ap (cells t c.args.start) c.loop-j.auto.row

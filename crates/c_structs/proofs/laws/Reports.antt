@@ -1,0 +1,78 @@
+-- What a report says, where letters are added behind its words, and what comes of the question for a report.
+use Rattle.std.proofs.Common.{◌≡◌, ℕ, ◌≤◌, List, ◌++◌, length, drop, Option, Some, None, Result, Ok, Err, sym, ap, subst, subst₂, ◌∙◌, [], arith, IfOk}
+use Rattle.word_image.proofs.Common.{LocalRule, IsRule, rule_fault}
+use Rattle.word_image.specs.declared.local_rule.RuleFault.{RuleFault}
+use Rattle.cert_values.specs.Evidence.{Window, Twins, Ahead, Split, Flux, Ring}
+use Rattle.cert_values.proofs.Common.{InjectiveEvidence, SideEvidence, SumEvidence}
+use Rattle.certificate_laws.specs.LeastEvidence.{Evidence, IsConservingPart, IsLeastEvidence}
+use Rattle.ca_questions.proofs.Common.{Question, Finding, AreFor, IsFinding, weight_by}
+use Rattle.c_structs.specs.declared.rule_reports.RuleReport.{RuleReport}
+use Rattle.c_structs.specs.declared.rule_reports.Reported.{Reported}
+use Rattle.c_structs.specs.declared.letter_rows.LetterRow.{LetterRow}
+use Rattle.c_structs.specs.declared.letter_rows.TwinRows.{TwinRows}
+use Rattle.c_structs.specs.declared.letter_rows.SplitRows.{SplitRows}
+use Rattle.c_structs.specs.Verdicts.{fault_code}
+use Rattle.c_structs.specs.ReportParts.{IsShortSum, SaysSurjective, SaysInjective, SaysSide}
+use Rattle.c_structs.specs.Reports.{IsReported, IsReportOf, IsReportCall, letters_in, no_report}
+use Rattle.c_structs.proofs.laws.LetterRows.{IsGrown, IsRow-grown, AreTwinRows-grown, AreSplitRows-grown}
+
+-- what is said of surjective stays so where letters are added
+pub SaysSurjective-grown : (letters after : List ℕ) (holds : ℕ) (row : LetterRow) (orphan : Option (List ℕ)) → IsGrown letters after
+    → SaysSurjective letters holds row orphan → SaysSurjective after holds row orphan
+SaysSurjective-grown letters after holds row None grown h = h
+SaysSurjective-grown letters after holds row (Some w) grown h = (h.0, IsRow-grown grown h.1)
+
+-- what is said of injective stays so where letters are added
+pub SaysInjective-grown : (letters after : List ℕ) (holds window place : ℕ) (twins : TwinRows) (e : InjectiveEvidence) → IsGrown letters after
+    → SaysInjective letters holds window place twins e → SaysInjective after holds window place twins e
+SaysInjective-grown letters after holds window place twins (Window n c) grown h = h
+SaysInjective-grown letters after holds window place twins (Twins x y) grown h = (h.0, h.1, h.2, AreTwinRows-grown grown h.3)
+
+-- what is said of closing on a side stays so where letters are added
+pub SaysSide-grown : (letters after : List ℕ) (holds ahead : ℕ) (split : SplitRows) (e : SideEvidence) → IsGrown letters after
+    → SaysSide letters holds ahead split e → SaysSide after holds ahead split e
+SaysSide-grown letters after holds ahead split (Ahead n) grown h = h
+SaysSide-grown letters after holds ahead split (Split x y) grown h = (h.0, h.1, AreSplitRows-grown grown h.2)
+
+-- the flux of an accepted rule has a number for each of at most 16 nodes
+pub IsShortSum-part : {r : LocalRule} (weight : ℕ → ℕ) (e : SumEvidence) → IsRule r → IsConservingPart weight r e → IsShortSum e
+IsShortSum-part weight (Flux phi) rule h = omega (arith, h.1.entries, rule.shape.most_nodes)
+IsShortSum-part weight (Ring p) rule h = tt
+
+-- a right report has the least evidence
+pub IsFinding-least : {r : LocalRule} {weights : Option (List ℕ)} {e : Evidence} → IsFinding (Question.Report r weights) (Finding.Report e) → IsLeastEvidence (weight_by weights) r e
+IsFinding-least (IsFinding.Report r weights e each same least) = least
+
+-- the report that is written is the right one
+pub IsReported-written : {r : LocalRule} {weights : Option (List ℕ)} {e : Evidence} {E : Type 0} (result : Result Reported E) → IsRule r
+    → IsFinding (Question.Report r weights) (Finding.Report e) → IfOk result (λ made. made.letters.items ≡ letters_in e)
+    → IfOk result (λ made. IsReportOf made.letters.items e made.report) → IfOk result (λ made. IsReported r weights made.report made.letters.items)
+IsReported-written {r} {weights} {e} (Ok made) rule fits same says =
+    subst (IsReported r weights made.report) (sym same) (IsReported.Found e made.report rule fits (subst (λ (xs : List ℕ). IsReportOf xs e made.report) same says))
+IsReported-written (Err fault) rule fits same says = tt
+
+-- there is no report where there isn't one weight for each letter
+pub IsReported-none : {r : LocalRule} {weights : Option (List ℕ)} (made : Reported) → IsRule r → ¬ AreFor weights r → made.report ≡ no_report 18 → made.letters.items ≡ []
+    → IsReported r weights made.report made.letters.items
+IsReported-none {r} {weights} made rule none same empty = subst₂ (IsReported r weights) (sym same) (sym empty) (IsReported.NoWeights rule none)
+
+-- there is no report where there is no rule
+pub IsReported-fault : (r : LocalRule) {weights : Option (List ℕ)} (made : Reported) {code : ℕ} (f : RuleFault) → Some f ≡ rule_fault r.states r.width r.offset r.table
+    → code ≡ fault_code (Some f) → made.report ≡ no_report code → made.letters.items ≡ [] → IsReported r weights made.report made.letters.items
+IsReported-fault r {weights} made f fault coded same empty =
+    subst₂ (IsReported r weights) (sym (same ∙ ap no_report coded)) (sym empty) (IsReported.NoRule f (sym fault))
+
+-- the report is handed back, and all letters
+pub IsReportCall-whole : {r : LocalRule} {weights : Option (List ℕ)} {was v : RuleReport} {before after letters bytes : List ℕ} {len : ℕ} → IsReported r weights v letters → len ≡ length letters
+    → bytes ≡ letters → length bytes ≤ length before → after ≡ bytes ++ drop (length bytes) before → IsReportCall r weights was before 0 len v after
+IsReportCall-whole {r} {weights} {was} {v} {before} {after} {letters} {bytes} {len} made long same fits put =
+    let begins : after ≡ letters ++ drop (length letters) before = put ∙ ap (λ (b : List ℕ). b ++ drop (length b) before) same in
+    subst₂ (λ (n : ℕ) (xs : List ℕ). IsReportCall r weights was before 0 n v xs) (sym long) (sym begins)
+    (IsReportCall.Whole v letters made (subst (λ (b : List ℕ). length b ≤ length before) same fits))
+
+-- the length of letters that don't fit
+pub IsReportCall-short : {r : LocalRule} {weights : Option (List ℕ)} {was v : RuleReport} {before after letters bytes : List ℕ} {len : ℕ} → IsReported r weights v letters → len ≡ length letters
+    → bytes ≡ letters → ¬ (length bytes ≤ length before) → after ≡ before → IsReportCall r weights was before 10 len was after
+IsReportCall-short {r} {weights} {was} {v} {before} {after} {letters} {bytes} {len} made long same over kept =
+    subst₂ (λ (n : ℕ) (xs : List ℕ). IsReportCall r weights was before 10 n was xs) (sym long) (sym kept)
+    (IsReportCall.Short v letters made (omega (arith, over, ap length same)))

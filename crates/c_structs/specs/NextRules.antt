@@ -1,0 +1,72 @@
+-- What a call hands back of the rules of a shape that have a property.
+use Rattle.std.specs.Prelude.{◌≡◌, ◌≢◌, ℕ, ◌^◌, ◌-◌, ◌<◌, ◌≤◌, Bool, true, false, ⊤, List, ◌++◌, length, replicate, Some, None, pos}
+use Rattle.word_image.specs.LocalRules.{LocalRule, IsRule}
+use Rattle.word_image.specs.RuleFaults.{rule_fault, shape_fault}
+use Rattle.word_image.specs.declared.local_rule.RuleFault.{RuleFault}
+use Rattle.rule_lists.specs.Ranks.{IsOrder, rank}
+use Rattle.rule_lists.specs.Orders.{IsOrderFor}
+use Rattle.rule_lists.specs.Listed.{IsFirst, NoneIs}
+use Rattle.rule_lists.specs.declared.properties.Property.{Property}
+use Rattle.rule_lists.specs.declared.properties.Property.TheVariants.{Surjective, Injective, RightClosing, LeftClosing, Open, Conserving}
+use Rattle.rule_text.specs.RuleTexts.{rule_of_table}
+use Rattle.c_structs.specs.Verdicts.{fault_code}
+
+-- the number that stands for a property: what it adds to the byte of a rule that has it
+abbrev pub property_number : Property → ℕ
+property_number Surjective = 1
+property_number Injective = 2
+property_number RightClosing = 4
+property_number LeftClosing = 8
+property_number Open = 16
+property_number Conserving = 32
+
+-- the number stands for no property
+abbrev pub IsNoProperty : ℕ → Type 0
+IsNoProperty number = (property : Property) → number ≢ property_number property
+
+-- the letters that tables begin with, and no letter behind them, since 255 is none
+abbrev pub fixed_letters : List ℕ → List ℕ
+fixed_letters begin = begin ++ replicate (256 - length begin) 255
+
+-- the rules that are to come: all, or behind a table those of a greater rank
+abbrev pub IsToCome : Bool → ℕ → List ℕ → List ℕ → LocalRule → Type 0
+IsToCome false states order table q = ⊤
+IsToCome true states order table q = rank states order table < rank states order q.table
+
+-- the table makes a rule, the number is that of a property, the windows are in an order, and no more letters are fixed than there are windows
+pub record IsQuestion (property : Property) (number states width : ℕ) (order begin table : List ℕ) : Type 0 where
+  pub rule : IsRule (rule_of_table states width table)
+  pub numbered : number ≡ property_number property
+  pub ordered : IsOrder (states ^ width) order
+  pub within : length begin ≤ states ^ width
+
+-- the code and the table that are handed back, where the table was this before: the first line that fits
+pub data IsNext (number states width : ℕ) (order begin : List ℕ) (after : Bool) (before : List ℕ) : ℕ → List ℕ → Type 0 where
+  -- the table before makes no rule
+  NoTable : (f : RuleFault) → rule_fault states width (pos 0) before ≡ Some f → IsNext number states width order begin after before (fault_code (Some f)) before
+  -- the number stands for no property
+  NoProperty : IsRule (rule_of_table states width before) → IsNoProperty number → IsNext number states width order begin after before 10 before
+  -- the windows are in no order
+  NoOrder : (property : Property) → IsRule (rule_of_table states width before) → number ≡ property_number property → ¬ IsOrder (states ^ width) order
+      → IsNext number states width order begin after before 11 before
+  -- more letters are fixed than there are windows
+  NoBeginning : (property : Property) → IsRule (rule_of_table states width before) → number ≡ property_number property → IsOrder (states ^ width) order → states ^ width < length begin
+      → IsNext number states width order begin after before 12 before
+  -- no rule with the property is to come
+  NoRule : (property : Property) → IsQuestion property number states width order begin before → NoneIs property states width (fixed_letters begin) (IsToCome after states order before)
+      → IsNext number states width order begin after before 13 before
+  -- the table of the first one that is
+  Rule : (property : Property) (r : LocalRule) → IsQuestion property number states width order begin before → IsFirst property states width (fixed_letters begin) order (IsToCome after states order before) r
+      → IsNext number states width order begin after before 0 r.table
+
+-- the code and the windows that are handed back, where these bytes stood there before: the first line that fits
+pub data IsWindowOrder (number states width : ℕ) (before : List ℕ) : ℕ → List ℕ → Type 0 where
+  -- there is no such shape
+  NoShape : (f : RuleFault) → shape_fault states width (pos 0) ≡ Some f → IsWindowOrder number states width before (fault_code (Some f)) before
+  -- the number stands for no property
+  NoProperty : shape_fault states width (pos 0) ≡ None → IsNoProperty number → IsWindowOrder number states width before 10 before
+  -- there isn't one byte for each window
+  NoLength : (property : Property) → shape_fault states width (pos 0) ≡ None → number ≡ property_number property → length before ≢ states ^ width → IsWindowOrder number states width before 5 before
+  -- the order of the windows for the property
+  Order : (property : Property) (order : List ℕ) → shape_fault states width (pos 0) ≡ None → number ≡ property_number property → IsOrderFor property states width order
+      → IsWindowOrder number states width before 0 order

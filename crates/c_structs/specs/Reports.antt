@@ -1,0 +1,81 @@
+-- What a call hands back of a rule with its evidence.
+use Rattle.std.specs.Prelude.{◌≡◌, ℕ, ◌<◌, ◌≤◌, min, List, [], ◌∷◌, ◌++◌, length, drop, replicate, Option, Some, None, ℤ, pos}
+use Rattle.word_image.specs.LocalRules.{LocalRule, IsRule}
+use Rattle.word_image.specs.RuleFaults.{rule_fault}
+use Rattle.word_image.specs.declared.local_rule.RuleFault.{RuleFault}
+use Rattle.certificate_laws.specs.LeastEvidence.{Evidence}
+use Rattle.ca_questions.specs.Questions.{Question}
+use Rattle.ca_questions.specs.Findings.{Finding, AreFor, IsFinding}
+use Rattle.c_structs.specs.declared.rule_reports.RuleReport.{RuleReport}
+use Rattle.c_structs.specs.Verdicts.{fault_code}
+use Rattle.c_structs.specs.LetterRows.{no_row, no_twins, no_split}
+use Rattle.c_structs.specs.ReportParts.{SaysSurjective, SaysInjective, SaysSide, SaysConserving, orphan_letters, injective_letters, side_letters, sum_letters}
+
+-- the rule of these parts
+abbrev pub rule_with : ℕ → ℕ → ℤ → List ℕ → LocalRule
+rule_with states width offset table = record { states = states; width = width; offset = offset; table = table }
+
+-- the weights that are named; none by an empty list
+abbrev pub named_weights : List ℕ → Option (List ℕ)
+named_weights [] = None
+named_weights (weight ∷ weights) = Some (weight ∷ weights)
+
+-- the letters of all words of the evidence, one word after another
+abbrev pub letters_in : Evidence → List ℕ
+letters_in e = orphan_letters e.orphan ++ injective_letters e.injective ++ side_letters e.right ++ side_letters e.left ++ sum_letters e.conserving
+
+-- the report and the letters are this evidence
+pub record IsReportOf (letters : List ℕ) (e : Evidence) (v : RuleReport) : Type 0 where
+  pub fault : v.fault ≡ 0
+  pub surjective : SaysSurjective letters v.surjective v.orphan e.orphan
+  pub injective : SaysInjective letters v.injective v.window v.place v.twins e.injective
+  pub right : SaysSide letters v.right v.right_ahead v.right_split e.right
+  pub left : SaysSide letters v.left v.left_ahead v.left_split e.left
+  pub is_open : v.is_open ≡ min v.right v.left
+  pub conserving : SaysConserving letters v.conserving v.nodes v.flux v.ring e.conserving
+  pub reserved : v.reserved ≡ replicate 8 0
+
+-- there is no report, for the fault of this number
+abbrev pub no_report : ℕ → RuleReport
+no_report fault = record {
+  fault = fault;
+  surjective = 0;
+  injective = 0;
+  right = 0;
+  left = 0;
+  is_open = 0;
+  conserving = 0;
+  nodes = 0;
+  window = 0;
+  place = 0;
+  right_ahead = 0;
+  left_ahead = 0;
+  flux = replicate 16 (pos 0);
+  orphan = no_row;
+  twins = no_twins;
+  ring = no_row;
+  right_split = no_split;
+  left_split = no_split;
+  reserved = replicate 8 0;
+}
+
+-- the report of a rule and weights, and the letters of its words
+pub data IsReported (r : LocalRule) (weights : Option (List ℕ)) : RuleReport → List ℕ → Type 0 where
+  -- the parts make no rule
+  NoRule : (f : RuleFault) → rule_fault r.states r.width r.offset r.table ≡ Some f → IsReported r weights (no_report (fault_code (Some f))) []
+  -- there isn't one weight for each letter
+  NoWeights : IsRule r → ¬ AreFor weights r → IsReported r weights (no_report 18) []
+  -- the right finding
+  Found : (e : Evidence) (v : RuleReport) → IsRule r → IsFinding (Question.Report r weights) (Finding.Report e) → IsReportOf (letters_in e) e v
+      → IsReported r weights v (letters_in e)
+
+-- the code, the length, the report and the buffer that are handed back, where the report and the buffer were these before
+pub data IsReportCall (r : LocalRule) (weights : Option (List ℕ)) (was : RuleReport) (before : List ℕ) : ℕ → ℕ → RuleReport → List ℕ → Type 0 where
+  -- the report, and all letters at the beginning of the buffer
+  Whole : (v : RuleReport) (letters : List ℕ) → IsReported r weights v letters → length letters ≤ length before
+      → IsReportCall r weights was before 0 (length letters) v (letters ++ drop (length letters) before)
+  -- how many letters there are, for which the buffer is too short
+  Short : (v : RuleReport) (letters : List ℕ) → IsReported r weights v letters → length before < length letters
+      → IsReportCall r weights was before 10 (length letters) was before
+  -- there was no memory
+  Memory : IsReportCall r weights was before 8 0 was before

@@ -1,0 +1,114 @@
+//! Words that stand in a buffer, each in a row of it.
+ghost use Rattle.std.specs.Prelude.{◌≡◌, ◌++◌, IfOk, OnOk};
+ghost use Rattle.c_structs.specs.LetterRows.{IsRow, AreTwinRows, AreTailRows, AreSplitRows, tail_letters, split_letters};
+
+use std::alloc::AllocError;
+use tail_config::Tail;
+use word_image::Word;
+
+/// Where a word stands in a buffer.
+#[repr(C)]
+#[derive(Clone, Copy, Debug)]
+pub struct LetterRow {
+    /// The place of its first letter.
+    pub begin: usize,
+    /// How many letters it has.
+    pub length: usize,
+}
+
+/// Where the parts of a configuration stand in a buffer.
+#[repr(C)]
+#[derive(Clone, Copy, Debug)]
+pub struct TailRows {
+    pub left: LetterRow,
+    pub middle: LetterRow,
+    pub right: LetterRow,
+}
+
+/// Where two words stand in a buffer.
+#[repr(C)]
+#[derive(Clone, Copy, Debug)]
+pub struct TwinRows {
+    pub x: LetterRow,
+    pub y: LetterRow,
+}
+
+/// Where two configurations stand in a buffer.
+#[repr(C)]
+#[derive(Clone, Copy, Debug)]
+pub struct SplitRows {
+    pub x: TailRows,
+    pub y: TailRows,
+}
+
+/// The row of an empty word.
+pub const NO_ROW: LetterRow = LetterRow {
+    begin: 0,
+    length: 0,
+};
+
+/// The rows of two empty words.
+pub const NO_TWINS: TwinRows = TwinRows {
+    x: NO_ROW,
+    y: NO_ROW,
+};
+
+const NO_TAIL: TailRows = TailRows {
+    left: NO_ROW,
+    middle: NO_ROW,
+    right: NO_ROW,
+};
+
+/// The rows of no two configurations.
+pub const NO_SPLIT: SplitRows = SplitRows {
+    x: NO_TAIL,
+    y: NO_TAIL,
+};
+
+/// Adds a word behind the letters, and returns its row.
+pub fn add_word(letters: &mut Vec<u8>, word: &[u8]) -> Result<LetterRow, AllocError>
+    ensures letters { OnOk result (letters.new.items ≡ letters.old.items ++ word.now) }
+    ensures row { IfOk result (λ row. IsRow letters.new.items row word.now) }
+{
+    let begin = letters.len();
+    letters.extend_from_slice(word)?;
+    Ok(LetterRow {
+        begin,
+        length: word.len(),
+    })
+}
+
+/// Adds two words behind the letters, and returns their rows.
+pub fn add_twins(letters: &mut Vec<u8>, x: &Word, y: &Word) -> Result<TwinRows, AllocError>
+    ensures letters { OnOk result (letters.new.items ≡ letters.old.items ++ (x.now ++ y.now)) }
+    ensures rows { IfOk result (λ rows. AreTwinRows letters.new.items rows x.now y.now) }
+{
+    let x = add_word(letters, x.as_slice())?;
+    let y = add_word(letters, y.as_slice())?;
+    Ok(TwinRows { x, y })
+}
+
+/// Adds the parts of a configuration behind the letters, and returns their rows.
+fn add_tail(letters: &mut Vec<u8>, tail: &Tail) -> Result<TailRows, AllocError>
+    ensures letters { OnOk result (letters.new.items ≡ letters.old.items ++ tail_letters tail.now.config) }
+    ensures rows { IfOk result (λ rows. AreTailRows letters.new.items rows tail.now.config) }
+{
+    let left = add_word(letters, tail.left())?;
+    let middle = add_word(letters, tail.middle())?;
+    let right = add_word(letters, tail.right())?;
+    Ok(TailRows {
+        left,
+        middle,
+        right,
+    })
+}
+
+/// Adds the parts of two configurations behind the letters, and returns their rows.
+pub fn add_split(letters: &mut Vec<u8>, x: &Tail, y: &Tail) -> Result<SplitRows, AllocError>
+    ensures letters { OnOk result (letters.new.items ≡ letters.old.items ++ split_letters x.now.config y.now.config) }
+    ensures rows { IfOk result (λ rows. AreSplitRows letters.new.items rows x.now.config y.now.config) }
+{
+    let x = add_tail(letters, x)?;
+    let y = add_tail(letters, y)?;
+    Ok(SplitRows { x, y })
+}

@@ -1,0 +1,82 @@
+//! The rules of a shape that have a property, as C asks for them.
+ghost use Rattle.std.specs.Prelude.{◌≡◌, ◌^◌, ◌≤◌, IsNone, IfSome, MatchOption, length, pos};
+ghost use Rattle.word_image.specs.LocalRules.{IsShape};
+ghost use Rattle.rule_lists.specs.Ranks.{IsOrder};
+ghost use Rattle.rule_lists.specs.Listed.{IsFirst, NoneIs};
+ghost use Rattle.c_structs.specs.NextRules.{IsNoProperty, IsToCome, fixed_letters, property_number};
+
+use rule_lists::{Asked, Letters, Property, Search};
+use word_image::{MOST_ENTRIES, Rule};
+
+/// Returns the property of a number: 1, 2, 4, 8, 16 or 32, its bit in a byte of verdicts. There is none for other
+/// numbers.
+pub fn property_of(number: u8) -> Option<Property>
+    ensures some { IfSome result (λ property. number ≡ property_number property) }
+    ensures none { IsNone result → IsNoProperty number }
+{
+    match number {
+        1 => Some(Property::Surjective),
+        2 => Some(Property::Injective),
+        4 => Some(Property::RightClosing),
+        8 => Some(Property::LeftClosing),
+        16 => Some(Property::Open),
+        32 => Some(Property::Conserving),
+        _ => None,
+    }
+}
+
+/// Returns some rule of this shape at offset 0, for callers that need only the shape.
+pub fn shape_rule(states: u8, width: u8) -> Rule
+    requires { IsShape states width (pos 0) }
+    ensures states { result.states ≡ states }
+    ensures width { result.width ≡ width }
+    ensures offset { result.offset ≡ pos 0 }
+{
+    Rule::by(states, width, 0, |_| 0)
+}
+
+/// Returns the letters that tables begin with; all later letters are free.
+pub fn letters_of(begin: &[u8]) -> Letters
+    requires { length begin.now ≤ 256 }
+    ensures { result ≡ fixed_letters begin.now }
+{
+    let mut letters = [u8::MAX; MOST_ENTRIES];
+    letters[..begin.len()].copy_from_slice(begin);
+    letters
+}
+
+/// Returns the first rule of the shape of this one that has the property and the fixed letters, or the first that
+/// comes after this one.
+pub fn next_rule(
+    property: Property,
+    letters: &Letters,
+    order: &[u8],
+    after: bool,
+    rule: &Rule,
+) -> Option<Rule>
+    requires { IsOrder (rule.now.states ^ rule.now.width) order.now }
+    ensures { MatchOption result
+        (NoneIs property rule.now.states rule.now.width letters.now (IsToCome after rule.now.states order.now rule.now.table))
+        (IsFirst property rule.now.states rule.now.width letters.now order.now (IsToCome after rule.now.states order.now rule.now.table)) }
+{
+    let asked = Asked {
+        property,
+        shape: rule,
+        begin: letters,
+        order,
+    };
+    let mut search = if after {
+        Search::after(asked, rule)
+    } else {
+        Search::new(asked)
+    };
+    search.next()
+}
+
+/// Copies the letters of a rule.
+pub fn write_table(rule: &Rule, table: &mut [u8])
+    requires { length table.old ≡ length rule.now.table }
+    ensures { table.new ≡ rule.now.table }
+{
+    table.copy_from_slice(rule.table());
+}

@@ -1,0 +1,140 @@
+//! The parts of a report: a verdict, and the least that shows it, with its words behind the letters.
+ghost use Rattle.std.specs.Prelude.{◌≡◌, ◌≤◌, ◌++◌, length, IfOk, OnOk};
+ghost use Rattle.cert_values.specs.Parts.{injective_of, side_of, sum_of};
+ghost use Rattle.c_structs.specs.ReportParts.{IsShortSum, SaysSurjective, SaysInjective, SaysSide, SaysConserving, orphan_letters, injective_letters, side_letters, sum_letters, flux_row};
+
+use crate::letter_rows::{
+    LetterRow, NO_ROW, NO_SPLIT, NO_TWINS, SplitRows, TwinRows, add_split, add_twins, add_word,
+};
+use cert_values::{InjectivePart, SidePart, SumPart};
+use std::alloc::AllocError;
+use word_image::{FluxRow, Word};
+
+/// The most nodes of a rule, and so the most numbers of a flux.
+pub const MOST_NODES: usize = 16;
+
+/// Whether a rule is surjective, and its orphan.
+#[derive(Clone, Copy)]
+pub struct Surjective {
+    pub holds: u8,
+    pub orphan: LetterRow,
+}
+
+/// Whether a rule is injective, its window and the place in it, or its twins.
+#[derive(Clone, Copy)]
+pub struct Injective {
+    pub holds: u8,
+    pub window: u32,
+    pub place: u32,
+    pub twins: TwinRows,
+}
+
+/// Whether a rule closes on a side, its look-ahead or its split.
+#[derive(Clone, Copy)]
+pub struct Side {
+    pub holds: u8,
+    pub ahead: u32,
+    pub split: SplitRows,
+}
+
+/// Whether a rule is conserving, its flux or its ring.
+#[derive(Clone, Copy)]
+pub struct Conserving {
+    pub holds: u8,
+    pub nodes: u8,
+    pub flux: [i32; MOST_NODES],
+    pub ring: LetterRow,
+}
+
+/// Returns what the report says of surjective, and adds the letters of an orphan.
+pub fn add_surjective(
+    letters: &mut Vec<u8>,
+    orphan: &Option<Word>,
+) -> Result<Surjective, AllocError>
+    ensures letters { OnOk result (letters.new.items ≡ letters.old.items ++ orphan_letters orphan.now) }
+    ensures part { IfOk result (λ part. SaysSurjective letters.new.items part.holds part.orphan orphan.now) }
+{
+    match orphan {
+        None => Ok(Surjective {
+            holds: 1,
+            orphan: NO_ROW,
+        }),
+        Some(word) => Ok(Surjective {
+            holds: 0,
+            orphan: add_word(letters, word.as_slice())?,
+        }),
+    }
+}
+
+/// Returns what the report says of injective, and adds the letters of twins.
+pub fn add_injective(letters: &mut Vec<u8>, part: &InjectivePart) -> Result<Injective, AllocError>
+    ensures letters { OnOk result (letters.new.items ≡ letters.old.items ++ injective_letters (injective_of part.now)) }
+    ensures part { IfOk result (λ said. SaysInjective letters.new.items said.holds said.window said.place said.twins (injective_of part.now)) }
+{
+    match part {
+        InjectivePart::Window { n, c } => Ok(Injective {
+            holds: 1,
+            window: u32::from(*n),
+            place: u32::from(*c),
+            twins: NO_TWINS,
+        }),
+        InjectivePart::Twins { x, y } => Ok(Injective {
+            holds: 0,
+            window: 0,
+            place: 0,
+            twins: add_twins(letters, x, y)?,
+        }),
+    }
+}
+
+/// Returns what the report says of closing on a side, and adds the letters of a split.
+pub fn add_side(letters: &mut Vec<u8>, part: &SidePart) -> Result<Side, AllocError>
+    ensures letters { OnOk result (letters.new.items ≡ letters.old.items ++ side_letters (side_of part.now)) }
+    ensures part { IfOk result (λ said. SaysSide letters.new.items said.holds said.ahead said.split (side_of part.now)) }
+{
+    match part {
+        SidePart::Ahead(n) => Ok(Side {
+            holds: 1,
+            ahead: u32::from(*n),
+            split: NO_SPLIT,
+        }),
+        SidePart::Split(x, y) => Ok(Side {
+            holds: 0,
+            ahead: 0,
+            split: add_split(letters, x, y)?,
+        }),
+    }
+}
+
+/// Returns what the report says of conserving, and adds the letters of a ring.
+pub fn add_conserving(letters: &mut Vec<u8>, part: &SumPart) -> Result<Conserving, AllocError>
+    requires { IsShortSum (sum_of part.now) }
+    ensures letters { OnOk result (letters.new.items ≡ letters.old.items ++ sum_letters (sum_of part.now)) }
+    ensures part { IfOk result (λ said. SaysConserving letters.new.items said.holds said.nodes said.flux said.ring (sum_of part.now)) }
+{
+    match part {
+        SumPart::Flux(flux) => Ok(Conserving {
+            holds: 1,
+            nodes: flux.as_slice().len() as u8,
+            flux: numbers(flux),
+            ring: NO_ROW,
+        }),
+        SumPart::Ring(ring) => Ok(Conserving {
+            holds: 0,
+            nodes: 0,
+            flux: [0; MOST_NODES],
+            ring: add_word(letters, ring.as_slice())?,
+        }),
+    }
+}
+
+/// Returns the numbers of a flux, and zeros after them.
+fn numbers(flux: &FluxRow) -> [i32; MOST_NODES]
+    requires { length flux.now ≤ 16 }
+    ensures { result ≡ flux_row flux.now }
+{
+    let flows = flux.as_slice();
+    let mut row = [0; MOST_NODES];
+    row[..flows.len()].copy_from_slice(flows);
+    row
+}

@@ -1,0 +1,191 @@
+//! What is handed back of a rule with its evidence.
+ghost use Rattle.std.specs.Prelude.{◌≡◌, [], option_copied, IfOk};
+ghost use Rattle.cert_values.specs.Parts.{sum_of};
+ghost use Rattle.word_image.specs.LocalRules.{IsRule};
+ghost use Rattle.certificate_laws.specs.ReportValues.{evidence_of};
+ghost use Rattle.c_structs.specs.ReportParts.{IsShortSum};
+ghost use Rattle.c_structs.specs.Reports.{IsReported, IsReportOf, letters_in, named_weights, no_report, rule_with};
+
+use crate::letter_rows::{LetterRow, NO_ROW, NO_SPLIT, NO_TWINS, SplitRows, TwinRows};
+use crate::report_parts::{MOST_NODES, add_conserving, add_injective, add_side, add_surjective};
+use crate::table_verdicts::fault_number;
+use ca_answering::weights_for;
+use cert_conditions::Report;
+use rule_verdicts::Evidence;
+use std::alloc::{AllocError, Global};
+use word_image::Rule;
+
+/// The number of the fault that the count of weights differs from the count of letters.
+const NO_WEIGHTS: u8 = 18;
+
+/// The verdicts of a rule, each with its least evidence, whose words stand in a buffer. A verdict is 1 if it holds,
+/// and else 0.
+#[repr(C)]
+#[derive(Clone, Copy, Debug)]
+pub struct RuleReport {
+    /// 0 if there is a report. Otherwise the number of the first fault, and all fields below are 0.
+    pub fault: u8,
+    /// Whether every word has a preimage.
+    pub surjective: u8,
+    /// Whether no two different configurations share an image.
+    pub injective: u8,
+    /// Whether no two different configurations that agree on the left share an image.
+    pub right: u8,
+    /// Whether no two different configurations that agree on the right share an image.
+    pub left: u8,
+    /// Whether the rule is right-closing and left-closing.
+    pub is_open: u8,
+    /// Whether every ring keeps the sum of the weights of its letters.
+    pub conserving: u8,
+    /// How many numbers the flux has.
+    pub nodes: u8,
+    /// How many letters of an image determine the letter at `place` behind them, if the rule is injective.
+    pub window: u32,
+    /// The place of the letter that the window determines.
+    pub place: u32,
+    /// The look-ahead, if the rule is right-closing.
+    pub right_ahead: u32,
+    /// The look-ahead of the mirrored rule, if the rule is left-closing.
+    pub left_ahead: u32,
+    /// The flux if the rule is conserving, and zeros after its numbers.
+    pub flux: [i32; MOST_NODES],
+    /// The least orphan, if the rule isn't surjective.
+    pub orphan: LetterRow,
+    /// The least twins, if the rule isn't injective.
+    pub twins: TwinRows,
+    /// The least ring that doesn't keep its sum, if there is one.
+    pub ring: LetterRow,
+    /// The least right split, if the rule isn't right-closing.
+    pub right_split: SplitRows,
+    /// The least left split, if the rule isn't left-closing.
+    pub left_split: SplitRows,
+    /// Zeros.
+    pub reserved: [u32; 8],
+}
+
+impl RuleReport {
+    /// Returns the report of a fault.
+    fn none(fault: u8) -> RuleReport
+        ensures { result ≡ no_report fault }
+    {
+        RuleReport {
+            fault,
+            surjective: 0,
+            injective: 0,
+            right: 0,
+            left: 0,
+            is_open: 0,
+            conserving: 0,
+            nodes: 0,
+            window: 0,
+            place: 0,
+            right_ahead: 0,
+            left_ahead: 0,
+            flux: [0; MOST_NODES],
+            orphan: NO_ROW,
+            twins: NO_TWINS,
+            ring: NO_ROW,
+            right_split: NO_SPLIT,
+            left_split: NO_SPLIT,
+            reserved: [0; 8],
+        }
+    }
+}
+
+/// A report, and the letters of its words.
+#[derive(Drop)]
+pub struct Reported {
+    pub report: RuleReport,
+    pub letters: Vec<u8>,
+}
+
+/// Returns the report of the rule with these states, width, offset and table. The weights are one for each letter;
+/// without any, each letter weighs its own value.
+pub fn report_of_table(
+    alloc: Global,
+    states: u8,
+    width: u8,
+    offset: i8,
+    table: &[u8],
+    weights: &[u8],
+) -> Result<Reported, AllocError>
+    ensures { IfOk result (λ made. IsReported (rule_with states width offset table.now) (named_weights weights.now) made.report made.letters.items) }
+{
+    match Rule::new(states, width, offset, table) {
+        Ok(rule) => report_of_rule(alloc, &rule, weights),
+        Err(fault) => Ok(without(alloc, fault_number(fault))),
+    }
+}
+
+/// Returns the report of a fault, which has no letters.
+fn without(alloc: Global, fault: u8) -> Reported
+    ensures report { result.report ≡ no_report fault }
+    ensures letters { result.letters.items ≡ [] }
+{
+    Reported {
+        report: RuleReport::none(fault),
+        letters: Vec::new(alloc),
+    }
+}
+
+/// Returns the report of a rule and of weights.
+fn report_of_rule(alloc: Global, rule: &Rule, weights: &[u8]) -> Result<Reported, AllocError>
+    requires { IsRule rule.now }
+    ensures { IfOk result (λ made. IsReported rule.now (named_weights weights.now) made.report made.letters.items) }
+{
+    match weights_for(rule, named(weights)) {
+        Some(weights) => {
+            let evidence = Evidence::of(alloc, rule, &weights)?;
+            written(alloc, &evidence.report)
+        }
+        None => Ok(without(alloc, NO_WEIGHTS)),
+    }
+}
+
+/// Returns the weights, or none if the list is empty.
+fn named(weights: &[u8]) -> Option<&[u8]>
+    ensures { option_copied result ≡ named_weights weights.now }
+{
+    if weights.is_empty() {
+        None
+    } else {
+        Some(weights)
+    }
+}
+
+/// Returns a report with C's layout, and the letters of its words.
+fn written(alloc: Global, found: &Report) -> Result<Reported, AllocError>
+    requires { IsShortSum (sum_of found.now.conserving) }
+    ensures letters { IfOk result (λ made. made.letters.items ≡ letters_in (evidence_of found.now)) }
+    ensures report { IfOk result (λ made. IsReportOf made.letters.items (evidence_of found.now) made.report) }
+{
+    let mut letters = Vec::new(alloc);
+    let surjective = add_surjective(&mut letters, &found.orphan)?;
+    let injective = add_injective(&mut letters, &found.injective)?;
+    let right = add_side(&mut letters, &found.right)?;
+    let left = add_side(&mut letters, &found.left)?;
+    let conserving = add_conserving(&mut letters, &found.conserving)?;
+    let flux = conserving.flux;
+    let report = RuleReport {
+        fault: 0,
+        surjective: surjective.holds,
+        injective: injective.holds,
+        right: right.holds,
+        left: left.holds,
+        is_open: right.holds.min(left.holds),
+        conserving: conserving.holds,
+        nodes: conserving.nodes,
+        window: injective.window,
+        place: injective.place,
+        right_ahead: right.ahead,
+        left_ahead: left.ahead,
+        flux,
+        orphan: surjective.orphan,
+        twins: injective.twins,
+        ring: conserving.ring,
+        right_split: right.split,
+        left_split: left.split,
+        reserved: [0; 8],
+    };
+    Ok(Reported { report, letters })
+}

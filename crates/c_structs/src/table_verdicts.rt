@@ -1,0 +1,77 @@
+//! What is handed back of a rule.
+ghost use Rattle.std.specs.Prelude.{◌≡◌, ◌&&◌, Some};
+ghost use Rattle.rule_verdicts.specs.Truths.{AreTruths};
+ghost use Rattle.c_structs.specs.Verdicts.{AreNone, fault_code, truths_in};
+
+use rule_verdicts::Truths;
+use word_image::{Rule, RuleFault};
+
+/// The verdicts of a rule, or the number of the fault because of which there are none.
+#[repr(C)]
+#[derive(Clone, Copy, Debug, PartialEq, Eq)]
+pub struct RuleVerdicts {
+    /// 0 if there is a rule. Otherwise the number of its first fault, and all fields below are `false`.
+    pub fault: u8,
+    /// Whether every word has a preimage.
+    pub surjective: bool,
+    /// Whether no two different configurations share an image.
+    pub injective: bool,
+    /// Whether no two different configurations that agree on the left share an image.
+    pub right: bool,
+    /// Whether no two different configurations that agree on the right share an image.
+    pub left: bool,
+    /// Whether the rule is right-closing and left-closing.
+    pub is_open: bool,
+    /// Whether every ring keeps the sum of its letters.
+    pub conserving: bool,
+}
+
+impl RuleVerdicts {
+    /// Returns the verdicts of a rule. It takes no memory.
+    pub fn of(rule: &Rule) -> RuleVerdicts
+        ensures fault { result.fault ≡ 0 }
+        ensures are_true { AreTruths rule.now (truths_in result) }
+        ensures both { result.is_open ≡ (result.right && result.left) }
+    {
+        let truths = Truths::of(rule);
+        RuleVerdicts {
+            fault: 0,
+            surjective: truths.surjective,
+            injective: truths.injective,
+            right: truths.right,
+            left: truths.left,
+            is_open: truths.is_open(),
+            conserving: truths.conserving,
+        }
+    }
+
+    /// Returns the verdicts of a fault: none holds.
+    pub fn none(fault: RuleFault) -> RuleVerdicts
+        ensures fault { result.fault ≡ fault_code (Some fault) }
+        ensures none { AreNone result }
+    {
+        RuleVerdicts {
+            fault: fault_number(fault),
+            surjective: false,
+            injective: false,
+            right: false,
+            left: false,
+            is_open: false,
+            conserving: false,
+        }
+    }
+}
+
+/// Returns the number of a fault.
+pub fn fault_number(fault: RuleFault) -> u8
+    ensures { result ≡ fault_code (Some fault) }
+{
+    match fault {
+        RuleFault::States => 1,
+        RuleFault::Width => 2,
+        RuleFault::Nodes => 3,
+        RuleFault::Offset => 4,
+        RuleFault::Length => 5,
+        RuleFault::Letter(_) => 6,
+    }
+}

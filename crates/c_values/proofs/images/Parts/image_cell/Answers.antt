@@ -1,8 +1,0 @@
-use Rattle.std.proofs.Common.{sym, subst}
-use Rattle.word_image.proofs.Common.{IsWord}
-use Rattle.tail_config.proofs.Common.{IsWord-run, cell-below}
-use Rattle.c_values.proofs.images.Parts.image_cell.Goals as goal
-
-pub apply-requires-clause-word : goal.apply-requires-clause-word
-apply-requires-clause-word c =
-    subst (IsWord c.args.rule.now.states) (sym c.write_cells.ensures) (IsWord-run (cell-below c.requires.config) _ _)

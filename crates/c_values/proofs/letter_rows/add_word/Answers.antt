@@ -1,6 +1,0 @@
-use Rattle.std.proofs.Common.{refl, rules}
-use Rattle.c_values.proofs.laws.LetterRows.{IsRow-added}
-use Rattle.c_values.proofs.letter_rows.add_word.Goals as goal
-
-pub returns-clause-row : goal.returns-clause-row
-returns-clause-row c = IsRow-added c.args.letters.now.items c.in_ok-extend_from_slice.ensures.items (search rules) refl

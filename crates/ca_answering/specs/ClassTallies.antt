@@ -1,0 +1,34 @@
+-- Within the crate: the state while classes are counted: the counts, and the verdicts of the least rules.
+use Rattle.std.specs.Prelude.{◌≡◌, ℕ, List, ◌++◌, [], ◌∷◌, map, All, Contains}
+use Rattle.word_image.specs.LocalRules.{LocalRule, IsRule, wolfram_number}
+use Rattle.rule_verdicts.specs.declared.truths.Truths.{Truths}
+use Rattle.rule_verdicts.specs.Truths.{AreTruths}
+use Rattle.rule_verdicts.specs.Numbers.{numbered_rule}
+use Rattle.ca_questions.specs.Counts.{AreCounts, AreLeastRules}
+use Rattle.ca_questions.specs.Values.{counts_of}
+use Rattle.ca_answering.specs.declared.class_tally.ClassTally.{ClassTally}
+
+-- the rule of k states, width m and offset 0 of an entry
+abbrev pub rule_in : ℕ → ℕ → ℕ × Truths → LocalRule
+rule_in k m entry = numbered_rule k m entry.0
+
+-- the rules that have been decided
+abbrev pub rules_in : ℕ → ℕ → List (ℕ × Truths) → List LocalRule
+rules_in k m entries = map (rule_in k m) entries
+
+-- the verdicts of an accepted rule, under its number
+pub record IsDecided (k m : ℕ) (entry : ℕ × Truths) : Type 0 where
+  pub accepted : IsRule (rule_in k m entry)
+  pub number : wolfram_number (rule_in k m entry) ≡ entry.0
+  pub truths : AreTruths (rule_in k m entry) entry.1
+
+-- the list has the rule, as before or at its end
+pub data IsRuleAdded (g : LocalRule) : List LocalRule → List LocalRule → Type 0 where
+  Old : (rules : List LocalRule) → Contains rules g → IsRuleAdded g rules rules
+  New : (rules : List LocalRule) → ¬ Contains rules g → IsRuleAdded g rules (rules ++ g ∷ [])
+
+-- the rules have been counted, and the least rules of their classes have been decided
+pub record IsClassTally (k m : ℕ) (rules : List LocalRule) (t : ClassTally) : Type 0 where
+  pub counts : AreCounts rules (counts_of t.counts)
+  pub decided : All (IsDecided k m) (t.leasts).entries
+  pub leasts : AreLeastRules rules (rules_in k m (t.leasts).entries)

@@ -1,0 +1,73 @@
+//! Questions about rules that are made of rules.
+ghost use Rattle.std.specs.Prelude.{◌≡◌};
+ghost use Rattle.word_image.specs.LocalRules.{IsRule};
+ghost use Rattle.ca_questions.specs.Questions.{Question};
+ghost use Rattle.ca_questions.specs.Findings.{IsFinding};
+ghost use Rattle.ca_questions.specs.Values.{Settles, finding_of};
+
+use ca_questions::{Cause, Found};
+use word_image::Rule;
+
+/// Returns the mirrored rule.
+pub fn reflect(rule: &Rule) -> Found
+    ensures { IsFinding (Question.Reflect rule.now) (finding_of result) }
+{
+    found(rule.reflect())
+}
+
+/// Returns the rule without the cells at its ends that it ignores, down to a width of 2.
+pub fn trim(rule: &Rule) -> Found
+    ensures { IsFinding (Question.Trim rule.now) (finding_of result) }
+{
+    found(rule_algebra::trim(rule))
+}
+
+/// Returns the rule whose window is `by` cells further to the right, or the cause why there is none.
+pub fn shift(rule: &Rule, by: i8) -> Result<Found, Cause>
+    ensures { Settles (Question.Shift rule.now by) result }
+{
+    match rule_algebra::shift(rule, by) {
+        Ok(shifted) => Ok(found(shifted)),
+        Err(fault) => Err(Cause::Algebra(fault)),
+    }
+}
+
+/// Returns the rule at this width, with ignored cells on the right, or the cause why there is none.
+pub fn widen(rule: &Rule, width: u8) -> Result<Found, Cause>
+    ensures { Settles (Question.Widen rule.now width) result }
+{
+    match rule_algebra::widen(rule, width) {
+        Ok(widened) => Ok(found(widened)),
+        Err(fault) => Err(Cause::Algebra(fault)),
+    }
+}
+
+/// Returns the rule with new names for its letters, where letter a gets the name at place a, or the cause why there
+/// is none.
+pub fn permute(rule: &Rule, letters: &[u8]) -> Result<Found, Cause>
+    ensures { Settles (Question.Permute rule.now letters.now) result }
+{
+    match rule_algebra::permute(rule, letters) {
+        Ok(permuted) => Ok(found(permuted)),
+        Err(fault) => Err(Cause::Algebra(fault)),
+    }
+}
+
+/// Returns the composition of two rules, the second after the first, or the cause why there is none.
+pub fn compose(first: &Rule, second: &Rule) -> Result<Found, Cause>
+    ensures { Settles (Question.Compose first.now second.now) result }
+{
+    match rule_algebra::compose(first, second) {
+        Ok(composed) => Ok(found(composed)),
+        Err(fault) => Err(Cause::Algebra(fault)),
+    }
+}
+
+/// Makes a finding of a rule.
+pub fn found(rule: Rule) -> Found
+    ensures made { result ≡ Found.Rule rule }
+    ensures accepted { IsRule rule }
+{
+    rule.keeps_limits();
+    Found::Rule(rule)
+}

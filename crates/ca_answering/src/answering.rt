@@ -1,0 +1,67 @@
+//! The answer to a question: one function for each kind of question.
+ghost use Rattle.std.specs.Prelude.{◌≡◌, option_copied};
+ghost use Rattle.ca_questions.specs.QuestionValues.{IsWhole, question_of};
+ghost use Rattle.ca_questions.specs.Questions as questions;
+ghost use Rattle.ca_questions.specs.Values.{Answers, Settles};
+
+use crate::algebra::{compose, permute, reflect, shift, trim, widen};
+use crate::class_rules::{least, lift, unlift};
+use crate::inverses::inverse;
+use crate::languages::{erase, language, same};
+use crate::preimages::preimage;
+use crate::reports::{certificate, number, orphan, report};
+use crate::summaries::{classes, sample, survey};
+use ca_questions::{Cause, Found, Question, ShortList, Stop};
+use std::alloc::Global;
+
+/// Returns the finding for a question, or the reason why there is none.
+pub fn answer(alloc: Global, question: &Question) -> Result<Found, Stop>
+    requires { IsWhole question.now }
+    ensures { Answers (question_of question.now) result }
+{
+    match question {
+        Question::Report(rule, weights) => report(alloc, rule, named(weights)),
+        Question::Certify(version, rule, weights) => {
+            certificate(alloc, *version, rule, named(weights))
+        }
+        Question::Orphan(rule) => orphan(alloc, rule),
+        Question::Number(rule) => Ok(number(rule)),
+        Question::Reflect(rule) => Ok(reflect(rule)),
+        Question::Trim(rule) => Ok(trim(rule)),
+        Question::Shift(rule, by) => settled(shift(rule, *by)),
+        Question::Widen(rule, width) => settled(widen(rule, *width)),
+        Question::Permute(rule, letters) => settled(permute(rule, letters.as_slice())),
+        Question::Compose(first, second) => settled(compose(first, second)),
+        Question::Least(rule) => settled(least(rule)),
+        Question::Lift(rule) => settled(lift(rule)),
+        Question::Unlift(rule) => settled(unlift(rule)),
+        Question::Inverse(rule) => inverse(alloc, rule),
+        Question::Language(rule) => language(alloc, rule),
+        Question::Same(first, second) => same(alloc, first, second),
+        Question::Erase(rule) => erase(alloc, rule),
+        Question::Preimage(rule, tail) => preimage(alloc, rule, tail),
+        Question::Survey(rules) => Ok(survey(*rules)),
+        Question::Sample(rules) => Ok(sample(*rules)),
+        Question::Classes(rules) => Ok(classes(alloc, *rules)?),
+    }
+}
+
+/// Turns the answer to a question that needs no memory into the answer to a question.
+fn settled(found: Result<Found, Cause>) -> Result<Found, Stop>
+    ensures { (q : questions.Question) → Settles q found → Answers q result }
+{
+    match found {
+        Ok(found) => Ok(found),
+        Err(cause) => Err(Stop::Unfit(cause)),
+    }
+}
+
+/// Returns the named weights as a slice.
+fn named(weights: &Option<ShortList>) -> Option<&[u8]>
+    ensures { option_copied result ≡ weights.now }
+{
+    match weights {
+        Some(list) => Some(list.as_slice()),
+        None => None,
+    }
+}

@@ -1,0 +1,107 @@
+//! Counts of rules with each property. Each class of rules is decided only once.
+ghost use Rattle.std.specs.Prelude.{◌≡◌, ◌<◌, ◌≤◌, ◌+◌, ℕ, List, [], ◌∷◌, ◌++◌, length, nat_eq, None, All, IfOk, OnOk, pos};
+ghost use Rattle.indexmap.specs.IndexMap.{get};
+ghost use Rattle.word_image.specs.LocalRules.{LocalRule, IsRule};
+ghost use Rattle.rule_classes.specs.ClassVerdicts.{HaveOneVerdict};
+ghost use Rattle.rule_verdicts.specs.Truths.{AreTruths};
+ghost use Rattle.ca_questions.specs.Questions.{Question};
+ghost use Rattle.ca_questions.specs.Findings.{IsFinding};
+ghost use Rattle.ca_questions.specs.Values.{finding_of};
+ghost use Rattle.ca_answering.specs.ClassTallies.{IsRuleAdded, IsClassTally, IsDecided, rules_in};
+
+use crate::tally;
+use ca_questions::{Counts, Found};
+use indexmap::IndexMap;
+use rule_classes::class_of;
+use rule_text::number;
+use rule_verdicts::{Truths, keeps_sums};
+use std::alloc::{AllocError, Global};
+use word_image::Rule;
+
+/// The counts of some rules, and the verdicts of the least rules of their classes.
+#[derive(Drop)]
+pub struct ClassTally {
+    counts: Counts,
+    // By Wolfram number, in the order in which they were added.
+    leasts: IndexMap<u128, Truths>,
+}
+
+impl ClassTally {
+    /// Returns the counts of no rules.
+    pub fn new(alloc: Global) -> ClassTally
+        ensures { (k m : ℕ) → IsClassTally k m [] result }
+    {
+        ClassTally {
+            counts: tally::no_rules(),
+            leasts: IndexMap::new(alloc),
+        }
+    }
+
+    /// Counts one more rule.
+    pub fn add(&mut self, rule: &Rule) -> Result<(), AllocError>
+        requires states { rule.now.states ≤ 6 }
+        requires tally { (rules : List LocalRule) × IsClassTally rule.now.states rule.now.width rules self.old × (length rules < 4096) }
+        ensures { (rules : List LocalRule) → IsClassTally rule.now.states rule.now.width rules self.old →
+            OnOk result (IsClassTally rule.now.states rule.now.width (rules ++ rule.now ∷ []) self.new) }
+    {
+        let place = class_of(rule).unwrap();
+        let least = decided(&mut self.leasts, &place.least)?;
+        tally::add(&mut self.counts, &of_member(rule, place.mirrored, &least));
+        Ok(())
+    }
+
+    /// Returns the counts and the number of classes.
+    pub fn found(&self) -> Found
+        ensures { (k m : ℕ) (rules : List LocalRule) → IsClassTally k m rules self.now → IsFinding (Question.Classes rules) (finding_of result) }
+    {
+        Found::Classes(self.counts, self.leasts.len())
+    }
+}
+
+/// Returns the verdicts of a rule, and stores them under its number.
+fn decided(known: &mut IndexMap<u128, Truths>, rule: &Rule) -> Result<Truths, AllocError>
+    requires states { rule.now.states ≤ 6 }
+    requires offset { rule.now.offset ≡ pos 0 }
+    requires known { All (IsDecided rule.now.states rule.now.width) known.old.entries }
+    ensures truths { IfOk result (AreTruths rule.now) }
+    ensures known { OnOk result (All (IsDecided rule.now.states rule.now.width) known.new.entries) }
+    ensures added { OnOk result (IsRuleAdded rule.now (rules_in rule.now.states rule.now.width known.old.entries) (rules_in rule.now.states rule.now.width known.new.entries)) }
+{
+    rule.keeps_limits();
+    let number = number(rule).unwrap();
+    if let Some(truths) = known.get(&number).copied() {
+        return Ok(truths);
+    }
+    let truths = Truths::of(rule);
+    keep(known, number, &truths)?;
+    Ok(truths)
+}
+
+/// Stores the verdicts of a rule under a number that has none yet.
+fn keep(known: &mut IndexMap<u128, Truths>, number: u128, truths: &Truths) -> Result<(), AllocError>
+    requires { get nat_eq known.old number ≡ None }
+    ensures { OnOk result (known.new.entries ≡ known.old.entries ++ (number, truths.now) ∷ []) }
+{
+    known.insert(number, *truths)?;
+    Ok(())
+}
+
+/// Returns the verdicts of a rule, from those of the least rule of its class. The sums of rings are decided anew,
+/// since other names for the letters change them.
+fn of_member(rule: &Rule, mirrored: bool, least: &Truths) -> Truths
+    ensures rule { IsRule rule.now }
+    ensures truths { (g : LocalRule) → HaveOneVerdict rule.now mirrored g → AreTruths g least.now → AreTruths rule.now result }
+{
+    let (right, left) = if mirrored {
+        (least.left, least.right)
+    } else {
+        (least.right, least.left)
+    };
+    Truths {
+        surjective: least.surjective,
+        injective: least.injective,
+        right,
+        left,
+        conserving: keeps_sums(rule),
+    }
+}

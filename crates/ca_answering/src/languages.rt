@@ -1,0 +1,74 @@
+//! Questions about the words that have a preimage.
+ghost use Rattle.std.specs.Prelude.{◌≤◌, IfOk, ◌≡◌};
+ghost use Rattle.image_minimal.specs.ImageLanguages.{IsLeastAutomaton};
+ghost use Rattle.ca_questions.specs.Questions.{Question};
+ghost use Rattle.ca_questions.specs.Values.{Answers, automaton_of};
+ghost use Rattle.ca_answering.specs.OneClass as one;
+
+use ca_questions::{Automaton, Cause, Found, Pair, Stop};
+use debruijn::Graph;
+use eden_law::{erasable, is_surjective};
+use image_minimal::{Minimal, SepFault, separate};
+use least_walk::Walker;
+use std::alloc::{AllocError, Global};
+use word_image::Rule;
+
+/// Returns the least automaton of the words that have a preimage.
+pub fn language(alloc: Global, rule: &Rule) -> Result<Found, Stop>
+    ensures { Answers (Question.Language rule.now) result }
+{
+    if is_surjective(&Graph::of(rule)) {
+        return Ok(Found::Language(one_class(alloc, rule.k())?));
+    }
+    let minimal = image_minimal::least(alloc, rule)?;
+    Ok(Found::Language(automaton(alloc, &minimal)?))
+}
+
+/// Returns the automaton of a surjective rule of k states.
+fn one_class(alloc: Global, k: u8) -> Result<Automaton, AllocError>
+    ensures { IfOk result (λ m. automaton_of m ≡ one.one_class k) }
+{
+    Ok(Automaton {
+        states: k,
+        classes: 1,
+        next: vec![in alloc; 0; usize::from(k)]?,
+        dead: None,
+    })
+}
+
+/// Returns an automaton with all its rows.
+fn automaton(alloc: Global, minimal: &Minimal) -> Result<Automaton, AllocError>
+    ensures { IfOk result (λ m. IsLeastAutomaton minimal.now (automaton_of m)) }
+{
+    Ok(Automaton {
+        states: minimal.k(),
+        classes: minimal.len(),
+        next: minimal.rows(alloc)?,
+        dead: minimal.dead(),
+    })
+}
+
+/// Returns the least word that is an orphan of exactly one of the two rules, if there is one.
+pub fn same(alloc: Global, first: &Rule, second: &Rule) -> Result<Found, Stop>
+    ensures { Answers (Question.Same first.now second.now) result }
+{
+    match separate(alloc, first, second) {
+        Ok(word) => Ok(Found::Same(word)),
+        Err(SepFault::States) => Err(Stop::Unfit(Cause::States)),
+        Err(SepFault::Memory(fault)) => Err(Stop::Memory(fault)),
+    }
+}
+
+/// Returns the least erasable pair, if the rule isn't surjective.
+pub fn erase(alloc: Global, rule: &Rule) -> Result<Found, Stop>
+    ensures { Answers (Question.Erase rule.now) result }
+{
+    let mut walker = Walker::new(alloc)?;
+    match erasable(alloc, rule, &mut walker)? {
+        None => Ok(Found::Erased(None)),
+        Some(pair) => Ok(Found::Erased(Some(Pair {
+            x: pair.x,
+            y: pair.y,
+        }))),
+    }
+}

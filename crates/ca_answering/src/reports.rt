@@ -1,0 +1,75 @@
+//! Questions about the verdicts of a rule.
+ghost use Rattle.std.specs.Prelude.{◌≡◌, length, true, option_copied, IfNone, IfOk, IfSome};
+ghost use Rattle.cert_values.specs.Versions.{names_weights};
+ghost use Rattle.ca_questions.specs.Questions.{Question};
+ghost use Rattle.ca_questions.specs.Findings.{AreFor, IsFinding, weights_by};
+ghost use Rattle.ca_questions.specs.Values.{Answers, finding_of};
+
+use ca_questions::{Cause, Found, Stop};
+use cert_values::CertVersion;
+use rule_verdicts::{Evidence, least_orphan};
+use std::alloc::{AllocError, Global};
+use word_image::{Rule, Weights};
+
+/// Returns the verdicts of a rule, each with the least evidence, under these weights. Without weights, each letter
+/// weighs its own value. Returns the cause `Weights` if there isn't one weight for each letter.
+pub fn report(alloc: Global, rule: &Rule, weights: Option<&[u8]>) -> Result<Found, Stop>
+    ensures { Answers (Question.Report rule.now (option_copied weights.entry)) result }
+{
+    rule.keeps_limits();
+    match weights_for(rule, weights) {
+        Some(weights) => Ok(Found::Report(Evidence::of(alloc, rule, &weights)?.report)),
+        None => Err(Stop::Unfit(Cause::Weights)),
+    }
+}
+
+/// Returns the named weights if there is one for each letter of the rule, or the letters' own values if no weights
+/// are named.
+pub fn weights_for(rule: &Rule, weights: Option<&[u8]>) -> Option<Weights>
+    ensures each { IfSome result (λ each. AreFor (option_copied weights.entry) rule.now) }
+    ensures weights { IfSome result (λ each. each ≡ weights_by (option_copied weights.entry) rule.now) }
+    ensures letters { IfSome result (λ each. length each ≡ rule.now.states) }
+    ensures none { IfNone result (¬ AreFor (option_copied weights.entry) rule.now) }
+{
+    let Some(list) = weights else {
+        return Some(Weights::own(rule.k()));
+    };
+    match Weights::new(rule.k(), list) {
+        Ok(weights) => Some(weights),
+        Err(_) => None,
+    }
+}
+
+/// Returns the certificate of this version, which is 2 or 3, of the rule and these weights. Returns the cause
+/// `Weights` if there isn't one weight for each letter.
+pub fn certificate(
+    alloc: Global,
+    version: CertVersion,
+    rule: &Rule,
+    weights: Option<&[u8]>,
+) -> Result<Found, Stop>
+    requires { names_weights version ≡ true }
+    ensures { Answers (Question.Certify version rule.now (option_copied weights.entry)) result }
+{
+    match weights_for(rule, weights) {
+        Some(weights) => {
+            let cert = Evidence::of(alloc, rule, &weights)?.certificate(alloc, version)?;
+            Ok(Found::Written(cert))
+        }
+        None => Err(Stop::Unfit(Cause::Weights)),
+    }
+}
+
+/// Returns the least orphan, or None if the rule is surjective.
+pub fn orphan(alloc: Global, rule: &Rule) -> Result<Found, Stop>
+    ensures { Answers (Question.Orphan rule.now) result }
+{
+    Ok(Found::Orphan(least_orphan(alloc, rule)?))
+}
+
+/// Returns the Wolfram number of a rule, or None if it has 7 states or more.
+pub fn number(rule: &Rule) -> Found
+    ensures { IsFinding (Question.Number rule.now) (finding_of result) }
+{
+    Found::Number(rule_text::number(rule))
+}

@@ -1,0 +1,167 @@
+//! Counts of rules with each property.
+ghost use Rattle.std.specs.Prelude.{◌≡◌, ℕ, List, ◌+◌, ◌^◌, ◌<◌, ◌≤◌, None, length, reverse, IfOk, pos};
+ghost use Rattle.word_image.specs.LocalRules.{LocalRule, IsRule, IsShape, value};
+ghost use Rattle.rule_verdicts.specs.Numbers.{numbered_rule, numbers_fault, AreVerdictBytes};
+ghost use Rattle.rule_text.specs.RuleTexts as texts;
+ghost use Rattle.ca_questions.specs.Questions.{Question};
+ghost use Rattle.ca_questions.specs.Counts.{AreCounts};
+ghost use Rattle.ca_questions.specs.Findings.{IsFinding};
+ghost use Rattle.ca_questions.specs.Values.{counts_of, finding_of};
+ghost use Rattle.ca_answering.specs.ClassTallies.{IsClassTally};
+ghost use Rattle.ca_questions.specs.Samples.{survey_rules, sample_rules};
+ghost use Rattle.ca_questions.specs.QuestionValues.{AreNumbered, AreDrawn};
+
+use crate::class_tally::ClassTally;
+use crate::generator::Generator;
+use crate::tally;
+use ca_questions::{Counts, Drawn, Found, Numbered};
+use flux_conserve::letter_sum;
+use rule_text::numbered;
+use rule_verdicts::{Truths, next_table, rule_of_table, verdict_bytes};
+use std::alloc::{AllocError, Global};
+use word_image::{MOST_ENTRIES, Rule};
+
+/// The greatest number of rules of a summary.
+const MOST_RULES: usize = 4096;
+
+/// Counts the rules with these numbers that have each property. Needs no memory.
+pub fn survey(rules: Numbered) -> Found
+    requires { AreNumbered rules }
+    ensures { IsFinding (Question.Summary (survey_rules rules.states rules.width rules.first rules.count)) (finding_of result) }
+{
+    summary(counts_of_numbers(rules.states, rules.width, rules.first, rules.count))
+}
+
+/// Counts the first rules that a seed determines that have each property. Needs no memory.
+pub fn sample(rules: Drawn) -> Found
+    requires { AreDrawn rules }
+    ensures { IsFinding (Question.Summary (sample_rules rules.states rules.width rules.seed rules.count)) (finding_of result) }
+{
+    summary(counts_of_draws(rules.states, rules.width, rules.seed, rules.count))
+}
+
+/// Makes a finding of counts.
+fn summary(counts: Counts) -> Found
+    ensures { (rules : List LocalRule) → AreCounts rules (counts_of counts) → IsFinding (Question.Summary rules) (finding_of result) }
+{
+    Found::Summary(counts)
+}
+
+/// Counts like `survey`, and counts the classes of the rules, too. Each class is decided only once.
+pub fn classes(alloc: Global, rules: Numbered) -> Result<Found, AllocError>
+    requires { AreNumbered rules }
+    ensures { IfOk result (λ found. IsFinding (Question.Classes (survey_rules rules.states rules.width rules.first rules.count)) (finding_of found)) }
+{
+    let tally = classes_of_numbers(alloc, rules.states, rules.width, rules.first, rules.count)?;
+    Ok(tally.found())
+}
+
+/// Counts the verdicts of the rules with `count` consecutive numbers, starting at `first`.
+fn counts_of_numbers(k: u8, m: u8, first: u128, count: u16) -> Counts
+    requires accepted { numbers_fault k m first count ≡ None }
+    requires some { 1 ≤ count }
+    requires few { count ≤ 4096 }
+    ensures { AreCounts (survey_rules k m first count) (counts_of result) }
+{
+    let mut bytes = [0; MOST_RULES];
+    let bytes = &mut bytes[..usize::from(count)];
+    verdict_bytes(k, m, first, bytes).unwrap();
+    counts_of_bytes(k, m, first, bytes)
+}
+
+/// Counts the verdicts of the rules with consecutive numbers, starting at `first`, with a byte for each rule.
+fn counts_of_bytes(k: u8, m: u8, first: u128, bytes: &[u8]) -> Counts
+    requires accepted { numbers_fault k m first (length bytes.now) ≡ None }
+    requires bytes { AreVerdictBytes k m first bytes.now }
+    requires few { length bytes.now ≤ 4096 }
+    ensures { AreCounts (survey_rules k m first (length bytes.now)) (counts_of result) }
+{
+    let mut counts = tally::no_rules();
+    for byte in bytes {
+        tally::add(&mut counts, &Truths::of_byte(*byte));
+    }
+    counts
+}
+
+/// Counts the verdicts of the rules with `count` consecutive numbers by their classes, starting at `first`.
+fn classes_of_numbers(
+    alloc: Global,
+    k: u8,
+    m: u8,
+    first: u128,
+    count: u16,
+) -> Result<ClassTally, AllocError>
+    requires accepted { numbers_fault k m first count ≡ None }
+    requires some { 1 ≤ count }
+    requires few { count ≤ 4096 }
+    ensures { IfOk result (IsClassTally k m (survey_rules k m first count)) }
+{
+    let rule = first_rule(k, m, first, count);
+    let mut table = [0; MOST_ENTRIES];
+    let table = &mut table[..rule.table().len()];
+    table.copy_from_slice(rule.table());
+    classes_from(alloc, k, m, table, count)
+}
+
+/// Returns the first of some rules that have numbers.
+fn first_rule(k: u8, m: u8, first: u128, count: u16) -> Rule
+    requires accepted { numbers_fault k m first count ≡ None }
+    requires some { 1 ≤ count }
+    ensures { result ≡ numbered_rule k m first }
+{
+    match numbered(k, m, 0, first) {
+        Ok(rule) => rule,
+        Err(_) => unreachable!(),
+    }
+}
+
+/// Counts the verdicts of rules with consecutive numbers by their classes, starting with the number of this table.
+/// The table changes along with them.
+fn classes_from(
+    alloc: Global,
+    k: u8,
+    m: u8,
+    table: &mut [u8],
+    count: u16,
+) -> Result<ClassTally, AllocError>
+    requires rule { IsRule (texts.rule_of_table k m table.old) }
+    requires states { k ≤ 6 }
+    requires room { value k (reverse table.old) + count ≤ k ^ length table.old }
+    requires few { count ≤ 4096 }
+    ensures { IfOk result (IsClassTally k m (survey_rules k m (value k (reverse table.old)) count)) }
+{
+    let mut total = letter_sum(table);
+    let mut tally = ClassTally::new(alloc);
+    for _place in 0..count {
+        tally.add(&rule_of_table(k, m, table))?;
+        total = next_table(k, table, total);
+    }
+    Ok(tally)
+}
+
+/// Counts the verdicts of the first rules that a seed determines.
+fn counts_of_draws(k: u8, m: u8, seed: u64, count: u16) -> Counts
+    requires shape { IsShape k m (pos 0) }
+    requires few { count ≤ 4096 }
+    ensures { AreCounts (sample_rules k m seed count) (counts_of result) }
+{
+    let size = usize::from(k).pow(u32::from(m));
+    let mut table = [0; MOST_ENTRIES];
+    counts_in(k, m, seed, count, &mut table[..size])
+}
+
+/// Does the same. Each table is drawn over the one before.
+fn counts_in(k: u8, m: u8, seed: u64, count: u16, table: &mut [u8]) -> Counts
+    requires shape { IsShape k m (pos 0) }
+    requires few { count ≤ 4096 }
+    requires long { length table.old ≡ k ^ m }
+    ensures { AreCounts (sample_rules k m seed count) (counts_of result) }
+{
+    let mut generator = Generator::from_seed(seed);
+    let mut counts = tally::no_rules();
+    for _i in 0..count {
+        generator.fill(table, k);
+        tally::add(&mut counts, &Truths::of_table(k, m, table));
+    }
+    counts
+}

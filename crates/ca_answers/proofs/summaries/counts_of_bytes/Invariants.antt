@@ -1,7 +1,0 @@
-use Rattle.ca_findings.specs.Samples.{survey_rules}
-use Rattle.ca_findings.proofs.Common.{AreCounts, counts_of}
-use Rattle.ca_answers.proofs.summaries.counts_of_bytes.Given as goal
-
--- the rules so far are counted
-abbrev pub invariant-loop-byte : goal.invariant-loop-byte
-invariant-loop-byte l = AreCounts (survey_rules l.k l.m l.first l.byte-index) (counts_of l.counts)

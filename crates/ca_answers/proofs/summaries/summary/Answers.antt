@@ -1,5 +1,0 @@
-use Rattle.ca_findings.proofs.Common.{IsFinding, counts_of}
-use Rattle.ca_answers.proofs.summaries.summary.Goals as goal
-
-pub returns : goal.returns
-returns c rules are = IsFinding.Summary rules (counts_of c.args.counts) are

@@ -1,0 +1,73 @@
+-- What words ask, or why they ask nothing.
+use Rattle.std.specs.Prelude.{◌≡◌, ℕ, List, [], ◌∷◌, None, ⊤}
+use Rattle.word_image.specs.LocalRules.{LocalRule}
+use Rattle.rule_text.specs.declared.text_fault.TextFault.{TextFault}
+use Rattle.rule_text.specs.RuleTexts.{IsTextFault, decimal_value}
+use Rattle.ca_commands.specs.declared.names.Name.{Name}
+use Rattle.ca_commands.specs.declared.names.Name.TheVariants as name
+use Rattle.ca_commands.specs.Commands.{Command, IsCommand, word_of}
+use Rattle.ca_questions.specs.declared.found.Stop.{Stop}
+use Rattle.ca_questions.specs.declared.found.Stop.TheVariants as stop
+use Rattle.ca_questions.specs.declared.question.Numbered.{Numbered}
+use Rattle.ca_questions.specs.declared.question.Drawn.{Drawn}
+use Rattle.ca_questions.specs.declared.question.Question as code
+use Rattle.ca_questions.specs.QuestionValues.{AreNumbered, AreDrawn, IsWhole, question_of}
+use Rattle.ca_questions.specs.Questions.{Question}
+use Rattle.ca_questions.specs.Samples.{sample_fault}
+use Rattle.ca_questions.specs.Findings.{IsUnfitFor}
+use Rattle.ca_questions.specs.Values.{unfit_of}
+use Rattle.ca_commands.specs.Asked.{AreRuleTexts, IsAsked, IsOperandFault}
+
+-- the command of this name, with the texts of its rules and its operands
+abbrev pub command_of : Name → List (List ℕ) → List (List ℕ) → Command
+command_of n rules operands = record { name = n; rules = rules; operands = operands }
+
+-- the words are a command of this name, with the texts of these rules and with these operands
+pub record IsCall (words : List (List ℕ)) (n : Name) (rules : List LocalRule) (operands : List (List ℕ)) : Type 0 where
+  pub texts : List (List ℕ)
+  pub is : IsCommand words (command_of n texts operands)
+  pub says : AreRuleTexts texts rules
+
+-- the words are a command that asks the question
+pub record Ask (words : List (List ℕ)) (q : Question) : Type 0 where
+  pub command : Command
+  pub is : IsCommand words command
+  pub asked : IsAsked command q
+
+-- the words ask this question, whose parts belong together
+abbrev pub IsAskedBy : List (List ℕ) → code.Question → Type 0
+IsAskedBy words q = Ask words (question_of q) × IsWhole q
+
+-- nothing is found for the words: they are no command, or one of its operands is refused, or nothing fits its question, or there was no memory
+abbrev pub IsStop : List (List ℕ) → Stop → Type 0
+IsStop words stop.Usage = (c : Command) → ¬ IsCommand words c
+IsStop words (stop.RuleFault operand f) = (c : Command) × IsCommand words c × IsOperandFault c operand f
+IsStop words (stop.Unfit u) = (q : Question) × Ask words q × IsUnfitFor q (unfit_of u)
+IsStop words (stop.Memory _) = ⊤
+
+-- the operands behind the name say the numbers of these rules
+pub record AreNumberedBy (n : Name) (operands : List (List ℕ)) (rules : Numbered) : Type 0 where
+  pub k : List ℕ
+  pub m : List ℕ
+  pub first : List ℕ
+  pub count : List ℕ
+  pub is : IsCall (word_of n ∷ operands) n [] (k ∷ m ∷ first ∷ count ∷ [])
+  pub are : AreNumbered rules
+  pub rules_are : rules ≡ record { states = decimal_value k; width = decimal_value m; first = decimal_value first; count = decimal_value count }
+
+-- the operands of `sample` say the seed of these rules
+pub record AreDrawnBy (operands : List (List ℕ)) (rules : Drawn) : Type 0 where
+  pub k : List ℕ
+  pub m : List ℕ
+  pub seed : List ℕ
+  pub count : List ℕ
+  pub is : IsCall (word_of name.Sample ∷ operands) name.Sample [] (k ∷ m ∷ seed ∷ count ∷ [])
+  pub are : AreDrawn rules
+  pub accepted : sample_fault (decimal_value k) (decimal_value m) ≡ None
+  pub rules_are : rules ≡ record { states = decimal_value k; width = decimal_value m; seed = decimal_value seed; count = decimal_value count }
+
+-- the text, the operand with this number, isn't one of a rule
+pub record IsRuleFault (operand : ℕ) (text : List ℕ) (s : Stop) : Type 0 where
+  pub fault : TextFault
+  pub is : s ≡ stop.RuleFault operand fault
+  pub first : IsTextFault text fault

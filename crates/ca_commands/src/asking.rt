@@ -1,0 +1,286 @@
+//! From words to the question that they ask: each operand is read once.
+ghost use Rattle.std.specs.Prelude.{◌≡◌, ◌≢◌, ◌∷◌, ◌↔◌, [], ℕ, IsTrue, List, length, map, string_bytes, MatchOption, MatchResult};
+ghost use Rattle.rule_text.specs.RuleTexts.{IsRuleText};
+ghost use Rattle.ca_commands.specs.declared.names.Name.TheVariants as names;
+ghost use Rattle.ca_commands.specs.Commands.{Form, IsCommand, check_command, form_of, rule_count, word_of};
+ghost use Rattle.ca_commands.specs.Asked.{weights_in};
+ghost use Rattle.ca_commands.specs.Asking.{AreDrawnBy, AreNumberedBy, IsAskedBy, IsCall, IsRuleFault, IsStop};
+
+use crate::names::Name;
+use crate::operands::{count_of, seed, small};
+use crate::short_lists::{colours, weights};
+use ca_questions::{Cause, Drawn, Numbered, Question, ShortList, Stop};
+use cert_values::CertVersion;
+use rule_text::{decimal_number, decimal_offset, is_decimal};
+use std::alloc::Global;
+use tail_config::{TailTextFault, has_form};
+use word_image::Rule;
+
+/// Returns whether the words are the command `check`.
+pub fn is_check(words: &[String]) -> bool
+    ensures { IsTrue result ↔ IsCommand (map string_bytes words.now) check_command }
+{
+    match one(words) {
+        Some(word) => word == "check".as_bytes(),
+        None => false,
+    }
+}
+
+/// Returns the question that words other than `check` ask. Returns `Usage` if they are no command, then `RuleFault` for
+/// the first rule whose text has a fault, then `Unfit` if the parts of a configuration don't fit the rule. The only
+/// other error is lack of memory, for a configuration.
+pub fn question(alloc: Global, words: &[String]) -> Result<Question, Stop>
+    requires { ¬ IsCommand (map string_bytes words.now) check_command }
+    ensures { MatchResult result (IsAskedBy (map string_bytes words.now)) (IsStop (map string_bytes words.now)) }
+{
+    let Some((word, rest)) = words.split_first() else {
+        return Err(Stop::Usage);
+    };
+    match Name::named(word) {
+        Some(name) => behind(alloc, name, rest),
+        None => Err(Stop::Usage),
+    }
+}
+
+/// Returns the question that the words after a name ask.
+#[tactic(auto, using(crate::proofs::laws::Asking::asking))]
+fn behind(alloc: Global, name: Name, rest: &[String]) -> Result<Question, Stop>
+    requires { name ≡ names.Check → rest.now ≢ [] }
+    ensures { MatchResult result (IsAskedBy (word_of name ∷ map string_bytes rest.now)) (IsStop (word_of name ∷ map string_bytes rest.now)) }
+{
+    match name {
+        Name::Decide => {
+            let (rule, weights) = rule_and_weights(name, rest)?;
+            Ok(Question::Report(rule, weights))
+        }
+        Name::Certify => {
+            let (rule, weights) = rule_and_weights(name, rest)?;
+            Ok(Question::Certify(CertVersion::Two, rule, weights))
+        }
+        Name::Brief => {
+            let (rule, weights) = rule_and_weights(name, rest)?;
+            Ok(Question::Certify(CertVersion::Three, rule, weights))
+        }
+        Name::Orphan => Ok(Question::Orphan(one_rule(name, rest)?)),
+        Name::Number => Ok(Question::Number(one_rule(name, rest)?)),
+        Name::Reflect => Ok(Question::Reflect(one_rule(name, rest)?)),
+        Name::Trim => Ok(Question::Trim(one_rule(name, rest)?)),
+        Name::Shift => shift(rest),
+        Name::Widen => widen(rest),
+        Name::Permute => permute(rest),
+        Name::Compose => {
+            let (first, second) = two_rules(name, rest)?;
+            Ok(Question::Compose(first, second))
+        }
+        Name::Least => Ok(Question::Least(one_rule(name, rest)?)),
+        Name::Lift => Ok(Question::Lift(one_rule(name, rest)?)),
+        Name::Unlift => Ok(Question::Unlift(one_rule(name, rest)?)),
+        Name::Inverse => Ok(Question::Inverse(one_rule(name, rest)?)),
+        Name::Language => Ok(Question::Language(one_rule(name, rest)?)),
+        Name::Same => {
+            let (first, second) = two_rules(name, rest)?;
+            Ok(Question::Same(first, second))
+        }
+        Name::Erase => Ok(Question::Erase(one_rule(name, rest)?)),
+        Name::Preimage => preimage(alloc, rest),
+        Name::Survey => Ok(Question::Survey(numbered(rest)?)),
+        Name::Sample => Ok(Question::Sample(drawn(rest)?)),
+        Name::Classes => Ok(Question::Classes(numbered(rest)?)),
+        Name::Check => Err(Stop::Usage),
+    }
+}
+
+/// Reads a rule.
+fn one_rule(name: Name, rest: &[String]) -> Result<Rule, Stop>
+    requires one { rule_count name ≡ 1 }
+    requires none { form_of name ≡ Form.Nothing }
+    ensures { MatchResult result
+        (λ r. IsCall (word_of name ∷ map string_bytes rest.now) name (r ∷ []) [])
+        (IsStop (word_of name ∷ map string_bytes rest.now)) }
+{
+    match one(rest) {
+        Some(text) => rule_operand(1, text),
+        None => Err(Stop::Usage),
+    }
+}
+
+/// Reads two rules, and returns the first fault.
+fn two_rules(name: Name, rest: &[String]) -> Result<(Rule, Rule), Stop>
+    requires two { rule_count name ≡ 2 }
+    requires none { form_of name ≡ Form.Nothing }
+    ensures { MatchResult result
+        (λ rules. IsCall (word_of name ∷ map string_bytes rest.now) name (rules.0 ∷ rules.1 ∷ []) [])
+        (IsStop (word_of name ∷ map string_bytes rest.now)) }
+{
+    let Some((first, second)) = two(rest) else {
+        return Err(Stop::Usage);
+    };
+    let first = rule_operand(1, first)?;
+    let second = rule_operand(2, second)?;
+    Ok((first, second))
+}
+
+/// Reads a rule, and weights if there is a second word.
+fn rule_and_weights(name: Name, rest: &[String]) -> Result<(Rule, Option<ShortList>), Stop>
+    requires one { rule_count name ≡ 1 }
+    requires weights { form_of name ≡ Form.Weights }
+    ensures { MatchResult result
+        (λ read. (operands : List (List ℕ)) × IsCall (word_of name ∷ map string_bytes rest.now) name (read.0 ∷ []) operands × (read.1 ≡ weights_in operands))
+        (IsStop (word_of name ∷ map string_bytes rest.now)) }
+{
+    if let Some(text) = one(rest) {
+        return Ok((rule_operand(1, text)?, None));
+    }
+    let Some((text, list)) = two(rest) else {
+        return Err(Stop::Usage);
+    };
+    let Some(list) = weights(list) else {
+        return Err(Stop::Usage);
+    };
+    let rule = rule_operand(1, text)?;
+    Ok((rule, Some(list)))
+}
+
+/// Reads `shift R N`.
+fn shift(rest: &[String]) -> Result<Question, Stop>
+    ensures { MatchResult result (IsAskedBy (word_of names.Shift ∷ map string_bytes rest.now)) (IsStop (word_of names.Shift ∷ map string_bytes rest.now)) }
+{
+    let Some((text, by)) = two(rest) else {
+        return Err(Stop::Usage);
+    };
+    let Some(by) = decimal_offset(by) else {
+        return Err(Stop::Usage);
+    };
+    let rule = rule_operand(1, text)?;
+    Ok(Question::Shift(rule, by))
+}
+
+/// Reads `widen R M`.
+fn widen(rest: &[String]) -> Result<Question, Stop>
+    ensures { MatchResult result (IsAskedBy (word_of names.Widen ∷ map string_bytes rest.now)) (IsStop (word_of names.Widen ∷ map string_bytes rest.now)) }
+{
+    let Some((text, width)) = two(rest) else {
+        return Err(Stop::Usage);
+    };
+    let Some(width) = small(width, 1) else {
+        return Err(Stop::Usage);
+    };
+    let rule = rule_operand(1, text)?;
+    Ok(Question::Widen(rule, width))
+}
+
+/// Reads `permute R DIGITS`.
+fn permute(rest: &[String]) -> Result<Question, Stop>
+    ensures { MatchResult result (IsAskedBy (word_of names.Permute ∷ map string_bytes rest.now)) (IsStop (word_of names.Permute ∷ map string_bytes rest.now)) }
+{
+    let Some((text, letters)) = two(rest) else {
+        return Err(Stop::Usage);
+    };
+    let Some(letters) = colours(letters) else {
+        return Err(Stop::Usage);
+    };
+    let rule = rule_operand(1, text)?;
+    Ok(Question::Permute(rule, letters))
+}
+
+/// Reads `preimage R TAIL`.
+fn preimage(alloc: Global, rest: &[String]) -> Result<Question, Stop>
+    ensures { MatchResult result (IsAskedBy (word_of names.Preimage ∷ map string_bytes rest.now)) (IsStop (word_of names.Preimage ∷ map string_bytes rest.now)) }
+{
+    let Some((text, tail)) = two(rest) else {
+        return Err(Stop::Usage);
+    };
+    if !has_form(tail) {
+        return Err(Stop::Usage);
+    }
+    let rule = rule_operand(1, text)?;
+    match tail_config::parse(alloc, rule.k(), tail) {
+        Ok(tail) => Ok(Question::Preimage(rule, tail)),
+        Err(TailTextFault::Tail(fault)) => Err(Stop::Unfit(Cause::Tail(fault))),
+        Err(TailTextFault::Form(_)) => Err(Stop::Usage),
+        Err(TailTextFault::Memory(fault)) => Err(Stop::Memory(fault)),
+    }
+}
+
+/// Reads the numbers of many rules. A fault of their shape counts as one of operand 1.
+fn numbered(rest: &[String]) -> Result<Numbered, Stop>
+    ensures { (n : Name) → rule_count n ≡ 0 → form_of n ≡ Form.Numbers → MatchResult result
+        (AreNumberedBy n (map string_bytes rest.now))
+        (IsStop (word_of n ∷ map string_bytes rest.now)) }
+{
+    let Some((states, width, first, count)) = four(rest) else {
+        return Err(Stop::Usage);
+    };
+    let (Some(states), Some(width), true, Some(count)) = (
+        small(states, 2),
+        small(width, 2),
+        is_decimal(first, 39),
+        count_of(count),
+    ) else {
+        return Err(Stop::Usage);
+    };
+    match Numbered::of(states, width, decimal_number(first), count) {
+        Ok(numbers) => Ok(numbers),
+        Err(fault) => Err(Stop::RuleFault(1, fault)),
+    }
+}
+
+/// Reads `sample K M SEED COUNT`. A fault of the shape counts as one of operand 1.
+fn drawn(rest: &[String]) -> Result<Drawn, Stop>
+    ensures { MatchResult result
+        (AreDrawnBy (map string_bytes rest.now))
+        (IsStop (word_of names.Sample ∷ map string_bytes rest.now)) }
+{
+    let Some((states, width, from, count)) = four(rest) else {
+        return Err(Stop::Usage);
+    };
+    let (Some(states), Some(width), Some(seed), Some(count)) = (
+        small(states, 2),
+        small(width, 2),
+        seed(from),
+        count_of(count),
+    ) else {
+        return Err(Stop::Usage);
+    };
+    match Drawn::of(states, width, seed, count) {
+        Ok(rules) => Ok(rules),
+        Err(first) => Err(Stop::RuleFault(1, first)),
+    }
+}
+
+/// Reads the rule whose text is the operand with this number.
+fn rule_operand(number: u8, text: &[u8]) -> Result<Rule, Stop>
+    ensures { MatchResult result (IsRuleText text.now) (IsRuleFault number text.now) }
+{
+    rule_text::parse(text).map_err(|fault| Stop::RuleFault(number, fault))
+}
+
+/// Returns the word if there is exactly one.
+fn one(words: &[String]) -> Option<&[u8]>
+    ensures { MatchOption result (length words.now ≢ 1) (λ text. map string_bytes words.now ≡ text.now ∷ []) }
+{
+    match words {
+        [text] => Some(text.as_bytes()),
+        _ => None,
+    }
+}
+
+/// Returns the words if there are exactly two.
+fn two(words: &[String]) -> Option<(&[u8], &[u8])>
+    ensures { MatchOption result (length words.now ≢ 2) (λ texts. map string_bytes words.now ≡ texts.0.now ∷ texts.1.now ∷ []) }
+{
+    match words {
+        [first, second] => Some((first.as_bytes(), second.as_bytes())),
+        _ => None,
+    }
+}
+
+/// Returns the words if there are exactly four.
+fn four(words: &[String]) -> Option<(&[u8], &[u8], &[u8], &[u8])>
+    ensures { MatchOption result (length words.now ≢ 4) (λ texts. map string_bytes words.now ≡ texts.0.now ∷ texts.1.now ∷ texts.2.now ∷ texts.3.now ∷ []) }
+{
+    match words {
+        [a, b, c, d] => Some((a.as_bytes(), b.as_bytes(), c.as_bytes(), d.as_bytes())),
+        _ => None,
+    }
+}

@@ -1,0 +1,94 @@
+-- The values of the definitions that the values of the code stand for, and the possible answers to a question.
+use Rattle.std.specs.Prelude.{ℕ, List, Option, Some, None, Result, MatchResult, ⊤}
+use Rattle.certificate_laws.specs.ReportValues.{evidence_of}
+use Rattle.image_minimal.specs.ImageLanguages as languages
+use Rattle.tail_preimage.specs.Answers.{placed_config}
+use Rattle.tail_preimage.specs.declared.answer.Pre.{Pre}
+use Rattle.tail_preimage.specs.declared.answer.Pre.TheVariants.{From, Gap}
+use Rattle.ca_questions.specs.declared.found.Found.{Found}
+use Rattle.ca_questions.specs.declared.found.Found.TheVariants as found
+use Rattle.ca_questions.specs.declared.found.Cause.{Cause}
+use Rattle.ca_questions.specs.declared.found.Cause.TheVariants as unfit
+use Rattle.ca_questions.specs.declared.found.Stop.{Stop}
+use Rattle.ca_questions.specs.declared.found.Stop.TheVariants as stop
+use Rattle.ca_questions.specs.declared.found.Automaton as automaton
+use Rattle.ca_questions.specs.declared.found.Pair.{Pair}
+use Rattle.ca_questions.specs.declared.found.Counts as counted
+use Rattle.ca_questions.specs.declared.reply.Reply as said
+use Rattle.ca_questions.specs.declared.reply.Reply.TheVariants as reply
+use Rattle.ca_questions.specs.Counts.{Counts}
+use Rattle.ca_questions.specs.Questions.{Question}
+use Rattle.ca_questions.specs.Findings.{Finding, Unfit, IsFinding, IsUnfitFor}
+use Rattle.ca_questions.specs.Replies.{Reply}
+
+abbrev pub automaton_of : automaton.Automaton → languages.Automaton
+automaton_of m = record { states = m.states; classes = m.classes; next = m.next.items; dead = m.dead }
+
+abbrev pub counts_of : counted.Counts → Counts
+counts_of t = record {
+  rules = t.rules;
+  surjective = t.surjective;
+  injective = t.injective;
+  right = t.right;
+  left = t.left;
+  open_ = t.open;
+  conserving = t.conserving;
+}
+
+abbrev pub pair_of : Option Pair → Option (List ℕ × List ℕ)
+pair_of None = None
+pair_of (Some p) = Some (p.x, p.y)
+
+abbrev pub preimage_of : Pre → Finding
+preimage_of (From p) = Finding.Preimage (placed_config p)
+preimage_of (Gap before after w) = Finding.Gap before after w
+
+-- the finding that a value stands for
+abbrev pub finding_of : Found → Finding
+finding_of (found.Report e) = Finding.Report (evidence_of e)
+finding_of (found.Written c) = Finding.Written c
+finding_of (found.Orphan w) = Finding.Orphan w
+finding_of (found.Number n) = Finding.Number n
+finding_of (found.Rule r) = Finding.Rule r
+finding_of (found.Inverse i) = Finding.Inverse i.n i.c i.map i.rule
+finding_of (found.Language m) = Finding.Language (automaton_of m)
+finding_of (found.Same w) = Finding.Same w
+finding_of (found.Erased p) = Finding.Erased (pair_of p)
+finding_of (found.Preimage p) = preimage_of p
+finding_of (found.Summary t) = Finding.Summary (counts_of t)
+finding_of (found.Classes t n) = Finding.Classes (counts_of t) n
+
+-- the cause that a value stands for
+abbrev pub unfit_of : Cause → Unfit
+unfit_of (unfit.Twins p) = Unfit.Twins p.x p.y
+unfit_of (unfit.Wide n) = Unfit.Wide n
+unfit_of unfit.Colours = Unfit.Colours
+unfit_of (unfit.Lift f) = Unfit.Lift f
+unfit_of (unfit.Algebra f) = Unfit.Algebra f
+unfit_of (unfit.Tail f) = Unfit.Tail f
+unfit_of unfit.Weights = Unfit.Weights
+unfit_of unfit.States = Unfit.States
+
+-- the answer to a question that needs no memory: a right finding, or a right cause why nothing fits
+abbrev pub Settles : Question → Result Found Cause → Type 0
+Settles q result = MatchResult result (λ f. IsFinding q (finding_of f)) (λ u. IsUnfitFor q (unfit_of u))
+
+-- a question has no finding, because of a right cause or for lack of memory
+abbrev pub IsStopFor : Question → Stop → Type 0
+IsStopFor q (stop.Unfit u) = IsUnfitFor q (unfit_of u)
+IsStopFor q (stop.Memory _) = ⊤
+IsStopFor q _ = ⊥
+
+-- the answer to a question: a right finding, a right cause why nothing fits, or lack of memory
+abbrev pub Answers : Question → Result Found Stop → Type 0
+Answers q result = MatchResult result (λ f. IsFinding q (finding_of f)) (IsStopFor q)
+
+-- the reply that a value stands for
+abbrev pub reply_of : said.Reply → Reply
+reply_of (reply.Found f) = Reply.Found (finding_of f)
+reply_of (reply.NoFit u) = Reply.NoFit (unfit_of u)
+reply_of (reply.RuleFault operand f) = Reply.RuleFault operand f
+reply_of (reply.Accepted v) = Reply.Accepted v
+reply_of (reply.Refused f) = Reply.Refused f
+reply_of reply.TooLong = Reply.TooLong
+reply_of reply.Usage = Reply.Usage

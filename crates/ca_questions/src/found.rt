@@ -1,0 +1,122 @@
+//! The findings for questions, and the causes why nothing fits.
+use cert_conditions::Report;
+use cert_values::Cert;
+use inverse_table::InverseMap;
+use rule_algebra::AlgebraFault;
+use rule_classes::LiftFault;
+use rule_text::TextFault;
+use std::alloc::AllocError;
+use tail_config::TailFault;
+use tail_preimage::Pre;
+use word_image::{Rule, Word};
+
+/// The finding for a question.
+#[derive(Drop)]
+pub enum Found {
+    /// The verdicts of a rule, each with the least evidence.
+    Report(Report),
+    /// The certificate of a rule.
+    Written(Cert),
+    /// The least orphan, or None if the rule is surjective.
+    Orphan(Option<Word>),
+    /// The Wolfram number, or None if the rule has 7 states or more.
+    Number(Option<u128>),
+    /// The rule that was made.
+    Rule(Rule),
+    /// The inverse of a rule.
+    Inverse(Inverse),
+    /// The least automaton of the words that have a preimage.
+    Language(Automaton),
+    /// The least word that is an orphan of exactly one of two rules, or None if there is none.
+    Same(Option<Word>),
+    /// The least erasable pair, or None if the rule is surjective.
+    Erased(Option<Pair>),
+    /// A preimage of a configuration, or the reason why there is none.
+    Preimage(Pre),
+    /// How many of some rules have each property.
+    Summary(Counts),
+    /// The same, and the number of their classes.
+    Classes(Counts, usize),
+}
+
+/// An inverse map over the window (n, c), and the map as a rule, if it keeps the limits of rules.
+#[derive(Drop)]
+pub struct Inverse {
+    pub n: u16,
+    pub c: u16,
+    pub map: InverseMap,
+    pub rule: Option<Rule>,
+}
+
+/// An automaton whose classes are numbers. The class that follows class i on letter a is at place i k + a.
+#[derive(Drop)]
+pub struct Automaton {
+    pub states: u8,
+    pub classes: u32,
+    pub next: Vec<u16>,
+    pub dead: Option<u32>,
+}
+
+/// Two words.
+#[derive(Drop)]
+pub struct Pair {
+    pub x: Word,
+    pub y: Word,
+}
+
+/// How many rules there are, and how many of them have each property.
+#[derive(Clone, Copy)]
+pub struct Counts {
+    pub rules: u16,
+    pub surjective: u16,
+    pub injective: u16,
+    pub right: u16,
+    pub left: u16,
+    pub open: u16,
+    pub conserving: u16,
+}
+
+/// The cause why nothing fits a question.
+#[derive(Drop)]
+pub enum Cause {
+    /// The rule has these twins, and so no inverse.
+    Twins(Pair),
+    /// Its inverse reads this many letters, which are too many.
+    Wide(u16),
+    /// It has too many states to search through all names of its letters.
+    Colours,
+    /// It has no lift.
+    Lift(LiftFault),
+    /// No rule can be made.
+    Algebra(AlgebraFault),
+    /// The parts don't form a configuration.
+    Tail(TailFault),
+    /// There isn't one weight for each letter.
+    Weights,
+    /// Two rules have different numbers of states.
+    States,
+}
+
+/// Why nothing was found, for words or for a question.
+#[derive(Drop)]
+pub enum Stop {
+    /// The words are no command.
+    Usage,
+    /// The operand with this number, starting at 1, is refused because of this fault.
+    RuleFault(u8, TextFault),
+    /// Nothing fits the question, because of this cause.
+    Unfit(Cause),
+    /// There was no memory.
+    Memory(AllocError),
+}
+
+impl From<AllocError> for Stop {
+    ghost use Rattle.std.specs.Prelude.{◌≡◌};
+    ghost use Rattle.ca_questions.specs.declared.found.Stop.TheVariants.{Memory};
+
+    ghost from_gives = { λ fault stop. stop ≡ Memory fault };
+
+    fn from(fault: AllocError) -> Stop {
+        Stop::Memory(fault)
+    }
+}

@@ -1,5 +1,0 @@
-use Rattle.eden_laws.proofs.GardenOfEden.{garden_of_eden}
-use Rattle.eden_laws.proofs.surjective_erases_nothing.Goals as goal
-
-pub returns : goal.returns
-returns c r rule = garden_of_eden rule

@@ -1,5 +1,0 @@
-use Rattle.eden_laws.proofs.Balance.{IsSurjective-IsBalanced}
-use Rattle.eden_laws.proofs.surjective_is_balanced.Goals as goal
-
-pub returns : goal.returns
-returns c r rule = IsSurjective-IsBalanced rule

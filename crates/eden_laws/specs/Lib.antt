@@ -1,4 +1,0 @@
-pub mod ReachedPairs
-pub mod Preinjective
-pub mod Preimages
-pub mod Examples

@@ -1,0 +1,63 @@
+//! The Garden of Eden theorem (Moore 1962, Myhill 1963): a rule is surjective if and only if it has no erasable pair
+//! of words. Its consequences are here too: which other properties make a rule surjective, and what proves that a
+//! rule is surjective.
+//!
+//! An erasable pair consists of two different words of the same length with the same image, the same first m - 1
+//! letters and the same last m - 1 letters. Either word can replace the other in any configuration without a change
+//! of the image. The rule that gives 1 only for the window 11 has the erasable pair 000 and 010, whose image is 00.
+//! So some word has no preimage, for example 101. The sum of two cells modulo 2 has no erasable pair, since the first
+//! letter of a word and its image determine all other letters.
+//!
+//! Both directions are proved by counting. Let N = k^(m - 1), q = k^l - 1 and j = q N. Then q^j N is less than k^(j
+//! l): among the words of j blocks of l letters, few avoid a given block. If an orphan has l letters, no image of j
+//! blocks contains it, so two words with the same ends have the same image. If an erasable pair has l letters, the
+//! words that avoid one of its two words already give all images, so some word has no preimage.
+//!
+//! The functions of this crate do nothing. The contract of each states a law. The lemmas only use definitions. Both
+//! the deciders and the checker of certificates use them.
+#![tactic(auto)]
+
+mod tables;
+
+ghost use Rattle.std.specs.Prelude.{◌≢◌, ◌↔◌, ℕ, List};
+ghost use Rattle.word_image.specs.LocalRules.{LocalRule, IsRule};
+ghost use Rattle.word_image.specs.Words.{IsSurjective};
+ghost use Rattle.word_image.specs.Graphs.{first_of, second_of};
+ghost use Rattle.word_image.specs.Erasure.{IsErasable};
+ghost use Rattle.word_image.specs.PairLists.{IsPairList};
+ghost use Rattle.tail_config.specs.Tails.{IsInjective, IsRightClosing, IsLeftClosing};
+ghost use Rattle.garden_laws.specs.ReachedPairs.{IsReached};
+ghost use Rattle.garden_laws.specs.Preinjective.{IsPreinjective};
+ghost use Rattle.garden_laws.specs.Preimages.{IsBalanced};
+
+pub use tables::{conserving_has_mean, even_has_mean, surjective_is_even};
+
+/// The Garden of Eden theorem: a rule is surjective if and only if it has no erasable pair.
+pub fn surjective_erases_nothing()
+    ensures { (r : LocalRule) → IsRule r → (IsSurjective r ↔ ((x y : List ℕ) → ¬ IsErasable r x y)) }
+{}
+
+/// The same for configurations: a rule is surjective if and only if no two different configurations that agree far to
+/// the left and far to the right share an image.
+pub fn surjective_is_preinjective()
+    ensures { (r : LocalRule) → IsRule r → (IsSurjective r ↔ IsPreinjective r) }
+{}
+
+/// Law: an injective rule is surjective (Amoroso and Patt 1972), and so is a rule that closes on a side.
+pub fn injective_or_closing_is_surjective()
+    ensures injective { (r : LocalRule) → IsRule r → IsInjective r → IsSurjective r }
+    ensures right { (r : LocalRule) → IsRule r → IsRightClosing r → IsSurjective r }
+    ensures left { (r : LocalRule) → IsRule r → IsLeftClosing r → IsSurjective r }
+{}
+
+/// Law: a rule is surjective if and only if every word has exactly k^(m - 1) preimages (Hedlund 1969).
+pub fn surjective_is_balanced()
+    ensures { (r : LocalRule) → IsRule r → (IsSurjective r ↔ IsBalanced r) }
+{}
+
+/// Law: a rule is surjective if and only if no reached pair has two equal nodes. A pair list proves that a rule is
+/// surjective.
+pub fn surjective_reaches_no_equal_nodes()
+    ensures reached { (r : LocalRule) → IsRule r → (IsSurjective r ↔ ((p : ℕ) → IsReached r p → first_of r p ≢ second_of r p)) }
+    ensures list { (r : LocalRule) (pairs : List ℕ) → IsRule r → IsPairList r pairs → IsSurjective r }
+{}

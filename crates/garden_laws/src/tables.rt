@@ -1,0 +1,35 @@
+//! Laws of tables: a property of the table of every surjective rule, and of the table of every conserving rule.
+//!
+//! In the table of a surjective rule all letters occur equally often, since every word of one letter has one preimage
+//! for each node (Hedlund 1969). For the same reason, the number of words with the image 0 0 is the number of nodes.
+//! In the table of a conserving rule the letters have the mean of all k letters, since a flux cancels out over all
+//! windows together. Rule 184 conserves the sum, and its table 0 0 0 1 1 1 0 1 has as many ones as zeros. Rule 110
+//! has five ones in its table, so it changes the sum of some ring, and some word has no preimage.
+//!
+//! Several deciders use these laws.
+ghost use Rattle.std.specs.Prelude.{◌≡◌, ◌-◌, length, slice_index};
+ghost use Rattle.word_image.specs.LocalRules.{LocalRule, IsRule, node_count};
+ghost use Rattle.word_image.specs.Words.{IsSurjective};
+ghost use Rattle.word_image.specs.Rings.{IsConserving};
+ghost use Rattle.garden_laws.specs.Tables.{IsEven, HasMean};
+ghost use Rattle.garden_laws.specs.ZeroPairs.{zero_pairs};
+
+/// Law: in the table of a surjective rule all letters occur equally often, and the number of words with the image 0 0
+/// is the number of nodes.
+pub fn surjective_is_even()
+    ensures table { (r : LocalRule) → IsRule r → IsSurjective r → IsEven r.states r.table }
+    ensures zeros { (r : LocalRule) → IsRule r → IsSurjective r → zero_pairs r.states r.table ≡ node_count r }
+{}
+
+/// Law: if a rule conserves the sum of its letters, the letters of its table have the mean of all k letters. It gives
+/// 0 for the window of zeros, and the greatest letter for the window of greatest letters.
+pub fn conserving_has_mean()
+    ensures mean { (r : LocalRule) → IsRule r → IsConserving (λ a. a) r → HasMean r.states r.table }
+    ensures zeros { (r : LocalRule) → IsRule r → IsConserving (λ a. a) r → slice_index r.table 0 ≡ 0 }
+    ensures greatest { (r : LocalRule) → IsRule r → IsConserving (λ a. a) r → slice_index r.table (length r.table - 1) ≡ r.states - 1 }
+{}
+
+/// Law: a table in which all letters occur equally often has the mean of all letters.
+pub fn even_has_mean()
+    ensures { (r : LocalRule) → IsRule r → IsEven r.states r.table → HasMean r.states r.table }
+{}

@@ -1,9 +1,0 @@
-use Rattle.table_laws.proofs.EvenTables.{IsEven-surjective}
-use Rattle.table_laws.proofs.ZeroPairs.{zero_pairs-surjective}
-use Rattle.table_laws.proofs.surjective_is_even.Goals as goal
-
-pub returns-clause-table : goal.returns-clause-table
-returns-clause-table c r rule = IsEven-surjective rule
-
-pub returns-clause-zeros : goal.returns-clause-zeros
-returns-clause-zeros c r rule = zero_pairs-surjective rule
