@@ -8,8 +8,8 @@ ghost use Rattle.ca_c.specs.Calls.{IsAnswerIn, IsHandedBack, bytes_in};
 use crate::blocks::words;
 use crate::sources::SliceSource;
 use ca_cli::{Status, reply, right_replies_are_writable};
-use ca_questions::Reply;
 use ca_json::reply_json;
+use ca_questions::Reply;
 use ca_text::{Output, reply_text};
 use std::alloc::{AllocError, Global};
 

@@ -8,8 +8,8 @@ ghost use Rattle.ca_cli.specs.Readings.{IsReadFor, Reading};
 ghost use Rattle.ca_cli.specs.RightAnswers.{IsReply};
 ghost use Rattle.ca_cli.specs.Statuses.{reply_status};
 
-use ca_questions::Reply;
 use ca_io::{InputFault, Source, read_up_to};
+use ca_questions::Reply;
 use cert_check::judge;
 use cert_conditions::Refusal;
 use std::alloc::Global;

@@ -9,9 +9,9 @@ ghost use Rattle.ca_cli.specs.Statuses.{reply_status};
 
 use crate::checks::check;
 use ca_answering::answer;
-use ca_questions::{Found, Reply, Stop};
-use ca_io::{InputFault, Source};
 use ca_commands::{is_check, question};
+use ca_io::{InputFault, Source};
+use ca_questions::{Found, Reply, Stop};
 use std::alloc::{AllocError, Global};
 
 /// Returns the reply to these words and to the bytes that the source has left, which only `check` reads. Returns an
