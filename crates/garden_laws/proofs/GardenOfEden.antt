@@ -1,4 +1,4 @@
--- The Garden of Eden law: a rule is surjective exactly where no two words are an erasable pair (Moore 1962, Myhill 1963).
+-- The Garden of Eden theorem: a rule is surjective exactly where no two words are an erasable pair (Moore 1962, Myhill 1963).
 use Rattle.std.proofs.Common.{◌≡◌, ℕ, suc, ◌+◌, ◌-◌, ◌*◌, ◌%◌, ◌^◌, ◌<◌, ◌≤◌, ◌⊎◌, inl, inr, ◌↔◌, List, [], ◌++◌, length, map, drop, sym, ap, ap₂, ◌∙◌, subst, ⊎_elim, arith, length-drop, mod-lt, mod-eq_of_lt}
 use Rattle.word_image.proofs.Common.{cases_eq, mul-add-lt, same_from_place, length-map, All-drop, LocalRule, IsRule, IsWord, value, word_of, node_count, image, IsPreimage, IsOrphan, IsSurjective, IsErasable, value-below, value-injective, value-word_of, word_of-value, length-word_of, IsWord-word_of, IsWord-image, length-image, some_below, twice_below, moved}
 use Rattle.garden_laws.proofs.Powers.{fewer_blocks}
