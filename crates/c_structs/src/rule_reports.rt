@@ -113,12 +113,12 @@ pub fn report_of_table(
 {
     match Rule::new(states, width, offset, table) {
         Ok(rule) => report_of_rule(alloc, &rule, weights),
-        Err(fault) => Ok(without(alloc, fault_number(fault))),
+        Err(fault) => Ok(fault_reported(alloc, fault_number(fault))),
     }
 }
 
 /// Returns the report of a fault, which has no letters.
-fn without(alloc: Global, fault: u8) -> Reported
+fn fault_reported(alloc: Global, fault: u8) -> Reported
     ensures report { result.report ≡ no_report fault }
     ensures letters { result.letters.items ≡ [] }
 {
@@ -138,7 +138,7 @@ fn report_of_rule(alloc: Global, rule: &Rule, weights: &[u8]) -> Result<Reported
             let evidence = Evidence::of(alloc, rule, &weights)?;
             written(alloc, &evidence.report)
         }
-        None => Ok(without(alloc, NO_WEIGHTS)),
+        None => Ok(fault_reported(alloc, NO_WEIGHTS)),
     }
 }
 

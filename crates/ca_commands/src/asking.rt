@@ -37,14 +37,14 @@ pub fn question(alloc: Global, words: &[String]) -> Result<Question, Stop>
         return Err(Stop::Usage);
     };
     match Name::named(word) {
-        Some(name) => behind(alloc, name, rest),
+        Some(name) => named_question(alloc, name, rest),
         None => Err(Stop::Usage),
     }
 }
 
 /// Returns the question that the words after a name ask.
 #[tactic(auto, using(crate::proofs::laws::Asking::asking))]
-fn behind(alloc: Global, name: Name, rest: &[String]) -> Result<Question, Stop>
+fn named_question(alloc: Global, name: Name, rest: &[String]) -> Result<Question, Stop>
     requires { name ≡ names.Check → rest.now ≢ [] }
     ensures { MatchResult result (IsAskedBy (word_of name ∷ map string_bytes rest.now)) (IsStop (word_of name ∷ map string_bytes rest.now)) }
 {

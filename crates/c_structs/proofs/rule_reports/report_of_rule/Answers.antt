@@ -23,4 +23,4 @@ returns-in_ok-evidence-in-Some c =
 
 pub returns-in-None : goal.returns-in-None
 returns-in-None c =
-    IsReported-none c.without.result c.requires (subst (λ (ws : Option (List ℕ)). ¬ AreFor ws c.args.rule.now) c.named.ensures c.in-None.ensures.none) c.without.ensures.report c.without.ensures.letters
+    IsReported-none c.fault_reported.result c.requires (subst (λ (ws : Option (List ℕ)). ¬ AreFor ws c.args.rule.now) c.named.ensures c.in-None.ensures.none) c.fault_reported.ensures.report c.fault_reported.ensures.letters

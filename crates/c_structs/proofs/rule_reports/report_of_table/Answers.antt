@@ -10,5 +10,5 @@ returns-in-Err c =
     let table = c.args.table.now in
     let fits : FitsSigned w8 c.args.offset = search rules in
     let offset : to_z w8 (of_z w8 c.args.offset) ≡ c.args.offset = to_z-of_z w8 c.args.offset fits in
-    IsReported-fault (rule_with c.args.states c.args.width c.args.offset table) c.without.result c.in-Err.fault
-    (c.in-Err.ensures.fault ∙ ap (λ o. rule_fault c.args.states c.args.width o table) offset) c.fault_number.ensures c.without.ensures.report c.without.ensures.letters
+    IsReported-fault (rule_with c.args.states c.args.width c.args.offset table) c.fault_reported.result c.in-Err.fault
+    (c.in-Err.ensures.fault ∙ ap (λ o. rule_fault c.args.states c.args.width o table) offset) c.fault_number.ensures c.fault_reported.ensures.report c.fault_reported.ensures.letters

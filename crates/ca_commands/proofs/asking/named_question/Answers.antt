@@ -4,7 +4,7 @@ use Rattle.ca_commands.specs.Asked.{Asks}
 use Rattle.ca_questions.proofs.Common.{Question}
 use Rattle.ca_commands.proofs.laws.Asking.{asks, failed}
 use Rattle.ca_commands.proofs.laws.Numbered.{asks_numbers, asks_seed}
-use Rattle.ca_commands.proofs.asking.behind.Goals as goal
+use Rattle.ca_commands.proofs.asking.named_question.Goals as goal
 
 pub returns-in_ok-rule-in-Decide : goal.returns-in_ok-rule-in-Decide
 returns-in_ok-rule-in-Decide c = let (operands, call, same) = c.in_ok-rule-in-Decide.ensures in (rw same (asks c.in-Decide.is call (Asks.Decide _ operands)), tt)
