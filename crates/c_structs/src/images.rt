@@ -25,7 +25,7 @@ const REACH: u64 = 1 << 61;
 
 /// The parts of a configuration, each of any length.
 #[derive(Debug, Drop)]
-pub struct Parts<'a> {
+pub struct TailParts<'a> {
     /// The left period; its last letter stands at place -1.
     pub left: &'a [u8],
     /// The middle; its first letter stands at place 0.
@@ -34,7 +34,7 @@ pub struct Parts<'a> {
     pub right: &'a [u8],
 }
 
-impl<'a> Model for Parts<'a> {
+impl<'a> Model for TailParts<'a> {
     ghost use Rattle.tail_config.specs.Tails.{TailConfig};
     ghost use Rattle.tail_config.specs.TailValues.{config_of};
 
@@ -43,7 +43,7 @@ impl<'a> Model for Parts<'a> {
     ghost view = { λ p. config_of p.left.now p.middle.now p.right.now };
 }
 
-impl<'a> Parts<'a> {
+impl<'a> TailParts<'a> {
     /// Returns whether both periods have a letter.
     fn have_periods(&self) -> bool
         ensures { IsTrue result ↔ HavePeriods self.now }
@@ -127,7 +127,7 @@ fn are_within_reach(first: i64, count: usize) -> bool
 
 /// Writes the letters of the image of a configuration from a place on, and returns 0. If a part is faulty it returns
 /// the number of the first fault and leaves the letters as they were. It takes no memory.
-pub fn write_image(rule: &Rule, parts: &Parts, first: i64, letters: &mut [u8]) -> u8
+pub fn write_image(rule: &Rule, parts: &TailParts, first: i64, letters: &mut [u8]) -> u8
     ensures { IsImageCall rule.now parts.now first letters.old result letters.new }
 {
     let k = rule.k();

@@ -29,7 +29,7 @@ mod rule_reports;
 mod rule_sums;
 mod table_verdicts;
 
-pub use images::{Parts, image_of_ring, image_of_word, write_image};
+pub use images::{TailParts, image_of_ring, image_of_word, write_image};
 pub use letter_rows::{LetterRow, SplitRows, TailRows, TwinRows};
 pub use next_rules::{letters_of, next_rule, property_of, shape_rule, write_table};
 pub use numbered_verdicts::{joined, number_of};

@@ -50,7 +50,7 @@ impl From<AllocError> for CallFault {
 
 /// The reply to words, with its status.
 #[derive(Drop)]
-pub struct Answer {
+pub struct FormedReply {
     /// The status of the reply.
     pub status: Status,
     /// The whole reply, in a form.
@@ -59,7 +59,7 @@ pub struct Answer {
 
 /// Runs the command in a block of words over an input, and returns its reply. It fails only if the block has no words
 /// or memory runs out, since reading bytes can't fail.
-pub fn call(alloc: Global, form: Form, block: &[u8], input: &[u8]) -> Result<Answer, CallFault>
+pub fn call(alloc: Global, form: Form, block: &[u8], input: &[u8]) -> Result<FormedReply, CallFault>
     ensures answer { IfOk result (λ answer. IsAnswerIn (bytes_in form) block.now input.now answer.status answer.output) }
     ensures none { result ≡ Err CallFault.NoWords → (words : List (List ℕ)) → ¬ AreWords block.now words }
 {
@@ -69,7 +69,7 @@ pub fn call(alloc: Global, form: Form, block: &[u8], input: &[u8]) -> Result<Ans
     };
     right_replies_are_writable();
     let output = output_in(alloc, form, &reply)?;
-    Ok(Answer {
+    Ok(FormedReply {
         status: Status::of(&reply),
         output,
     })

@@ -19,7 +19,7 @@ ghost use Rattle.tail_config.specs.TailValues.{config_of};
 
 use crate::calls::{Form, SHORT, hand_back, put};
 use c_structs::{
-    Parts, RuleReport, RuleVerdicts, fault_number, joined, letters_of, next_rule, number_of,
+    RuleReport, RuleVerdicts, TailParts, fault_number, joined, letters_of, next_rule, number_of,
     property_of, range_number, report_of_table, shape_rule, write_image, write_table,
 };
 use kept_sums::{Flux, KeptSums, Row, are_small, check_range, flux, kept_sums};
@@ -170,7 +170,7 @@ pub extern "C" fn ca_image(
 ) -> u8
     ensures { IsImageCall (rule_with states width offset table.now) (config_of left.now middle.now right.now) first letters.old result letters.new }
 {
-    let parts = Parts {
+    let parts = TailParts {
         left,
         middle,
         right,

@@ -5,7 +5,7 @@ use Rattle.word_image.proofs.Common.{cases_eq, leb_tells, div-mul-add, mod-mul-a
 use Rattle.std.proofs.lemmas.Nat.{div-add-mod'}
 use Rattle.pair_laws.proofs.Common.{HasBit-more, IsBitSet-test, IsBitSet-shl, IsBitSet-shr, IsBitSet-and, IsBitSet-minus, next-digits, some_if_equal, first_of-pair_of, second_of-pair_of, pair_of-first_of, pair_of-below, first_of-below, second_of-below}
 use Rattle.word_image.specs.declared.side.Side.TheVariants.{Right}
-use Rattle.least_walk.specs.declared.marks.Parts.{Parts}
+use Rattle.least_walk.specs.declared.marks.PairParts.{PairParts}
 use Rattle.least_walk.specs.Marks.{pair_part, row_of, HasPair, ArePartsOf}
 
 -- a step of the marked graph is two edges with one label, and the mark stays, and comes where the letters differ
@@ -146,7 +146,7 @@ step-old {r} rule rows t a b q u v mark ends row end step with first second lett
     (subst (λ c. IsBitSet c (next r v b)) here (end-old rule v b ends row end letter small start present old))
 
 -- from a marked pair with the mark
-pub fresh-with_mark : {r : LocalRule} → IsRule r → (rows : List ℕ) (parts : Parts) (t a b q ends row end : ℕ) → ArePartsOf r parts t → parts.mark ≡ 1 → b < r.states
+pub fresh-with_mark : {r : LocalRule} → IsRule r → (rows : List ℕ) (parts : PairParts) (t a b q ends row end : ℕ) → ArePartsOf r parts t → parts.mark ≡ 1 → b < r.states
     → IsEnds Right r parts.second (label r parts.first a) ends → end ≡ next r parts.second 0 → row ≡ slice_index rows (16 + next r parts.first a) → row < 2 ^ 16
     → ¬ IsBitSet (bit_and ends (65535 - row) / 2 ^ end) b → marked r t a b ≡ Some q → HasPair r rows q
 fresh-with_mark {r} rule rows parts t a b q ends row end of with letter leads start here small old e =
@@ -156,7 +156,7 @@ fresh-with_mark {r} rule rows parts t a b q ends row end of with letter leads st
     step-old rule rows t a b q parts.first parts.second 1 ends row end step (step.stays (omega arith)) (sym of.first) (sym of.second) letter leads start here small old
 
 -- from a marked pair without the mark, the mark stays away where the letters are the same
-pub fresh-without : {r : LocalRule} → IsRule r → (rows : List ℕ) (parts : Parts) (t a b q ends row plain end same : ℕ) → ArePartsOf r parts t → parts.mark ≡ 0 → b < r.states → a < 16
+pub fresh-without : {r : LocalRule} → IsRule r → (rows : List ℕ) (parts : PairParts) (t a b q ends row plain end same : ℕ) → ArePartsOf r parts t → parts.mark ≡ 0 → b < r.states → a < 16
     → IsEnds Right r parts.second (label r parts.first a) ends → end ≡ next r parts.second 0
     → row ≡ slice_index rows (16 + next r parts.first a) → row < 2 ^ 16 → plain ≡ slice_index rows (next r parts.first a) → plain < 2 ^ 16 → same ≡ 1 * 2 ^ a % 2 ^ 16
     → ¬ IsBitSet (bit_or (bit_and (bit_and ends (65535 - row) / 2 ^ end) (65535 - same)) (bit_and (bit_and ends (65535 - plain) / 2 ^ end) same)) b

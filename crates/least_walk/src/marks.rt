@@ -37,7 +37,7 @@ impl Rows {
     }
 
     /// Returns whether the marked pair is in the set.
-    pub fn has(&self, at: Parts) -> bool
+    pub fn has(&self, at: PairParts) -> bool
         requires row { most_nodes * at.mark + at.first < 2 * most_nodes }
         requires place { at.second < most_nodes }
         ensures { (r : LocalRule) → IsMarkedPair r at → (IsTrue result ↔ HasPair r self.now at.pair) }
@@ -46,7 +46,7 @@ impl Rows {
     }
 
     /// Adds a marked pair to the set.
-    pub fn add(&mut self, at: Parts)
+    pub fn add(&mut self, at: PairParts)
         requires row { most_nodes * at.mark + at.first < 2 * most_nodes }
         requires place { at.second < most_nodes }
         ensures { (r : LocalRule) → IsRule r → IsMarkedPair r at → IsAdded r self.old at.pair self.new }
@@ -56,7 +56,7 @@ impl Rows {
 
     /// Returns the second letters with which, after the first letter `a`, a step may lead to a marked pair outside
     /// the set. Bit b stands for letter b.
-    pub fn fresh(&self, pairs: &Pairs, from: Parts, a: u8) -> u16
+    pub fn fresh(&self, pairs: &Pairs, from: PairParts, a: u8) -> u16
         requires mark { from.mark < 2 }
         requires first { from.first < node_count pairs.now }
         requires second { from.second < node_count pairs.now }
@@ -81,7 +81,7 @@ impl Rows {
 
 /// A marked pair with its parts.
 #[derive(Clone, Copy)]
-pub struct Parts {
+pub struct PairParts {
     /// The number of the marked pair.
     pub pair: u16,
     /// 1 with the mark, and 0 without it.
@@ -93,7 +93,7 @@ pub struct Parts {
 }
 
 /// Returns a marked pair with its parts.
-pub fn parts_of(pairs: &Pairs, t: u16) -> Parts
+pub fn parts_of(pairs: &Pairs, t: u16) -> PairParts
     requires { t < 2 * pair_count pairs.now }
     ensures pair { result.pair ≡ t }
     ensures parts { ArePartsOf pairs.now result t }
@@ -103,7 +103,7 @@ pub fn parts_of(pairs: &Pairs, t: u16) -> Parts
 {
     let count = pairs.count();
     let (first, second) = pairs.rule().nodes_of(t % count);
-    Parts {
+    PairParts {
         pair: t,
         mark: (t / count) as u8,
         first,
@@ -112,14 +112,14 @@ pub fn parts_of(pairs: &Pairs, t: u16) -> Parts
 }
 
 /// Returns the marked pair with these parts.
-fn with_parts(pairs: &Pairs, mark: u8, first: u8, second: u8) -> Parts
+fn with_parts(pairs: &Pairs, mark: u8, first: u8, second: u8) -> PairParts
     requires mark { mark < 2 }
     requires first { first < node_count pairs.now }
     requires second { second < node_count pairs.now }
     ensures pair { result.pair ≡ mark * pair_count pairs.now + pair_of pairs.now first second }
     ensures marked { IsMarkedPair pairs.now result }
 {
-    Parts {
+    PairParts {
         pair: u16::from(mark) * pairs.count() + pairs.rule().pair_of(first, second),
         mark,
         first,
@@ -128,7 +128,7 @@ fn with_parts(pairs: &Pairs, mark: u8, first: u8, second: u8) -> Parts
 }
 
 /// Follows the letters a and b from a marked pair, like [`Pairs::marked`].
-pub fn step_from(pairs: &Pairs, from: Parts, a: u8, b: u8) -> Option<Parts>
+pub fn step_from(pairs: &Pairs, from: PairParts, a: u8, b: u8) -> Option<PairParts>
     requires rule { IsRule pairs.now }
     requires from { IsMarkedPair pairs.now from }
     requires first { a < pairs.now.states }

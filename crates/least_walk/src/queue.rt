@@ -8,7 +8,7 @@ ghost use Rattle.least_walk.specs.Marks.{HasPair, IsMarkedPair};
 ghost use Rattle.least_walk.specs.declared.queue.Reached.{Reached};
 ghost use Rattle.least_walk.specs.Queues.{IsWalkSearch, IsArrival, IsNearStart, IsEnded, IsOldBut, step_count};
 
-use crate::marks::{Parts, Rows, parts_of, step_from};
+use crate::marks::{PairParts, Rows, parts_of, step_from};
 use pair_graph::Pairs;
 use word_image::MOST_PAIRS;
 
@@ -44,7 +44,7 @@ struct Head {
     /// Its place in the queue.
     place: usize,
     /// The marked pair.
-    parts: Parts,
+    parts: PairParts,
 }
 
 /// The step with which a walk reaches its goal, and the place from which the step is made.
@@ -172,7 +172,14 @@ fn follow_letter(
 }
 
 /// Returns the marked pair to which the letters lead, if it isn't in the rows.
-fn new_step(pairs: &Pairs, rows: &Rows, from: Parts, a: u8, b: u8, letters: u16) -> Option<Parts>
+fn new_step(
+    pairs: &Pairs,
+    rows: &Rows,
+    from: PairParts,
+    a: u8,
+    b: u8,
+    letters: u16,
+) -> Option<PairParts>
     requires rule { IsRule pairs.now }
     requires from { IsMarkedPair pairs.now from }
     requires first { a < pairs.now.states }

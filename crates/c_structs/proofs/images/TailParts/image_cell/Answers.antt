@@ -1,7 +1,7 @@
 use Rattle.std.proofs.Common.{sym, subst}
 use Rattle.word_image.proofs.Common.{IsWord}
 use Rattle.tail_config.proofs.Common.{IsWord-run, cell-below}
-use Rattle.c_structs.proofs.images.Parts.image_cell.Goals as goal
+use Rattle.c_structs.proofs.images.TailParts.image_cell.Goals as goal
 
 pub apply-requires-clause-word : goal.apply-requires-clause-word
 apply-requires-clause-word c =

@@ -1,6 +1,6 @@
 use Rattle.std.proofs.Common.{◌≡◌, ℕ, ◌<◌, get_or, pos, ◌+ℤ◌}
 use Rattle.tail_config.specs.Tails.{cell}
-use Rattle.c_structs.proofs.images.Parts.write_cells.Given as goal
+use Rattle.c_structs.proofs.images.TailParts.write_cells.Given as goal
 
 -- the letters so far are the cells from the start on
 abbrev pub invariant-loop-j : goal.invariant-loop-j

@@ -2,7 +2,7 @@ use Rattle.std.proofs.Common.{length, refl, ap, ◌∙◌, arith, w64}
 use Rattle.std.proofs.lemmas.Int.{to_z-of_z}
 use Rattle.tail_config.specs.Tails.{cell, cells}
 use Rattle.tail_config.proofs.Common.{run-by_letters}
-use Rattle.c_structs.proofs.images.Parts.write_cells.Goals as goal
+use Rattle.c_structs.proofs.images.TailParts.write_cells.Goals as goal
 
 pub returns : goal.returns
 returns c =

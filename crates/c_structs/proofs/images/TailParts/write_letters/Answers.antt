@@ -3,7 +3,7 @@ use Rattle.std.proofs.lemmas.Int.{to_z-of_z}
 use Rattle.tail_config.specs.Configs.{run}
 use Rattle.tail_config.specs.Tails.{image_cell}
 use Rattle.tail_config.proofs.Common.{run-by_letters}
-use Rattle.c_structs.proofs.images.Parts.write_letters.Goals as goal
+use Rattle.c_structs.proofs.images.TailParts.write_letters.Goals as goal
 
 pub returns : goal.returns
 returns c =
