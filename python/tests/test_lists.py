@@ -3,6 +3,7 @@ from __future__ import annotations
 
 import sys
 import tempfile
+import threading
 import unittest
 from concurrent.futures import ProcessPoolExecutor, ThreadPoolExecutor
 from multiprocessing import get_context
@@ -12,6 +13,7 @@ from unittest import mock
 
 import foursaspen as ca
 from foursaspen import lists
+from foursaspen.library import Library
 
 from .support import output
 from .test_surveys import AtOnce
@@ -98,6 +100,18 @@ class Lists(unittest.TestCase):
         first = next(begun)
         begun.close()
         self.assertTrue(ca.decide(first).injective)
+
+    def test_the_library_searches_in_another_thread(self) -> None:
+        """A call of it can't be stopped, so who waits hears Ctrl-C only if another thread calls."""
+        callers: set[threading.Thread] = set()
+        next_rule = Library.next_rule
+
+        def called(*operands: Any) -> Any:
+            callers.add(threading.current_thread())
+            return next_rule(*operands)
+        with mock.patch.object(Library, "next_rule", called):
+            self.assertEqual(len(list(ca.rules("surjective", 2, 4))), 582)
+        self.assertEqual((len(callers), threading.main_thread() in callers), (1, False))
 
     def test_a_list_that_is_left_leaves_its_tasks(self) -> None:
         executor = AtOnce()

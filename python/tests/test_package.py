@@ -165,7 +165,7 @@ list(rules(sys.argv[1], int(sys.argv[2]), int(sys.argv[3])))
             self.stops(self.OVER_THREADS, words)
 
     def test_a_list_without_an_executor_ends_within_a_second(self) -> None:
-        """Even if the search for the next rule lasts for long: of injective rules of five states with a first letter 0, 0, 1."""
+        """The library searches in another thread, as a test of lists says, so it doesn't matter how long that lasts."""
         for words in self.ENDLESS:
             self.stops(self.ALONE, words)
 
