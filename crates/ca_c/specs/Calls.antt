@@ -1,4 +1,4 @@
--- What a call of the interface hands back.
+-- What a call of the C interface returns: a code, a length, and the output in the caller's buffer.
 use Rattle.std.specs.Prelude.{◌≡◌, ℕ, ◌<◌, ◌≤◌, List, ◌++◌, length, drop, Some}
 use Rattle.ca_questions.specs.Replies.{Reply}
 use Rattle.ca_text.specs.Replies.{reply_text}
@@ -10,7 +10,7 @@ use Rattle.ca_c.specs.Blocks.{AreWords}
 use Rattle.ca_c.specs.declared.calls.Form.{Form}
 use Rattle.ca_c.specs.declared.calls.Form.TheVariants as form
 
--- the bytes of a reply in a form: what the program prints, or JSON
+-- the bytes of a reply in the form that a call asks for: what the program prints, or JSON
 abbrev pub bytes_in : Form → Reply → List ℕ
 bytes_in form.Text = reply_text
 bytes_in form.Json = json_text
@@ -24,15 +24,15 @@ pub record IsAnswerIn (bytes_of : Reply → List ℕ) (block input : List ℕ) (
   pub status_is : status ≡ reply_status reply
   pub output_is : output ≡ bytes_of reply
 
--- the code, the length and the buffer that are handed back, where the buffer had these bytes before
+-- the code, the length and the buffer that a call returns, if the buffer had the bytes `before`
 pub data IsHandedBack (bytes_of : Reply → List ℕ) (block input before : List ℕ) : ℕ → ℕ → List ℕ → Type 0 where
-  -- the status, and the whole output at the beginning of the buffer
+  -- if the output fits, the code of the status, the length, and the whole output at the beginning of the buffer
   Whole : (status : Status) (output : List ℕ) → IsAnswerIn bytes_of block input status output → length output ≤ length before
       → IsHandedBack bytes_of block input before (code_of status) (length output) (output ++ drop (length output) before)
-  -- the length of an output for which the buffer is too short
+  -- if the buffer is too short, the code 10 and the length of the output, and the buffer as before
   Short : (status : Status) (output : List ℕ) → IsAnswerIn bytes_of block input status output → length before < length output
       → IsHandedBack bytes_of block input before 10 (length output) before
-  -- the block has no words
+  -- if the block isn't made of words, the code 9, and the buffer as before
   NoWords : ((words : List (List ℕ)) → ¬ AreWords block words) → IsHandedBack bytes_of block input before 9 0 before
-  -- there was no memory
+  -- if there is no memory, the code 8, and the buffer as before
   Memory : IsHandedBack bytes_of block input before 8 0 before

@@ -1,4 +1,4 @@
--- The bytes that are accepted, and the meaning of their verdicts.
+-- The bytes that the judge accepts, and the meaning of their verdicts.
 use Rattle.std.specs.Prelude.{◌≡◌, ℕ, ◌↔◌, Bool, ◌&&◌, IsTrue, List, slice_index}
 use Rattle.word_image.specs.Words.{IsSurjective}
 use Rattle.word_image.specs.Rings.{IsConserving}
@@ -9,7 +9,7 @@ use Rattle.cert_values.specs.CertificateTexts.{IsCertificateText}
 use Rattle.cert_conditions.specs.declared.verdicts.Verdicts.{Verdicts}
 use Rattle.cert_conditions.specs.Conditions.{MeetsConditions}
 
--- the verdicts of a certificate's parts
+-- the verdicts that the evidence of a certificate gives
 abbrev pub verdicts_of : Certificate → Verdicts
 verdicts_of c = record {
   rule = c.rule;
@@ -21,11 +21,11 @@ verdicts_of c = record {
   conserving = says_conserving c.conserving;
 }
 
--- a rule is open if it closes on both sides
+-- the verdict on open: the rule is closing on both sides
 abbrev pub is_open : Verdicts → Bool
 is_open v = v.right && v.left
 
--- the judge accepts the bytes with these verdicts: they are the text of a certificate with these verdicts that meets the conditions
+-- the judge accepts the bytes with these verdicts: they are the text of a certificate that meets the conditions, and the certificate has these verdicts
 pub record IsAccepted (bytes : List ℕ) (v : Verdicts) : Type 0 where
   pub certificate : Certificate
   pub text : IsCertificateText bytes certificate

@@ -22,18 +22,18 @@ pub record LeadsBeside (r : LocalRule) (node set a v : ℕ) : Type 0 where
   pub one_label : label r node a ≡ label r other b
   pub leads : next r other b ≡ v
 
--- rows of sets of nodes
+-- the rows are 16 sets of nodes, one for each node
 pub record AreNodeRows (r : LocalRule) (rows : List ℕ) : Type 0 where
   pub long : length rows ≡ most_nodes
   pub within : AreSets r rows
 
--- the pairs of the nodes that the first n letters reach from the node, with the nodes that each has, were added
+-- the new rows have the pairs of the old rows, and each pair (u, v) for which one of the first n letters a leads from the node to u and Has a v holds
 pub record AreAdded (r : LocalRule) (node : ℕ) (Has : ℕ → ℕ → Type 0) (n : ℕ) (old new : List ℕ) : Type 0 where
   pub rows : AreNodeRows r new
   pub grown : (u : ℕ) → u < node_count r → slice_index old u ≤ slice_index new u
   pub pairs : (u v : ℕ) → u < node_count r → v < node_count r → (HasBit new u v ↔ (HasBit old u v ⊎ ((a : ℕ) × (a < n) × (next r node a ≡ u) × Has a v)))
 
--- all that was found is reached and has two different nodes, and the steps from what was followed lead to what was found
+-- all found pairs are reached and have two different nodes, and the steps from followed pairs lead to found pairs
 pub record IsRowSearch (r : LocalRule) (found followed : List ℕ) : Type 0 where
   pub rows : AreNodeRows r found
   pub long : length followed ≡ most_nodes

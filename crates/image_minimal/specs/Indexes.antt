@@ -12,6 +12,6 @@ pub record IsExactIndex (sets : List ℕ) (places : List (Option ℕ)) : Type 0 
   pub within : (i set : ℕ) → slice_get sets i ≡ Some set → set < most_sets
   pub each : (set : ℕ) → set < length places → IsPlaceOf sets set (get_or places set None)
 
--- the set was in the list, or it was new and was appended
+-- the set was in the list, which stayed the same, or it was new and was appended
 abbrev pub IsInserted : List ℕ → List ℕ → ℕ → Type 0
 IsInserted old new set = ((new ≡ old) × Contains old set) ⊎ ((¬ Contains old set) × (new ≡ old ++ set ∷ []))

@@ -15,15 +15,15 @@ link_place x = record { state = (x.first, x.second); parent = x.parent; letter =
 abbrev pub link_places : List Link → List (Place (ℕ × ℕ))
 link_places = map link_place
 
--- the two sets of each link that was made before the first e edges had been followed have the same colour; set s of the second rule has the number n + s
+-- f gives the same colour to the two sets of each link that was made before the first e edges had been followed; set s of the second rule has the number n + s
 abbrev pub HaveOneColour : ℕ → ℕ → List Link → ℕ → (ℕ → Bool) → Type 0
 HaveOneColour n k links e f = (i : ℕ) (x : Link) → slice_get links i ≡ Some x → filled k i (link_place x) ≤ e → f x.first ≡ f (n + x.second)
 
--- a step on the same letter under both rules
+-- a step from one pair of sets to another, on the same letter under both rules
 abbrev pub LinkStep : LocalRule → LocalRule → ℕ × ℕ → ℕ → ℕ × ℕ → Type 0
 LinkStep r q from a to = IsStep r from.0 a to.0 × IsStep q from.1 a to.1
 
--- the links made before the first e edges had been followed join two sets: these have the same colour under every colouring in which the two sets of each of these links do
+-- the links made before the first e edges had been followed join the two sets of the pair: both sets have the same colour under every colouring that gives one colour to the two sets of each of these links
 abbrev pub HasChain : LocalRule → List Link → ℕ × ℕ → ℕ → Type 0
 HasChain r links pair e = (f : ℕ → Bool) → HaveOneColour (2 ^ node_count r) r.states links e f → f pair.0 ≡ f (2 ^ node_count r + pair.1)
 
@@ -43,6 +43,6 @@ pub record IsLinkSearch (r q : LocalRule) (links : List Link) (parents : List �
   pub joined : (f : ℕ → Bool) → HaveOneColour (2 ^ node_count r) r.states links e f → AreColours parents f
   pub few : length links + total parents ≤ most_links r q
 
--- the word on the way to a link
+-- the word of the letters on the way from the first link to this one
 abbrev pub SpellsLink : List Link → ℕ → List ℕ → Type 0
 SpellsLink links = TreeSpells (link_places links)

@@ -12,11 +12,11 @@ use Rattle.image_minimal.specs.Indexes.{IsPlaceOf}
 abbrev pub AreUnreadSets : LocalRule → List ℕ → Type 0
 AreUnreadSets r sets = (set : ℕ) → Contains sets set ↔ IsUnreadSet r set
 
--- a search through the sets that closed steps reach from the set of all nodes
+-- a search through the sets that closed steps reach from the set of all nodes, in which the first e edges have been followed
 abbrev pub IsClassSearch : LocalRule → List ℕ → ℕ → Type 0
 IsClassSearch r = IsSearch (IsClosedStep r) r.states (full_set r)
 
--- the closures of all sets, and the closures of the classes in the order of the least automaton; each step leads to the class that the automaton names
+-- the lists have the closures of all sets, and the closures of the classes in the order of the least automaton; each step leads to the class that the automaton names
 pub record HasClasses (r : LocalRule) (closures classes : List ℕ) : Type 0 where
   pub rule : IsRule r
   pub closed : AreClosures r closures

@@ -11,7 +11,7 @@ pub record IsApartAt (r : LocalRule) (n c : ℕ) (x y : List ℕ) : Type 0 where
   pub one_image : HaveOneImage r n x y
   pub differ : slice_index x c ≢ slice_index y c
 
--- the condition of each fault: a map of more than 65,536 letters is refused first
+-- the condition for each fault: a map of more than 65,536 letters is refused first
 abbrev pub IsInvFault : LocalRule → ℕ → ℕ → InvFault → Type 0
 IsInvFault r n c Wide = most_map_entries < r.states ^ n
 IsInvFault r n c (NotDetermined x y) = (r.states ^ n ≤ most_map_entries) × IsApartAt r n c x y

@@ -4,11 +4,11 @@ use Rattle.word_image.specs.LocalRules.{LocalRule, most_width, most_nodes}
 use Rattle.rule_algebra.specs.declared.fault.AlgebraFault.{AlgebraFault}
 use Rattle.rule_algebra.specs.declared.fault.AlgebraFault.TheVariants.{States, Width, Nodes, Offset}
 
--- the fault of a window of m cells at offset o
+-- the fault of a window of m cells at offset o, if it reaches further than 16 cells to the left or to the right
 abbrev pub offset_fault : ℕ → ℤ → Option AlgebraFault
 offset_fault m o = if int_lt o (negsuc 15) || int_lt (pos 16) (o +ℤ pos (m - 1)) then Some Offset else None
 
--- the fault of a rule with k states, width m and this offset, where k is accepted
+-- the first limit that a rule with k states, which are accepted, width m and this offset breaks, if there is one
 abbrev pub limit_fault : ℕ → ℕ → ℤ → Option AlgebraFault
 limit_fault k m o =
     if nat_lt most_width m then Some Width

@@ -3,7 +3,7 @@ use Rattle.std.specs.Prelude.{ℕ, List, codes}
 use Rattle.rule_algebra.specs.declared.fault.AlgebraFault.{AlgebraFault}
 use Rattle.rule_algebra.specs.declared.fault.AlgebraFault.TheVariants as algebra
 
--- a word for each fault
+-- the word for a fault
 abbrev pub algebra_text : AlgebraFault → List ℕ
 algebra_text algebra.States = codes "states"
 algebra_text algebra.NotPermutation = codes "permutation"

@@ -13,7 +13,7 @@ use Rattle.rule_text.specs.declared.beginnings.Beginning.{Beginning}
 abbrev pub filled : ℕ → List ℕ → List ℕ
 filled size letters = letters ++ replicate (size - length letters) 0
 
--- the given letters of the table
+-- the given letters of the table, or no letters if a number is given
 abbrev pub letters_of : Entries → List ℕ
 letters_of (Entries.Table letters) = letters
 letters_of (Entries.Number n) = []
@@ -31,12 +31,12 @@ beginning_fault s = option_or (option_map (in_text s.place) (shape_fault s.state
 abbrev pub beginning_rule : Said → LocalRule
 beginning_rule s = record { states = s.states; width = s.width; offset = s.offset; table = filled (s.states ^ s.width) (letters_of s.entries) }
 
--- the result of reading a beginning
+-- the result of reading a beginning is right: its rule and the number of its letters, or its first fault
 abbrev pub IsBeginningOf : Said → Result Beginning TextFault → Type 0
 IsBeginningOf s (Ok b) = (beginning_fault s ≡ None) × (b.rule ≡ beginning_rule s) × (b.given ≡ length (letters_of s.entries))
 IsBeginningOf s (Err f) = beginning_fault s ≡ Some f
 
--- the text is a beginning with this rule and this number of letters
+-- the text is a beginning with this rule and this number of given letters
 pub record IsBeginning (text : List ℕ) (b : Beginning) : Type 0 where
   pub said : Said
   pub says : Says text said

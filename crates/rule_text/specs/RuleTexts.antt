@@ -15,17 +15,17 @@ use Rattle.rule_text.specs.declared.text_fault.TextFault.TheVariants as fault
 abbrev pub IsDigit : ℕ → Type 0
 IsDigit b = (48 ≤ b) × (b ≤ 57)
 
--- from low to high decimal digits
+-- the text has from low to high decimal digits
 pub record IsDecimal (low high : ℕ) (text : List ℕ) : Type 0 where
   pub digits : All IsDigit text
   pub least : low ≤ length text
   pub most : length text ≤ high
 
--- the number of a row of decimal digits
+-- the number that decimal digits stand for
 abbrev pub decimal_value : List ℕ → ℕ
 decimal_value text = value 10 (map (λ b. b - 48) text)
 
--- one or two decimal digits, which may have a minus sign, and the offset that they name
+-- the text is this offset: one or two decimal digits, which may follow a minus sign
 pub data IsOffset : List ℕ → ℤ → Type 0 where
   Plain : (digits : List ℕ) → IsDecimal 1 2 digits → IsOffset digits (pos (decimal_value digits))
   Minus : (digits : List ℕ) → IsDecimal 1 2 digits → IsOffset (codes "-" ++ digits) (neg_ℤ (pos (decimal_value digits)))
@@ -47,11 +47,11 @@ pub record Said : Type 0 where
 abbrev pub by_number : ℕ → ℕ → ℤ → ℕ → Said
 by_number k m o n = record { states = k; width = m; offset = o; entries = Entries.Number n; place = 0 }
 
--- the rule of two states, width 3 and offset -1 with this number
+-- the meaning of a text that is only a number: the rule of two states, width 3 and offset -1 with this number
 abbrev pub bare : ℕ → Said
 bare n = by_number 2 3 (negsuc 0) n
 
--- the grammar: the bare form, the table form and the number form
+-- the text is in the grammar with this meaning: it has the bare form, the table form or the number form
 pub data Says : List ℕ → Said → Type 0 where
   Bare : (digits : List ℕ) → IsDecimal 1 39 digits → Says digits (bare (decimal_value digits))
   InTable : (k m o digits : List ℕ) (offset : ℤ) → IsDecimal 1 2 k → IsDecimal 1 2 m → IsOffset o offset → All IsHexDigit digits
@@ -65,7 +65,7 @@ pub data Says : List ℕ → Said → Type 0 where
 abbrev pub IsSaid : List ℕ → Type 0
 IsSaid text = (said : Said) × Says text said
 
--- the fault of a rule whose table begins at this place of the text
+-- the fault of a text for the fault of its rule; the table begins at this place of the text
 abbrev pub in_text : ℕ → RuleFault → TextFault
 in_text place limit.States = fault.States
 in_text place limit.Width = fault.Width

@@ -20,7 +20,7 @@ letters-placed = refl
 abbrev mixed : TailConfig
 mixed = record { left = 0 ∷ 1 ∷ []; middle = 1 ∷ []; right = 1 ∷ 0 ∷ 0 ∷ [] }
 
--- two left periods, the middle and one right period
+-- two left periods, the middle and one right period of this configuration, as one word
 stretch-mixed : stretch mixed 2 1 ≡ 0 ∷ 1 ∷ 0 ∷ 1 ∷ 1 ∷ 1 ∷ 0 ∷ 0 ∷ []
 stretch-mixed = refl
 
