@@ -35,22 +35,22 @@ abbrev pub IsShortSum : SumEvidence → Type 0
 IsShortSum (Flux phi) = length phi ≤ 16
 IsShortSum (Ring p) = ⊤
 
--- the part of the report on surjective: 1 for yes, or 0 for no and the row of the orphan
+-- the part of a report that says whether the rule is surjective: 1 for yes, or 0 for no and the row of the orphan
 abbrev pub SaysSurjective : List ℕ → ℕ → LetterRow → Option (List ℕ) → Type 0
 SaysSurjective letters holds orphan None = (holds ≡ 1) × (orphan ≡ no_row)
 SaysSurjective letters holds orphan (Some w) = (holds ≡ 0) × IsRow letters orphan w
 
--- the part of the report on injective: 1 for yes, the window and the place, or 0 for no and the rows of the twins
+-- the part of a report that says whether the rule is injective: 1 for yes, the window and the place, or 0 for no and the rows of the twins
 abbrev pub SaysInjective : List ℕ → ℕ → ℕ → ℕ → TwinRows → InjectiveEvidence → Type 0
 SaysInjective letters holds window place twins (Window n c) = (holds ≡ 1) × (window ≡ n) × (place ≡ c) × (twins ≡ no_twins)
 SaysInjective letters holds window place twins (Twins x y) = (holds ≡ 0) × (window ≡ 0) × (place ≡ 0) × AreTwinRows letters twins x y
 
--- the part of the report on closing: 1 for yes and the look-ahead, or 0 for no and the rows of the split
+-- the part of a report that says whether the rule is closing on a side: 1 for yes and the look-ahead, or 0 for no and the rows of the split
 abbrev pub SaysSide : List ℕ → ℕ → ℕ → SplitRows → SideEvidence → Type 0
 SaysSide letters holds ahead split (Ahead n) = (holds ≡ 1) × (ahead ≡ n) × (split ≡ no_split)
 SaysSide letters holds ahead split (Split x y) = (holds ≡ 0) × (ahead ≡ 0) × AreSplitRows letters split x y
 
--- the part of the report on conserving: 1 for yes and the numbers of the flux, or 0 for no and the row of the ring
+-- the part of a report that says whether the rule is conserving: 1 for yes and the numbers of the flux, or 0 for no and the row of the ring
 abbrev pub SaysConserving : List ℕ → ℕ → ℕ → List ℤ → LetterRow → SumEvidence → Type 0
 SaysConserving letters holds nodes flux ring (Flux phi) = (holds ≡ 1) × (nodes ≡ length phi) × (flux ≡ flux_row phi) × (ring ≡ no_row)
 SaysConserving letters holds nodes flux ring (Ring p) = (holds ≡ 0) × (nodes ≡ 0) × (flux ≡ replicate 16 (pos 0)) × IsRow letters ring p

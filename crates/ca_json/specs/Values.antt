@@ -47,22 +47,22 @@ tail_json t = object_of ((codes "left", word_value t.left) ∷ (codes "middle", 
 
 -- The JSON of verdicts with their evidence
 
--- the JSON of the verdict on surjective: it holds, or it doesn't and there is an orphan
+-- the JSON that says whether a rule is surjective: it is, or it isn't and there is an orphan
 abbrev pub surjective_json : Option (List ℕ) → Data
 surjective_json None = object_of ((codes "holds", boolean true) ∷ [])
 surjective_json (Some w) = object_of ((codes "holds", boolean false) ∷ (codes "orphan", word_value w) ∷ [])
 
--- the JSON of the verdict on injective: it holds and there is a window, or it doesn't and there are twins
+-- the JSON that says whether a rule is injective: it is and there is a window, or it isn't and there are twins
 abbrev pub injective_json : InjectiveEvidence → Data
 injective_json (Window n c) = object_of ((codes "holds", boolean true) ∷ (codes "window", two (whole_value n) (whole_value c)) ∷ [])
 injective_json (Twins x y) = object_of ((codes "holds", boolean false) ∷ (codes "twins", two (word_value x) (word_value y)) ∷ [])
 
--- the JSON of the verdict on closing on a side: it holds and there is a look-ahead, or it doesn't and there is a split
+-- the JSON that says whether a rule is closing on a side: it is and there is a look-ahead, or it isn't and there is a split
 abbrev pub side_json : SideEvidence → Data
 side_json (Ahead n) = object_of ((codes "ahead", whole_value n) ∷ (codes "holds", boolean true) ∷ [])
 side_json (Split x y) = object_of ((codes "holds", boolean false) ∷ (codes "split", two (tail_json x) (tail_json y)) ∷ [])
 
--- the JSON of the verdict on conserving: it holds and there is a flux, or it doesn't and there is a ring
+-- the JSON that says whether a rule is conserving: it is and there is a flux, or it isn't and there is a ring
 abbrev pub conserving_json : SumEvidence → Data
 conserving_json (Flux phi) = object_of ((codes "flux", array_from (map signed_value phi)) ∷ (codes "holds", boolean true) ∷ [])
 conserving_json (Ring p) = object_of ((codes "holds", boolean false) ∷ (codes "ring", word_value p) ∷ [])

@@ -1,4 +1,4 @@
--- The results of checking one condition, and of searching the first number without a property.
+-- The results of checking one condition, and of looking for the first number without a property.
 use Rattle.std.specs.Prelude.{Result, MatchResult, ℕ, Option, MatchOption}
 use Rattle.cert_values.specs.Certificates.{Certificate}
 use Rattle.cert_conditions.specs.declared.condition.Condition.{Condition}

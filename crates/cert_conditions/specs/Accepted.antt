@@ -21,7 +21,7 @@ verdicts_of c = record {
   conserving = says_conserving c.conserving;
 }
 
--- the verdict on open: the rule is closing on both sides
+-- whether the rule is open: it is open if it is right-closing and left-closing
 abbrev pub is_open : Verdicts → Bool
 is_open v = v.right && v.left
 
@@ -32,7 +32,7 @@ pub record IsAccepted (bytes : List ℕ) (v : Verdicts) : Type 0 where
   pub meets : MeetsConditions certificate
   pub verdicts : v ≡ verdicts_of certificate
 
--- each verdict is true of the rule, and the verdict on conserving under the weights
+-- each verdict is true of the rule, and the verdict whether it is conserving is true under the weights
 pub record AreTrue (v : Verdicts) : Type 0 where
   pub surjective : IsTrue v.surjective ↔ IsSurjective v.rule
   pub injective : IsTrue v.injective ↔ IsInjective v.rule

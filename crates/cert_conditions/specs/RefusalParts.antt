@@ -58,15 +58,15 @@ pub record Parts : Type 0 where
   pub fault : Option (List ℕ)
   pub numbers : RefusalNumbers
 
--- the parts with this cause, these numbers and nothing else
+-- the parts of a refusal with this cause, these numbers and nothing else
 abbrev pub with : List ℕ → RefusalNumbers → Parts
 with cause ns = record { cause = cause; side = None; because = None; key = None; fault = None; numbers = ns }
 
--- the same parts with this side
+-- the same parts of a refusal with this side
 abbrev pub on : Side → Parts → Parts
 on s p = record { cause = p.cause; side = Some (side_text s); because = p.because; key = p.key; fault = p.fault; numbers = p.numbers }
 
--- the same parts with this reason
+-- the same parts of a refusal with this reason
 abbrev pub because : List ℕ → Parts → Parts
 because why p = record { cause = p.cause; side = p.side; because = Some why; key = p.key; fault = p.fault; numbers = p.numbers }
 

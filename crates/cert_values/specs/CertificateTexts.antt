@@ -58,28 +58,28 @@ HasOnly k v d = as_object d ≡ Some (member k v no_members)
 abbrev pub HasOnlyBoth : List ℕ → Data → List ℕ → Data → Data → Type 0
 HasOnlyBoth k v l u d = as_object d ≡ Some (member k v (member l u no_members))
 
--- the value is {"sets":[..]}, {"pairs":[..]} or {"orphan":".."}, with this evidence in it
+-- the value is {"sets":[..]}, {"pairs":[..]} or {"orphan":".."}, with the sets, the pairs or the word of this evidence
 abbrev pub IsSurjectiveValue : Data → SurjectiveEvidence → Type 0
 IsSurjectiveValue d (Sets sets) = (v : Data) × HasOnly (codes "sets") v d × IsArrayOf IsWhole v sets
 IsSurjectiveValue d (Pairs pairs) = (v : Data) × HasOnly (codes "pairs") v d × IsArrayOf IsWhole v pairs
 IsSurjectiveValue d (Orphan w) = (v : Data) × HasOnly (codes "orphan") v d × IsDigits v w
 
--- the value is {"c":C,"n":N} or {"twins":["..",".."]}, with this evidence in it
+-- the value is {"c":C,"n":N} or {"twins":["..",".."]}, with the window or the two words of this evidence
 abbrev pub IsInjectiveValue : Data → InjectiveEvidence → Type 0
 IsInjectiveValue d (Window n c) = (v u : Data) × HasOnlyBoth (codes "c") v (codes "n") u d × IsWhole v c × IsWhole u n
 IsInjectiveValue d (Twins x y) = (v : Data) × HasOnly (codes "twins") v d × IsArrayOf IsDigits v (x ∷ y ∷ [])
 
--- the value is {"ahead":A} or {"split":["..",".."]}, with this evidence in it
+-- the value is {"ahead":A} or {"split":["..",".."]}, with the look-ahead or the two configurations of this evidence
 abbrev pub IsSideValue : Data → SideEvidence → Type 0
 IsSideValue d (Ahead n) = (v : Data) × HasOnly (codes "ahead") v d × IsWhole v n
 IsSideValue d (Split x y) = (v : Data) × HasOnly (codes "split") v d × IsArrayOf IsTailString v (x ∷ y ∷ [])
 
--- the value is {"flux":[..]} or {"ring":".."}, with this evidence in it
+-- the value is {"flux":[..]} or {"ring":".."}, with the flux or the word of this evidence
 abbrev pub IsSumValue : Data → SumEvidence → Type 0
 IsSumValue d (Flux phi) = (v : Data) × HasOnly (codes "flux") v d × IsArrayOf IsSigned v phi
 IsSumValue d (Ring p) = (v : Data) × HasOnly (codes "ring") v d × IsDigits v p
 
--- the value is {"backward":[..],"forward":[..]}, with these claims of ranks in both directions
+-- the value is {"backward":[..],"forward":[..]}, with these claims of ranks, backward and forward
 abbrev pub IsRanksValue : Data → List (Option ℕ) → List (Option ℕ) → Type 0
 IsRanksValue d forward backward = (v u : Data) × HasOnlyBoth (codes "backward") v (codes "forward") u d × IsArrayOf IsClaimValue v backward × IsArrayOf IsClaimValue u forward
 
@@ -129,7 +129,7 @@ HasSide k r ms e = HasMember ms k (λ d. IsSideValue d e) × IsSideShape r e
 abbrev pub HasConserving : LocalRule → Members → SumEvidence → Type 0
 HasConserving r ms e = HasMember ms (codes "conserving") (λ d. IsSumValue d e) × IsSumShape r e
 
--- the weights are those of the member "weights", or the letters' own values if there is no such member or the version may not name weights
+-- the weights are those of the member "weights"; if there is no such member, or the version may not name weights, they are the letters' own values
 pub data HasWeights (version : CertVersion) (r : LocalRule) (ms : Members) (weights : List ℕ) : Type 0 where
   Named : names_weights version ≡ true → HasMember ms (codes "weights") (λ d. IsArrayOf IsWhole d weights) → AreWeights r.states weights → HasWeights version r ms weights
   Own : (names_weights version ≡ true → get_member (codes "weights") ms ≡ None) → weights ≡ own_weights r.states → HasWeights version r ms weights

@@ -43,23 +43,23 @@ claim_value (Some n) = whole_value n
 abbrev pub only : List ℕ → Data → Data
 only k d = object (member k d no_members)
 
--- the JSON value of the evidence on surjective: {"sets":[..]}, {"pairs":[..]} or {"orphan":".."}
+-- the JSON value of the evidence that a rule is surjective, or that it isn't: {"sets":[..]}, {"pairs":[..]} or {"orphan":".."}
 abbrev pub surjective_value : SurjectiveEvidence → Data
 surjective_value (Sets sets) = only (codes "sets") (array_from (map whole_value sets))
 surjective_value (Pairs pairs) = only (codes "pairs") (array_from (map whole_value pairs))
 surjective_value (Orphan w) = only (codes "orphan") (word_value w)
 
--- the JSON value of the evidence on injective: {"c":C,"n":N} or {"twins":["..",".."]}
+-- the JSON value of the evidence that a rule is injective, or that it isn't: {"c":C,"n":N} or {"twins":["..",".."]}
 abbrev pub injective_value : InjectiveEvidence → Data
 injective_value (Window n c) = object (member (codes "c") (whole_value c) (member (codes "n") (whole_value n) no_members))
 injective_value (Twins x y) = only (codes "twins") (array_from (word_value x ∷ word_value y ∷ []))
 
--- the JSON value of the evidence on closing: {"ahead":A} or {"split":["..",".."]}
+-- the JSON value of the evidence that a rule is closing on a side, or that it isn't: {"ahead":A} or {"split":["..",".."]}
 abbrev pub side_value : SideEvidence → Data
 side_value (Ahead n) = only (codes "ahead") (whole_value n)
 side_value (Split x y) = only (codes "split") (array_from (tail_value x ∷ tail_value y ∷ []))
 
--- the JSON value of the evidence on conserving: {"flux":[..]} or {"ring":".."}
+-- the JSON value of the evidence that a rule is conserving, or that it isn't: {"flux":[..]} or {"ring":".."}
 abbrev pub sum_value : SumEvidence → Data
 sum_value (Flux phi) = only (codes "flux") (array_from (map signed_value phi))
 sum_value (Ring p) = only (codes "ring") (word_value p)

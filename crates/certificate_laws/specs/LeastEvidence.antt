@@ -8,7 +8,7 @@ use Rattle.tail_config.specs.Tails.{IsInjective, IsRightClosing, IsLeftClosing}
 use Rattle.tail_config.specs.Splits.{IsLeastRightSplit, IsLeastLeftSplit}
 use Rattle.cert_values.specs.Evidence.{InjectiveEvidence, SideEvidence, SumEvidence, Window, Twins, Ahead, Split, Flux, Ring}
 
--- the evidence on a rule with weights: an orphan, or None if the rule is surjective, and the evidence on the other four questions
+-- the evidence for a rule with weights: an orphan, or None if the rule is surjective, and the evidence that it is injective, right-closing, left-closing and conserving, or that it isn't
 pub record Evidence : Type 0 where
   pub rule : LocalRule
   pub weights : List ℕ

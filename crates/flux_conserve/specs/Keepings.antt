@@ -1,4 +1,4 @@
--- The evidence that a rule keeps the weight of every ring, or that it doesn't.
+-- The evidence that a rule of width m keeps the weight of every ring, or that it doesn't.
 use Rattle.std.specs.Prelude.{◌≡◌, ⊤, ℕ, ◌-◌, ◌*◌, ◌≤◌, List, length, take, drop, replicate, slice_get, Some, Bool, true, false, ℤ, pos}
 use Rattle.word_image.specs.LocalRules.{LocalRule, node_count, most_nodes}
 use Rattle.word_image.specs.Rings.{IsFlux, IsLeastLossyRing}

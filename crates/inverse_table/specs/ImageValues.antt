@@ -1,4 +1,4 @@
--- All words of one length in their order: the values of their images, and their letters at one place.
+-- All words of one length in their order: the values of their images under a rule of width m, and their letters at one place.
 use Rattle.std.specs.Prelude.{◌≡◌, ◌≢◌, ℕ, ◌+◌, ◌-◌, ◌*◌, ◌/◌, ◌%◌, ◌^◌, ◌<◌, ◌⊎◌, List, length, slice_index, slice_range}
 use Rattle.word_image.specs.LocalRules.{LocalRule, IsWord, value}
 use Rattle.word_image.specs.Words.{image}

@@ -1,4 +1,4 @@
--- Pairs of nodes that differ in a letter, and the least determined window among several windows.
+-- Pairs of nodes that differ in a letter, and the least determined window among several windows. The rule has width m.
 use Rattle.std.specs.Prelude.{◌≡◌, ◌≢◌, ℕ, ◌+◌, ◌*◌, ◌<◌, ◌≤◌, ◌⊎◌, List, length, Option, None, slice_index_or, IfSome, IsSomeAnd, MatchOption}
 use Rattle.word_image.specs.LocalRules.{LocalRule, node_count}
 use Rattle.word_image.specs.Graphs.{first_of, second_of, node_letter}

@@ -1,4 +1,4 @@
--- No row and no ring of an answer can be left out. The rows are weights whose sums the rule keeps, and the rings show that it keeps no others.
+-- No row and no ring of an answer can be left out. A row of an answer is weights whose sum the rule keeps, and a ring rules out the weights whose sum the ring doesn't keep.
 use Rattle.std.specs.Prelude.{◌≢◌, ℕ, zero, suc, ◌+◌, ◌<◌, ◌≤◌, ◌==◌, if◌then◌else◌, List, slice_index, ℤ}
 use Rattle.word_image.specs.LocalRules.{LocalRule}
 use Rattle.word_image.specs.Rings.{ring_image}

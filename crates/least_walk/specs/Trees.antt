@@ -1,4 +1,4 @@
--- The least walks from one marked pair to all others.
+-- The least walks from one marked pair to all others. A marked pair is a pair of nodes with a mark, 0 or 1.
 use Rattle.std.specs.Prelude.{◌≡◌, ℕ, ◌<◌, ◌≤◌, List, length, slice_get, slice_index, Some, None}
 use Rattle.word_image.specs.MarkedPairs.{most_marked_pairs}
 use Rattle.word_image.specs.LocalRules.{LocalRule}

@@ -60,7 +60,7 @@ pub record GoesOnBy (side : Side) (r : LocalRule) (ends : List (List ℕ)) (rows
 abbrev pub GoesOn : Side → LocalRule → List (List ℕ) → List ℕ → ℕ → ℕ → Type 0
 GoesOn side r ends rows u v = (a : ℕ) × (t : ℕ) × (a < r.states) × GoesOnBy side r ends rows u v a t
 
--- the rows below n keep exactly the nodes v of row u for which Goes u v holds, and the rows from n on are 0
+-- in the kept rows, row u below n has exactly the nodes v of the old row u for which Goes u v holds, and the rows from n on are 0
 pub record AreNodesKept (Goes : ℕ → ℕ → Type 0) (rows : List ℕ) (n : ℕ) (kept : List ℕ) : Type 0 where
   pub long : length kept ≡ most_nodes
   pub done : (u v : ℕ) → u < n → v < most_nodes → (IsBitSet (slice_index kept u) v ↔ (IsBitSet (slice_index rows u) v × Goes u v))

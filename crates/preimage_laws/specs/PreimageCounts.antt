@@ -1,4 +1,4 @@
--- The number of preimages of a configuration, and separated preimages.
+-- The number of preimages of a configuration under a rule of width m, and separated preimages.
 use Rattle.std.specs.Prelude.{◌≡◌, ℕ, ◌-◌, ◌<◌, ℤ}
 use Rattle.word_image.specs.LocalRules.{LocalRule}
 use Rattle.tail_config.specs.Configs.{Config, IsConfig, run, image_of}

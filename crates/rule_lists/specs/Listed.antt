@@ -1,4 +1,4 @@
--- The rules that a search lists: they have a given shape, a property and some fixed letters.
+-- The rules that a search lists: they have a given shape, a property and some fixed letters. The fixed letters are the numbers below k in the list `begin`, which has a number for each window.
 use Rattle.std.specs.Prelude.{◌≡◌, ℕ, ◌^◌, ◌<◌, ◌≤◌, ◌↔◌, ◌⊎◌, List, slice_index, ℤ, pos, Option, Some, IfSome}
 use Rattle.word_image.specs.LocalRules.{LocalRule, IsRule}
 use Rattle.rule_lists.specs.Properties.{Has}

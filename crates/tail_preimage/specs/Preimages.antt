@@ -1,4 +1,4 @@
--- Placed configurations that a rule maps to a given one: their shapes and their order, the words that show that there is none, and the right answer.
+-- Placed configurations that a rule of width m maps to a given one: their shapes and their order, the words that show that there is none, and the right answer.
 use Rattle.std.specs.Prelude.{◌≡◌, ◌≢◌, ℕ, ◌+◌, ◌*◌, ◌-◌, ◌≤◌, List, ◌++◌, length, map, ℤ, pos, ◌+ℤ◌, ◌-ℤ◌}
 use Rattle.std.specs.List.{range_with_len, repeat}
 use Rattle.std.specs.Ordering.{ordering_then, nat_cmp}

@@ -1,4 +1,4 @@
--- Preimages of a word as walks in the de Bruijn graph, along edges whose labels spell the word. A walk leads from the node of the first m - 1 letters of the preimage to the node of its last m - 1 letters.
+-- Preimages of a word under a rule of width m, as walks in the de Bruijn graph along edges whose labels spell the word. A walk leads from the node of the first m - 1 letters of the preimage to the node of its last m - 1 letters.
 use Rattle.std.specs.Prelude.{◌≡◌, ◌≢◌, ℕ, ◌-◌, List, length, take, drop, IsBitSet}
 use Rattle.std.specs.declared.cmp.Ordering.TheVariants.{Greater}
 use Rattle.std.specs.Ordering.{nat_cmp}

@@ -1,4 +1,4 @@
--- The de Bruijn graph of a rule (Sutner 1991). A node is the value of a word of m - 1 letters, and an edge is the value of a window. A pair of nodes has a number, and a step leads from pair to pair along two edges with equal labels.
+-- The de Bruijn graph of a rule of width m (Sutner 1991). A node is the value of a word of m - 1 letters, and an edge is the value of a window. A pair of nodes has a number, and a step leads from pair to pair along two edges with equal labels.
 use Rattle.std.specs.Prelude.{◌≡◌, ℕ, List, ◌+◌, ◌-◌, ◌*◌, ◌/◌, ◌%◌, ◌^◌, ◌<◌, Option, Some, None, ◌==◌, if◌then◌else◌, slice_index, ◌↔◌, IsBitSet}
 use Rattle.word_image.specs.LocalRules.{LocalRule, node_count, most_nodes, word_of}
 use Rattle.word_image.specs.Ends.{label_at, end_at}

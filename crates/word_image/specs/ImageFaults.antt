@@ -1,4 +1,4 @@
--- The faults for which a word has no image under a rule.
+-- The faults for which a word has no image under a rule of k states and width m.
 use Rattle.std.specs.Prelude.{ℕ, ◌-◌, List, length, Option, Some, None, nat_lt, nat_le, if◌then◌else◌, position}
 use Rattle.std.specs.Option.{option_map, option_or}
 use Rattle.word_image.specs.LocalRules.{LocalRule}

@@ -1,4 +1,4 @@
--- How long two walks from two nodes, or to two nodes, can have equal labels (Sutner 1991), and the last nodes of the preimages of a word. Walks are given by their words.
+-- How long two walks from two nodes, or to two nodes, can have equal labels (Sutner 1991), and the last nodes of the preimages of a word. Walks are given by their words, and the rule has width m.
 use Rattle.std.specs.Prelude.{◌≡◌, ℕ, ◌+◌, ◌-◌, List, length, take, drop}
 use Rattle.word_image.specs.LocalRules.{LocalRule, IsWord, value}
 use Rattle.word_image.specs.Graphs.{IsNodeSet}
@@ -21,7 +21,7 @@ pub record EndTogether (r : LocalRule) (u v n : ℕ) : Type 0 where
   pub first : value r.states (drop n x) ≡ u
   pub second : value r.states (drop n y) ≡ v
 
--- n is the greatest length of the kind: the property holds for n, and it doesn't hold for n + 1
+-- n is the rank: the property holds for n, and it doesn't hold for n + 1
 pub record IsRank (Holds : ℕ → Type 0) (n : ℕ) : Type 0 where
   pub holds : Holds n
   pub no_more : ¬ Holds (n + 1)

@@ -1,4 +1,4 @@
--- The two sides of the line of cells. What holds on the right holds on the left of the mirrored rule.
+-- The two sides of the line of cells. What holds on the right holds on the left of the mirrored rule. The rule has width m.
 use Rattle.std.specs.Prelude.{ℕ}
 use Rattle.word_image.specs.LocalRules.{LocalRule, mirrored}
 use Rattle.word_image.specs.Graphs.{first_of, second_of}
