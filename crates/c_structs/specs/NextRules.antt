@@ -1,4 +1,4 @@
--- What calls of the C library return about the rules of a shape that have a property: the table of the next such rule, or the order of the windows.
+-- What the C library returns to a call about the rules of a shape that have a property: the table of the next such rule, or the order of the windows.
 use Rattle.std.specs.Prelude.{◌≡◌, ◌≢◌, ℕ, ◌^◌, ◌-◌, ◌<◌, ◌≤◌, Bool, true, false, ⊤, List, ◌++◌, length, replicate, Some, None, pos}
 use Rattle.word_image.specs.LocalRules.{LocalRule, IsRule}
 use Rattle.word_image.specs.RuleFaults.{rule_fault, shape_fault}
@@ -40,33 +40,33 @@ pub record IsQuestion (property : Property) (number states width : ℕ) (order b
   pub ordered : IsOrder (states ^ width) order
   pub within : length begin ≤ states ^ width
 
--- the code and the table that the call returns, if the table was `before`: only one of these cases fits
+-- the code and the table that a call returns if the table was `before`: only one of these cases fits
 pub data IsNext (number states width : ℕ) (order begin : List ℕ) (after : Bool) (before : List ℕ) : ℕ → List ℕ → Type 0 where
-  -- if the table `before` makes no rule, the code of the fault, and the table as before
+  -- if the table `before` makes no rule, the call returns the code of the fault and leaves the table as it was
   NoTable : (f : RuleFault) → rule_fault states width (pos 0) before ≡ Some f → IsNext number states width order begin after before (fault_code (Some f)) before
-  -- if the number stands for no property, the code 10, and the table as before
+  -- if the number stands for no property, the call returns the code 10 and leaves the table as it was
   NoProperty : IsRule (rule_of_table states width before) → IsNoProperty number → IsNext number states width order begin after before 10 before
-  -- if the windows aren't in an order, the code 11, and the table as before
+  -- if the windows aren't in an order, the call returns the code 11 and leaves the table as it was
   NoOrder : (property : Property) → IsRule (rule_of_table states width before) → number ≡ property_number property → ¬ IsOrder (states ^ width) order
       → IsNext number states width order begin after before 11 before
-  -- if more letters are fixed than there are windows, the code 12, and the table as before
+  -- if more letters are fixed than there are windows, the call returns the code 12 and leaves the table as it was
   NoBeginning : (property : Property) → IsRule (rule_of_table states width before) → number ≡ property_number property → IsOrder (states ^ width) order → states ^ width < length begin
       → IsNext number states width order begin after before 12 before
-  -- if no rule with the property is to come, the code 13, and the table as before
+  -- if no rule with the property is to come, the call returns the code 13 and leaves the table as it was
   NoRule : (property : Property) → IsQuestion property number states width order begin before → NoneIs property states width (fixed_letters begin) (IsToCome after states order before)
       → IsNext number states width order begin after before 13 before
-  -- if a rule with the property is to come, the code 0 and the table of the first one
+  -- if a rule with the property is to come, the call returns the code 0 and the table of the first such rule
   Rule : (property : Property) (r : LocalRule) → IsQuestion property number states width order begin before → IsFirst property states width (fixed_letters begin) order (IsToCome after states order before) r
       → IsNext number states width order begin after before 0 r.table
 
--- the code and the windows that the call returns, if the buffer had the bytes `before`: only one of these cases fits
+-- the code and the windows that a call returns if the buffer had the bytes `before`: only one of these cases fits
 pub data IsWindowOrder (number states width : ℕ) (before : List ℕ) : ℕ → List ℕ → Type 0 where
-  -- if no rule has this shape, the code of the fault, and the buffer as before
+  -- if no rule has this shape, the call returns the code of the fault and leaves the buffer as it was
   NoShape : (f : RuleFault) → shape_fault states width (pos 0) ≡ Some f → IsWindowOrder number states width before (fault_code (Some f)) before
-  -- if the number stands for no property, the code 10, and the buffer as before
+  -- if the number stands for no property, the call returns the code 10 and leaves the buffer as it was
   NoProperty : shape_fault states width (pos 0) ≡ None → IsNoProperty number → IsWindowOrder number states width before 10 before
-  -- if the buffer doesn't have one byte for each window, the code 5, and the buffer as before
+  -- if the buffer doesn't have one byte for each window, the call returns the code 5 and leaves the buffer as it was
   NoLength : (property : Property) → shape_fault states width (pos 0) ≡ None → number ≡ property_number property → length before ≢ states ^ width → IsWindowOrder number states width before 5 before
-  -- if there is no fault, the code 0 and the order of the windows for the property
+  -- if there is no fault, the call returns the code 0 and the order of the windows for the property
   Order : (property : Property) (order : List ℕ) → shape_fault states width (pos 0) ≡ None → number ≡ property_number property → IsOrderFor property states width order
       → IsWindowOrder number states width before 0 order

@@ -1,4 +1,4 @@
--- The code that a call of the C library returns that asks for the verdicts of rules with consecutive numbers.
+-- The code that the C library returns to a call that asks for the verdicts of rules with consecutive numbers.
 use Rattle.std.specs.Prelude.{ℕ, Option, Some, None}
 use Rattle.rule_text.specs.declared.text_fault.TextFault.{TextFault}
 use Rattle.rule_text.specs.declared.text_fault.TextFault.TheVariants.{Form, States, Width, Nodes, Offset, Length, Letter, Kind, Number}

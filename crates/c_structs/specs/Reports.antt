@@ -1,4 +1,4 @@
--- What a call of the C library returns that asks for a report: the verdicts of a rule with their evidence.
+-- What the C library returns to a call that asks for a report: the verdicts of a rule with their evidence.
 use Rattle.std.specs.Prelude.{◌≡◌, ℕ, ◌<◌, ◌≤◌, min, List, [], ◌∷◌, ◌++◌, length, drop, replicate, Option, Some, None, ℤ, pos}
 use Rattle.word_image.specs.LocalRules.{LocalRule, IsRule}
 use Rattle.word_image.specs.RuleFaults.{rule_fault}
@@ -59,23 +59,23 @@ no_report fault = record {
   reserved = replicate 8 0;
 }
 
--- the struct and the letters for a rule and weights: a report with the letters of its words, or a fault
+-- the struct and the letters that a rule and weights give: a report and the letters of its words, or a fault and no letters
 pub data IsReported (r : LocalRule) (weights : Option (List ℕ)) : RuleReport → List ℕ → Type 0 where
-  -- if the parts make no rule, the fault of the rule, and no letters
+  -- if the parts make no rule, the struct has the fault of the rule, and there are no letters
   NoRule : (f : RuleFault) → rule_fault r.states r.width r.offset r.table ≡ Some f → IsReported r weights (no_report (fault_code (Some f))) []
-  -- if there isn't one weight for each letter, the fault 18, and no letters
+  -- if there isn't one weight for each letter, the struct has the fault 18, and there are no letters
   NoWeights : IsRule r → ¬ AreFor weights r → IsReported r weights (no_report 18) []
-  -- if there is no fault, the report of the right finding, and the letters of its words
+  -- if there is no fault, the struct has the report of the right finding, and the letters are those of its words
   Found : (e : Evidence) (v : RuleReport) → IsRule r → IsFinding (Question.Report r weights) (Finding.Report e) → IsReportOf (letters_in e) e v
       → IsReported r weights v (letters_in e)
 
--- the code, the length, the report and the buffer that the call returns, if the report was `was` and the buffer had the letters `before`
+-- the code, the length, the report and the buffer that a call returns if the report was `was` and the buffer had the letters `before`
 pub data IsReportCall (r : LocalRule) (weights : Option (List ℕ)) (was : RuleReport) (before : List ℕ) : ℕ → ℕ → RuleReport → List ℕ → Type 0 where
-  -- if all letters fit, the code 0, their number, the report, and the letters at the beginning of the buffer
+  -- if the buffer has room for all letters, the call returns the code 0, the number of letters, the report, and the letters at the beginning of the buffer
   Whole : (v : RuleReport) (letters : List ℕ) → IsReported r weights v letters → length letters ≤ length before
       → IsReportCall r weights was before 0 (length letters) v (letters ++ drop (length letters) before)
-  -- if the buffer is too short for the letters, the code 10 and their number, and report and buffer as before
+  -- if the buffer is too short for the letters, the call returns the code 10 and the number of letters, and leaves the report and the buffer as they were
   Short : (v : RuleReport) (letters : List ℕ) → IsReported r weights v letters → length before < length letters
       → IsReportCall r weights was before 10 (length letters) was before
-  -- if there is no memory, the code 8, and report and buffer as before
+  -- if there is no memory, the call returns the code 8, and leaves the report and the buffer as they were
   Memory : IsReportCall r weights was before 8 0 was before

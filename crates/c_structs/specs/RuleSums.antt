@@ -1,4 +1,4 @@
--- What calls of the C library return that ask which sums of weights a rule keeps, or for the flux of such a sum.
+-- What the C library returns to a call that asks which sums of weights a rule keeps, or for the flux of such a sum.
 use Rattle.std.specs.Prelude.{◌≡◌, ℕ, List, Option, Some, None, ℤ, pos}
 use Rattle.word_image.specs.RuleFaults.{rule_fault}
 use Rattle.word_image.specs.declared.local_rule.RuleFault.{RuleFault}
@@ -26,18 +26,18 @@ first_code (Some fault) range = fault_code (Some fault)
 abbrev pub sums_code : ℕ → ℕ → List ℕ → ℕ → ℕ
 sums_code states width table range = first_code (rule_fault states width (pos 0) table) (range_fault states range)
 
--- the code and the numbers that a call for the flux of weights returns, if the numbers were `before`: only one of these cases fits
+-- the code and the numbers that a call for the flux of weights returns if the numbers were `before`: only one of these cases fits
 pub data IsFluxCall (states width : ℕ) (table : List ℕ) (range : ℕ) (weights before : List ℤ) : ℕ → List ℤ → Type 0 where
-  -- if the parts make no rule, the code of the fault, and the numbers as before
+  -- if the parts make no rule, the call returns the code of the fault and leaves the numbers as they were
   NoRule : (f : RuleFault) → rule_fault states width (pos 0) table ≡ Some f → IsFluxCall states width table range weights before (fault_code (Some f)) before
-  -- if words of `range` letters have no letter or are too many, the code of this fault, and the numbers as before
+  -- if words of `range` letters have no letter or are too many, the call returns the code of this fault and leaves the numbers as they were
   NoRange : (f : RangeFault) → rule_fault states width (pos 0) table ≡ None → range_fault states range ≡ Some f
       → IsFluxCall states width table range weights before (range_code (Some f)) before
-  -- if a weight isn't from -2^56 to 2^56, the code 16, and the numbers as before
+  -- if a weight isn't from -2^56 to 2^56, the call returns the code 16 and leaves the numbers as they were
   Great : rule_fault states width (pos 0) table ≡ None → range_fault states range ≡ None → ¬ IsSmall weights → IsFluxCall states width table range weights before 16 before
-  -- if the rule doesn't keep the sum of the weights, the code 17, and the numbers as before
+  -- if the rule doesn't keep the sum of the weights, the call returns the code 17 and leaves the numbers as they were
   Lost : rule_fault states width (pos 0) table ≡ None → range_fault states range ≡ None → IsSmall weights → ¬ IsKept range (at weights) (rule_of_table states width table)
       → IsFluxCall states width table range weights before 17 before
-  -- if the rule keeps the sum of the weights, the code 0 and the numbers of the flux
+  -- if the rule keeps the sum of the weights, the call returns the code 0 and the numbers of the flux
   Found : (numbers : List ℤ) → rule_fault states width (pos 0) table ≡ None → range_fault states range ≡ None → IsSmall weights
       → IsFluxList range (at weights) (rule_of_table states width table) numbers → IsFluxCall states width table range weights before 0 numbers

@@ -1,4 +1,4 @@
--- What a call of the C library returns that asks for the verdicts of a rule.
+-- What the C library returns to a call that asks for the verdicts of a rule.
 use Rattle.std.specs.Prelude.{◌≡◌, ℕ, false, Option, Some, None}
 use Rattle.word_image.specs.declared.local_rule.RuleFault.{RuleFault}
 use Rattle.word_image.specs.declared.local_rule.RuleFault.TheVariants.{States, Width, Nodes, Offset, Length, Letter}

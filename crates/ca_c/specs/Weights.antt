@@ -1,4 +1,4 @@
--- The weights of words that a call of the C interface reads.
+-- The weights of words that a call of the C interface gives.
 use Rattle.std.specs.Prelude.{ℕ, ◌-◌, List, ◌++◌, take, replicate, ℤ, pos}
 
 -- the first `count` of 16 weights, followed by zeros up to 16 numbers

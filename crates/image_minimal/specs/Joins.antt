@@ -22,7 +22,7 @@ pub record IsHalved (old new : List ℕ) : Type 0 where
   pub roots : (x : ℕ) → x < length old → slice_index old x ≡ x → slice_index new x ≡ x
   pub no_more : total new ≤ total old
 
--- the path from a number is halved up to the number `at`, which is of the same class and isn't greater
+-- on the way from `number` to the root of its class, the search has come to the number `at`, which is of the same class and isn't greater; the new parents have the same classes as the old ones
 pub record IsOnWay (old new : List ℕ) (number at : ℕ) : Type 0 where
   pub halved : IsHalved old new
   pub within : at ≤ number

@@ -43,7 +43,7 @@ pub record Said : Type 0 where
   pub entries : Entries
   pub place : ℕ
 
--- the meaning of a shape, an offset and a number, without a text
+-- the meaning that a text with k states, width m, offset o and the number n would have, if its entries began at place 0
 abbrev pub by_number : ℕ → ℕ → ℤ → ℕ → Said
 by_number k m o n = record { states = k; width = m; offset = o; entries = Entries.Number n; place = 0 }
 
@@ -107,7 +107,7 @@ pub record IsRuleText (text : List ℕ) (r : LocalRule) : Type 0 where
   pub accepted : fault_of said ≡ None
   pub rule : r ≡ rule_of said
 
--- the first fault of the text
+-- the first fault of a text that should be the text of a rule: the text isn't in the grammar, or its meaning has a fault
 pub data IsTextFault (text : List ℕ) : TextFault → Type 0 where
   NoForm : (place : ℕ) → IsFormFault IsSaid text place → IsTextFault text (fault.Form place)
   Refused : (said : Said) (f : TextFault) → Says text said → fault_of said ≡ Some f → IsTextFault text f
