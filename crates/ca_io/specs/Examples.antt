@@ -1,4 +1,4 @@
--- Worked examples of a sink and a source in memory, which the check computes.
+-- Worked examples of a sink and a source in memory, which the prover computes.
 use Rattle.std.specs.Prelude.{◌≡◌, refl, true, false, [], ◌∷◌, codes}
 use Rattle.ca_io.specs.Faults.{count_up}
 use Rattle.ca_io.specs.Trays.{Tray, empty_tray, after_taking, after_fault}

@@ -1,4 +1,4 @@
--- Steps of pairs and parts of nodes on a side of the line, by their numbers.
+-- Steps from pair to pair of nodes, and nodes without one letter, on a side of the line. Pairs and nodes are given by their numbers.
 use Rattle.std.specs.Prelude.{◌≡◌, ℕ, List, Option, Some, ◌-◌, ◌/◌, ◌%◌, ◌^◌}
 use Rattle.word_image.specs.LocalRules.{LocalRule}
 use Rattle.word_image.specs.Graphs.{follow_on}

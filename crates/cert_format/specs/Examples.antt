@@ -1,4 +1,4 @@
--- The texts of six certificates, worked by hand, which the check computes.
+-- The texts of six certificates, worked by hand, which the prover computes.
 use Rattle.std.specs.Prelude.{◌≡◌, ℕ, ℤ, List, [], ◌∷◌, codes, refl, pos, negsuc, Option, Some, None}
 use Rattle.std.specs.Fmt.{digits}
 use Rattle.serde_json.proofs.OnLiterals.{serde_json_on_literals}

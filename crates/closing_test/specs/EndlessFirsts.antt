@@ -1,4 +1,4 @@
--- First pairs that are endless: two walks with equal labels and of any length go on from their nodes.
+-- First pairs that are endless: two walks with equal labels and of any length begin at their nodes on the right, or end at their nodes on the left.
 use Rattle.std.specs.Prelude.{ℕ, ◌<◌}
 use Rattle.word_image.specs.LocalRules.{LocalRule}
 use Rattle.word_image.specs.Ranks.{IsEndless}

@@ -1,4 +1,4 @@
--- A rule for which a configuration determines the letters of its preimages only from far away, and examples of the definitions, worked by hand, which the check computes.
+-- A rule for which a configuration determines the letters of its preimages only from far away, and examples of the definitions, worked by hand, which the prover computes.
 use Rattle.std.specs.Prelude.{◌≡◌, ℕ, [], ◌∷◌, ◌==◌, if◌then◌else◌, pos, negsuc, refl}
 use Rattle.std.specs.List.{repeat}
 use Rattle.word_image.specs.LocalRules.{LocalRule}

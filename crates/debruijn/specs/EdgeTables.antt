@@ -1,4 +1,4 @@
--- The rows of edges form one table, so the rule determines them.
+-- The edges of a rule as a table, with a row for each label and a set in it for each node. The rule determines this table.
 use Rattle.std.proofs.Common.{◌≡◌, ℕ, zero, suc, ◌+◌, ◌*◌, ◌/◌, ◌%◌, ◌^◌, ◌<◌, ◌≤◌, List, [], length, replicate, slice_index_or, refl, sym, ◌∙◌, subst, arith, ⊎_elim, mod-lt}
 use Rattle.std.proofs.lemmas.Bool.{cases_lt}
 use Rattle.std.proofs.lemmas.Grind.{same_number_lists}

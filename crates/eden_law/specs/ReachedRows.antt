@@ -22,7 +22,7 @@ pub record LeadsBeside (r : LocalRule) (node set a v : ℕ) : Type 0 where
   pub one_label : label r node a ≡ label r other b
   pub leads : next r other b ≡ v
 
--- the rows are 16 sets of nodes, one for each node
+-- there are 16 rows, and the row of each node is a set of nodes
 pub record AreNodeRows (r : LocalRule) (rows : List ℕ) : Type 0 where
   pub long : length rows ≡ most_nodes
   pub within : AreSets r rows

@@ -1,4 +1,4 @@
--- Searches through sets of nodes in which some edges have been followed.
+-- Searches through sets of nodes in which some edges have been followed. A set is unread if it consists of the nodes from which some word isn't read. The closure of a set is the intersection of the unread sets that contain it, and a closed step leads to the closure of the set that a step reaches.
 use Rattle.std.specs.Prelude.{◌≡◌, ℕ, ◌+◌, ◌*◌, ◌^◌, ◌<◌, ◌≤◌, ◌↔◌, List, length, slice_get, slice_index, Some, Contains}
 use Rattle.word_image.specs.LocalRules.{LocalRule, IsRule, node_count}
 use Rattle.word_image.specs.Graphs.{full_set}
@@ -8,7 +8,7 @@ use Rattle.image_minimal.specs.ImageLanguages.{Automaton, IsLeastAutomaton}
 use Rattle.image_minimal.specs.Closures.{IsUnreadSet, IsClosedStep, AreClosures}
 use Rattle.image_minimal.specs.Indexes.{IsPlaceOf}
 
--- the list has exactly the unread sets
+-- the list has exactly the unread sets of the rule
 abbrev pub AreUnreadSets : LocalRule → List ℕ → Type 0
 AreUnreadSets r sets = (set : ℕ) → Contains sets set ↔ IsUnreadSet r set
 

@@ -33,7 +33,7 @@ pub record AreListed (sets : List ℕ) (n : ℕ) (rows : List ℕ) : Type 0 wher
 abbrev pub AreAbove : List ℕ → ℕ → List ℕ → Type 0
 AreAbove sets n rows = (x : ℕ) → x < 2 ^ n → (IsSetMarked rows x ↔ ((i : ℕ) × (i < length sets) × IsPart (slice_index sets i) x))
 
--- among the sets of n nodes, exactly those are marked that contain a different set of the list
+-- among the sets of n nodes, exactly those are marked that contain a set of the list other than themselves
 abbrev pub AreBeyond : List ℕ → ℕ → List ℕ → Type 0
 AreBeyond sets n rows = (x : ℕ) → x < 2 ^ n → (IsSetMarked rows x ↔ ((i : ℕ) × (i < length sets) × (slice_index sets i ≢ x) × IsPart (slice_index sets i) x))
 
@@ -56,7 +56,7 @@ AreMarksTo sets n u rows = (x : ℕ) → x < 2 ^ n → (IsSetMarked rows x ↔ C
 abbrev pub IsMinimal : List ℕ → ℕ → Type 0
 IsMinimal sets i = (j : ℕ) → j < length sets → j ≢ i → ¬ IsPart (slice_index sets j) (slice_index sets i)
 
--- the sets of the list are all different, and the marked sets are those that contain a different set of the list
+-- the sets of the list are all different, and the marked sets are those that contain a set of the list other than themselves
 pub record AreCovers (sets rows : List ℕ) : Type 0 where
   pub nodes : ℕ
   pub few : nodes ≤ most_nodes

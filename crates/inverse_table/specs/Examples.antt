@@ -1,4 +1,4 @@
--- Worked examples: maps as rules and their images of words, worked by hand, which the check computes.
+-- Worked examples: maps as rules and their images of words, worked by hand, which the prover computes.
 use Rattle.std.specs.Prelude.{◌≡◌, [], ◌∷◌, refl, pos, negsuc, Some, None}
 use Rattle.word_image.specs.declared.local_rule.RuleFault.TheVariants.{Width, Offset}
 use Rattle.tail_config.specs.InverseMaps.{WindowMap}

@@ -1,4 +1,4 @@
--- The lines of the output.
+-- The lines of the list that the program writes, and of the other outputs.
 use Rattle.std.specs.Prelude.{◌≡◌, ℕ, ◌-◌, ◌^◌, List, [], ◌∷◌, ◌++◌, length, min, codes}
 use Rattle.std.specs.Fmt.{decimal}
 use Rattle.word_image.specs.LocalRules.{LocalRule}

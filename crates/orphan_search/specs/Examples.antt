@@ -1,4 +1,4 @@
--- The cover list of a family, worked by hand, which the check computes.
+-- The cover list of a family, worked by hand, which the prover computes.
 use Rattle.std.specs.Prelude.{◌≡◌, [], ◌∷◌, refl}
 use Rattle.word_image.specs.Families.{covers_of}
 

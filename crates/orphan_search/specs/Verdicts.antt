@@ -13,7 +13,7 @@ pub record Found : Type 0 where
   pub sets : List ℕ
   pub cover : List ℕ
 
--- the search has no results yet: all lists are empty
+-- there are no results: all lists are empty
 abbrev pub IsNothing : Found → Type 0
 IsNothing found = (found.word ≡ []) × (found.sets ≡ []) × (found.cover ≡ [])
 

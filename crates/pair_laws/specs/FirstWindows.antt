@@ -1,4 +1,4 @@
--- Windows that differ only in the letter at their end on a side, and first pairs from which walks go on for ever.
+-- Windows that differ only in the letter at their end on a side, and first pairs that are endless: walks with equal labels from their nodes, or to them, have any length.
 use Rattle.std.specs.Prelude.{◌≡◌, ◌≢◌, ℕ, ◌^◌, ◌<◌, slice_index}
 use Rattle.word_image.specs.LocalRules.{LocalRule}
 use Rattle.word_image.specs.Graphs.{pair_of}
@@ -23,6 +23,6 @@ pub record AreFirst (side : Side) (r : LocalRule) (w a : ℕ) : Type 0 where
 abbrev pub end_pair : Side → LocalRule → ℕ → ℕ → ℕ
 end_pair side r w a = pair_of r (end_node side r w) (end_node side r (with_end side r w a))
 
--- two walks with equal labels and of any length go on from the nodes of some first pair
+-- some first pair of this side is endless: two walks with equal labels and of any length begin at its nodes on the right, or end at its nodes on the left
 abbrev pub HasEndlessFirst : Side → LocalRule → Type 0
 HasEndlessFirst side r = (p : ℕ) × IsFirstOf side r p × IsEndless (PairGoes side r p)

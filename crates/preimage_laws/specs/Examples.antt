@@ -1,4 +1,4 @@
--- The preimages of two configurations, worked by hand. The check computes a part of them.
+-- The preimages of two configurations, worked by hand. The prover computes a part of them.
 use Rattle.std.specs.Prelude.{◌≡◌, ℕ, [], ◌∷◌, slice_index, ◌%◌, pos, negsuc, refl}
 use Rattle.word_image.specs.LocalRules.{LocalRule}
 use Rattle.tail_config.specs.Configs.{Config, zeros, run, image_of}

@@ -1,4 +1,4 @@
--- The first condition that is broken when a rule is made of rules.
+-- The first reason why a rule can't be made of another rule or of two other rules.
 use Rattle.std.specs.Prelude.{ℕ, ◌+◌, ◌-◌, ◌^◌, Option, Some, None, nat_lt, ◌==◌, ◌||◌, not, if◌then◌else◌, ℤ, pos, negsuc, ◌+ℤ◌, int_lt}
 use Rattle.word_image.specs.LocalRules.{LocalRule, most_width, most_nodes}
 use Rattle.rule_algebra.specs.declared.fault.AlgebraFault.{AlgebraFault}

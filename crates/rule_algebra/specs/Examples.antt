@@ -1,4 +1,4 @@
--- Worked examples of rules that are made of rules, which the check computes.
+-- Worked examples of rules that are made of rules, which the prover computes.
 use Rattle.std.specs.Prelude.{◌≡◌, refl, Some, None, ◌∷◌, [], pos, negsuc}
 use Rattle.word_image.specs.LocalRules.{LocalRule}
 use Rattle.word_image.specs.Words.{image}

@@ -1,4 +1,4 @@
--- The words for the faults of made rules.
+-- The words for the faults of rules that are made of other rules.
 use Rattle.std.specs.Prelude.{ℕ, List, codes}
 use Rattle.rule_algebra.specs.declared.fault.AlgebraFault.{AlgebraFault}
 use Rattle.rule_algebra.specs.declared.fault.AlgebraFault.TheVariants as algebra

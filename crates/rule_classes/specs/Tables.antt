@@ -1,4 +1,4 @@
--- Tables that are filled window by window.
+-- The tables of the search for the least rule of a class, which are filled window by window. The old value of a window is the value of the window that the old rule reads instead.
 use Rattle.std.specs.Prelude.{◌≡◌, ℕ, ◌+◌, ◌*◌, ◌^◌, ◌<◌, ◌≤◌, List, length, slice_index}
 use Rattle.word_image.specs.LocalRules.{LocalRule, most_windows}
 use Rattle.rule_classes.specs.Colourings.{entry, old_value}

@@ -10,7 +10,7 @@ IsTable k size table = (v : ℕ) → v < size → slice_index table v < k
 abbrev pub HasLetters : ℕ → ℕ → List ℕ → List ℕ → Type 0
 HasLetters k size letters table = (v : ℕ) → v < size → slice_index letters v < k → slice_index table v ≡ slice_index letters v
 
--- the letters of t at the first n windows have at least the rank of the table's letters there; without a number n, no t is to come
+-- t is still to come: the letters of t at the first n windows have at least the rank of the letters of the table there; if there is no n, no t is still to come
 abbrev pub IsPast : ℕ → List ℕ → List ℕ → Option ℕ → List ℕ → Type 0
 IsPast k order table None t = ⊥
 IsPast k order table (Some n) t = rank_of_first k order table n ≤ rank_of_first k order t n

@@ -1,4 +1,4 @@
--- Texts and their meanings, which the check computes.
+-- Texts and their meanings, which the prover computes.
 use Rattle.std.specs.Prelude.{◌≡◌, refl, [], ◌∷◌, pos, negsuc, Some, None, map, codes}
 use Rattle.std.specs.Fmt.{digits}
 use Rattle.rule_text.specs.declared.text_fault.TextFault.TheVariants as fault

@@ -35,7 +35,7 @@ pub data Entries : Type 0 where
   Table : (letters : List ℕ) → Entries
   Number : (number : ℕ) → Entries
 
--- the meaning of a text of the grammar, accepted or not; its entries begin at place
+-- the meaning of a text of the grammar, accepted or not; its entries begin at the place `place` of the text
 pub record Said : Type 0 where
   pub states : ℕ
   pub width : ℕ
@@ -65,7 +65,7 @@ pub data Says : List ℕ → Said → Type 0 where
 abbrev pub IsSaid : List ℕ → Type 0
 IsSaid text = (said : Said) × Says text said
 
--- the fault of a text for the fault of its rule; the table begins at this place of the text
+-- the fault of a text whose rule has this fault, if the table begins at this place of the text
 abbrev pub in_text : ℕ → RuleFault → TextFault
 in_text place limit.States = fault.States
 in_text place limit.Width = fault.Width

@@ -33,7 +33,7 @@ pub record IsLeastWalkTo (follow : ℕ → ℕ → ℕ → Option ℕ) (k start 
 abbrev pub uncode : ℕ → ℕ → ℕ × ℕ
 uncode n c = (c / n, c % n)
 
--- a step on the pair of letters with the number c, which are both below k
+-- a step from the state s to the state t on the letters c / n and c % n, which are both below k
 pub record CodeStep (follow : ℕ → ℕ → ℕ → Option ℕ) (k n s c t : ℕ) : Type 0 where
   pub first : c / n < k
   pub second : c % n < k

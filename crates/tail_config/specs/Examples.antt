@@ -1,4 +1,4 @@
--- Worked examples: cells, image cells, mirrors, texts and faults done by hand, which the check computes.
+-- Worked examples: cells, image cells, mirrors, texts and faults done by hand, which the prover computes.
 use Rattle.std.specs.Prelude.{◌≡◌, ℕ, List, [], ◌∷◌, map, codes, replicate, refl, pos, negsuc, ◌+ℤ◌, ℤ, ◌==◌, if◌then◌else◌, Some, None}
 use Rattle.std.specs.List.{range_with_len}
 use Rattle.word_image.specs.LocalRules.{LocalRule}
@@ -91,7 +91,7 @@ printed-a = refl
 mirror_of-row : mirror_of (config_of (0 ∷ []) (1 ∷ 0 ∷ 0 ∷ []) (1 ∷ [])) ≡ config_of (1 ∷ []) (0 ∷ 0 ∷ 1 ∷ []) (0 ∷ [])
 mirror_of-row = refl
 
--- First faults: |0|1 has an empty period, 0|2|1 has a number that isn't a letter, and the third has a middle of 1,025 letters, which is found before its wrong letter; a middle of 1,024 letters is no fault
+-- First faults: |0|1 has an empty period, 0|2|1 has a number that isn't a letter, and the third has a middle of 1,025 letters, which counts before the wrong letter in its left period; a middle of 1,024 letters is no fault
 
 tail_fault-empty : tail_fault 2 (config_of [] (0 ∷ []) (1 ∷ [])) ≡ Some fault.LeftEmpty
 tail_fault-empty = refl

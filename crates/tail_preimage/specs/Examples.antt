@@ -1,4 +1,4 @@
--- Worked examples: cells of placed configurations, words of periods and shapes done by hand, which the check computes.
+-- Worked examples: cells of placed configurations, words of periods and shapes done by hand, which the prover computes.
 use Rattle.std.specs.Prelude.{◌≡◌, [], ◌∷◌, refl, negsuc}
 use Rattle.std.specs.declared.cmp.Ordering.TheVariants.{Less, Greater}
 use Rattle.tail_config.specs.Tails.{TailConfig}

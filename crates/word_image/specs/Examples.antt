@@ -1,4 +1,4 @@
--- Worked examples: rules, numbers, words, images, rings and pairs done by hand, which the check computes. Examples that need a proof, such as twins and windows, are in proofs/Examples.antt.
+-- Worked examples: rules, numbers, words, images, rings and pairs done by hand, which the prover computes. Examples that need a proof, such as twins and windows, are in proofs/Examples.antt.
 use Rattle.std.specs.Prelude.{◌≡◌, true, false, [], ◌∷◌, length, map, sum_by, codes, refl, pos, negsuc, Some, None}
 use Rattle.std.specs.List.{range_with_len, zip}
 use Rattle.std.specs.declared.cmp.Ordering.TheVariants.{Less, Equal, Greater}

@@ -26,7 +26,7 @@ IsNodeSet r = IsSetOf (node_count r)
 abbrev pub HasBit : List ℕ → ℕ → ℕ → Type 0
 HasBit rows u v = IsBitSet (slice_index rows u) v
 
--- each row is a set of nodes
+-- the row of each node is a set of nodes
 abbrev pub AreSets : LocalRule → List ℕ → Type 0
 AreSets r rows = (u : ℕ) → u < node_count r → slice_index rows u < 2 ^ node_count r
 
