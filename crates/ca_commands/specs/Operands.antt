@@ -1,4 +1,4 @@
--- The texts of operands of commands.
+-- The forms of the texts that commands have as operands.
 use Rattle.std.specs.Prelude.{ℕ, ◌^◌, ◌<◌, ◌≤◌, List, length, All}
 use Rattle.word_image.specs.Digits.{IsHexDigit}
 use Rattle.rule_text.specs.RuleTexts.{IsDecimal, decimal_value}

@@ -1,4 +1,4 @@
--- Questions as values: rules, weights, numbers and configurations, without texts.
+-- The questions that commands ask, as values: they have rules, weights, numbers and configurations instead of texts.
 use Rattle.std.specs.Prelude.{ℕ, List, Option, ℤ, All}
 use Rattle.word_image.specs.LocalRules.{LocalRule, IsRule}
 use Rattle.tail_config.specs.Tails.{TailConfig}

@@ -1,4 +1,4 @@
--- The values of the definitions for which the values of the code stand, and the possible answers to a question.
+-- The findings, causes and replies for which values of the code stand, and the right answers to a question.
 use Rattle.std.specs.Prelude.{ℕ, List, Option, Some, None, Result, MatchResult, ⊤}
 use Rattle.certificate_laws.specs.ReportValues.{evidence_of}
 use Rattle.image_minimal.specs.ImageLanguages as languages

@@ -1,4 +1,4 @@
--- The lines of findings, except reports.
+-- The lines that the program prints for findings, except for reports.
 use Rattle.std.specs.Prelude.{ℕ, ◌+◌, ◌-◌, ◌*◌, List, ◌++◌, codes, slice_index, Option, None, Some}
 use Rattle.std.specs.List.{flat_map, range_with_len}
 use Rattle.std.specs.Fmt.{decimal}

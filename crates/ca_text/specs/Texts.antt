@@ -1,4 +1,4 @@
--- The texts of findings, and of causes why nothing fits.
+-- The texts that the program prints for findings, and the words for the causes why nothing fits a question.
 use Rattle.std.specs.Prelude.{ℕ, List, ◌++◌, codes, Option, None, Some}
 use Rattle.std.specs.Fmt.{decimal}
 use Rattle.word_image.specs.Digits.{word_text}

@@ -1,4 +1,4 @@
--- The bytes that the judge accepts, and the meaning of their verdicts.
+-- The bytes that the judge accepts, and what their verdicts mean. The judge is the part of the program that checks certificates.
 use Rattle.std.specs.Prelude.{◌≡◌, ℕ, ◌↔◌, Bool, ◌&&◌, IsTrue, List, slice_index}
 use Rattle.word_image.specs.Words.{IsSurjective}
 use Rattle.word_image.specs.Rings.{IsConserving}

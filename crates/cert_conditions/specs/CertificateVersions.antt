@@ -1,4 +1,4 @@
--- A certificate with another version.
+-- The same certificate in another version.
 use Rattle.cert_values.specs.declared.cert_version.CertVersion.{CertVersion}
 use Rattle.cert_values.specs.Certificates.{Certificate}
 

@@ -1,4 +1,4 @@
--- The conditions on a certificate, which make each of its verdicts true.
+-- The conditions on a certificate. If a certificate meets all conditions, each of its verdicts is true.
 use Rattle.std.specs.Prelude.{◌≡◌, ◌≢◌, ℕ, ◌^◌, ◌≤◌, List, [], ◌∷◌, length, slice_index, Contains, ℤ, ⊤}
 use Rattle.word_image.specs.LocalRules.{word_of}
 use Rattle.word_image.specs.Rings.{ring_image}

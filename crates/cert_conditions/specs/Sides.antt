@@ -1,4 +1,4 @@
--- The parts of a certificate for a side of the line, right or left.
+-- The parts of a certificate that belong to a side of the line, right or left.
 use Rattle.std.specs.Prelude.{ℕ, List, Option}
 use Rattle.tail_config.specs.Tails.{TailConfig, AgreeLeft, AgreeRight}
 use Rattle.cert_values.specs.Evidence.{SideEvidence}

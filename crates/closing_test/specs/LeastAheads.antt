@@ -1,4 +1,4 @@
--- The least look-ahead in terms of the first pairs of a side.
+-- The least look-ahead of a rule that is closing on a side, in terms of the ranks of the first pairs of this side.
 use Rattle.std.specs.Prelude.{◌≡◌, ℕ, ◌+◌, ◌-◌, ◌≤◌}
 use Rattle.word_image.specs.LocalRules.{LocalRule}
 use Rattle.word_image.specs.declared.side.Side.{Side}

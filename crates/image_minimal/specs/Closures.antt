@@ -1,4 +1,4 @@
--- The words that are read along edges from the nodes of a set, and the greatest set from which no other words are read.
+-- The words that are read along edges from the nodes of a set, and the greatest set from which no other words are read. A word is read from a node if its letters are the labels of successive edges from this node.
 use Rattle.std.specs.Prelude.{◌≡◌, ℕ, ◌^◌, ◌<◌, ◌≤◌, List, length, slice_index, IsBitSet}
 use Rattle.word_image.specs.LocalRules.{LocalRule, node_count}
 use Rattle.word_image.specs.Graphs.{IsNodeSet}

@@ -1,4 +1,4 @@
--- Pairs of sets that the same word reaches under two rules, linked (Hopcroft and Karp 1971).
+-- Links for the test whether two rules have the same orphans (Hopcroft and Karp 1971). A link is a pair of sets of nodes that the same word reaches, the first set under the first rule and the second set under the second rule.
 use Rattle.std.specs.Prelude.{◌≡◌, ℕ, ◌+◌, ◌≤◌, ◌^◌, List, length, map, slice_get, Some, Bool, nat_eq}
 use Rattle.std.specs.List.{range_with_len}
 use Rattle.search_laws.specs.SearchQueues.{Place, TreeSpells, IsFilled, filled}

@@ -1,4 +1,4 @@
--- The family of a rule, which are its sets of last nodes, and for each set the step by which it is reached first.
+-- The family of a rule is the list of its sets of last nodes of preimages. A tree has also, for each set of the family, the step by which the set is reached first.
 use Rattle.std.specs.Prelude.{◌≡◌, ℕ, ◌<◌, ◌≤◌, List, length, slice_index, slice_get, Option, Some, MatchOption}
 use Rattle.word_image.specs.LocalRules.{LocalRule, IsRule, most_sets}
 use Rattle.word_image.specs.Graphs.{full_set}

@@ -1,4 +1,4 @@
--- A list of different sets of at most 16 nodes, with a mark on each.
+-- A list of different sets of at most 16 nodes, and rows of marks, which mark the sets of the list.
 use Rattle.std.specs.Prelude.{◌≡◌, ◌≢◌, ◌↔◌, AllPairs, ℕ, ◌<◌, List, [], ◌∷◌, ◌++◌, length, slice_index, Contains, Bool, true, false}
 use Rattle.word_image.specs.LocalRules.{most_sets}
 use Rattle.image_subsets.specs.Marks.{IsSetMarked}

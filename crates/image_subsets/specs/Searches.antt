@@ -1,4 +1,4 @@
--- A search through the sets in which some edges of the subset automaton have been followed.
+-- A search through the sets of nodes that words reach from the set of all nodes, in which some edges have been followed. An edge is the step from a set on a letter.
 use Rattle.std.specs.Prelude.{◌≡◌, ℕ, ◌-◌, ◌<◌, List, length, slice_get, Option, Some, MatchOption, Contains, Bool, true, false}
 use Rattle.word_image.specs.LocalRules.{LocalRule}
 use Rattle.word_image.specs.Graphs.{full_set}

@@ -1,4 +1,4 @@
--- The least rule found so far, with its table.
+-- The least rule that a search has found so far, with its table.
 use Rattle.std.specs.Prelude.{◌≡◌}
 use Rattle.word_image.specs.LocalRules.{LocalRule}
 use Rattle.word_image.specs.Storage.{padded}

@@ -1,4 +1,4 @@
--- Verdicts that rules of the same class share.
+-- The verdicts that rules of the same class share.
 use Rattle.std.specs.Prelude.{◌↔◌, Bool, IsTrue, IsFalse}
 use Rattle.word_image.specs.LocalRules.{LocalRule}
 use Rattle.word_image.specs.Words.{IsSurjective}

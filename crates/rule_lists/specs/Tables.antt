@@ -1,4 +1,4 @@
--- Tables whose letters at the first windows of an order are known.
+-- Tables whose letters at the first windows of an order are known. A search goes through them by ascending rank.
 use Rattle.std.specs.Prelude.{◌≡◌, ℕ, ◌-◌, ◌*◌, ◌^◌, ◌<◌, ◌≤◌, ◌⊎◌, List, slice_index, Option, Some, None}
 use Rattle.rule_lists.specs.Ranks.{rank_of_first}
 

@@ -1,4 +1,4 @@
--- Walks by pairs of letters, and the least of them.
+-- Walks from state to state by pairs of letters, and the least of these walks. The function `follow` gives the state that two letters reach from a state, if they reach one.
 use Rattle.std.specs.Prelude.{◌≡◌, ◌≢◌, ℕ, ◌/◌, ◌%◌, ◌<◌, List, length, Option, Some}
 use Rattle.std.specs.List.{All}
 use Rattle.std.specs.declared.cmp.Ordering.TheVariants.{Greater}

@@ -1,4 +1,4 @@
--- Normal right splits as two walks in the marked graph: one spells the middles, the other the right periods.
+-- Normal right splits as two walks in the marked graph: one spells the middles, the other the right periods. A state of the marked graph is a pair of nodes, with or without a mark.
 use Rattle.std.specs.Prelude.{◌≢◌, ℕ, ◌+◌, ◌%◌, ◌<◌, List, [], ◌∷◌, length, map}
 use Rattle.std.specs.declared.cmp.Ordering.TheVariants.{Greater}
 use Rattle.word_image.specs.LocalRules.{LocalRule}

@@ -1,4 +1,4 @@
--- The parts of a configuration as relations: the shapes that are possible, and the numbers of periods that have no walk.
+-- The parts of a configuration as relations between nodes: a part relates two nodes if a walk whose labels spell the part leads from one to the other. Also the shapes of walks that are possible, and the numbers of periods that have no walk.
 use Rattle.std.specs.Prelude.{◌≢◌, ℕ, ◌<◌, ◌≤◌, [], get_or}
 use Rattle.std.specs.declared.cmp.Ordering.TheVariants.{Greater}
 use Rattle.word_image.specs.LocalRules.{LocalRule, IsRule, node_count, most_nodes}
