@@ -35,18 +35,18 @@ tail_letters t = t.left ++ t.middle ++ t.right
 abbrev pub split_letters : TailConfig → TailConfig → List ℕ
 split_letters x y = tail_letters x ++ tail_letters y
 
--- the row that stands for no word
+-- the row that is stored if there is no word
 abbrev pub no_row : LetterRow
 no_row = record { begin = 0; length = 0 }
 
--- the two rows that stand for no words
+-- the two rows that are stored if there are no twins
 abbrev pub no_twins : TwinRows
 no_twins = record { x = no_row; y = no_row }
 
--- the rows that stand for no configuration
+-- the three rows that are stored if there is no configuration
 abbrev pub no_tail : TailRows
 no_tail = record { left = no_row; middle = no_row; right = no_row }
 
--- the rows that stand for no two configurations
+-- the rows that are stored if there is no split
 abbrev pub no_split : SplitRows
 no_split = record { x = no_tail; y = no_tail }

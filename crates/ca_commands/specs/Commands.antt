@@ -83,13 +83,13 @@ IsOperand Form.Colours text = AreColours text
 IsOperand Form.Tail text = HasForm text
 IsOperand _ text = ⊥
 
--- the text says where many rules begin: it is a number of up to 39 digits, or a seed
+-- the text says at which number or with which seed many rules begin: it is a number of up to 39 digits, or a seed
 abbrev pub IsBeginning : Form → List ℕ → Type 0
 IsBeginning Form.Numbers text = IsDecimal 1 39 text
 IsBeginning Form.Seed text = IsSeed text
 IsBeginning _ text = ⊥
 
--- the operands that follow the rules have this form: there are none, or one, or four, which are the states, the width, where many rules begin and how many there are
+-- the operands that follow the rules have this form: there are none, or one, or four, which are the states, the width, the first number or the seed, and how many rules there are
 abbrev pub AreOperands : Form → List (List ℕ) → Type 0
 AreOperands f [] = MayBeNone f
 AreOperands f (text ∷ []) = IsOperand f text

@@ -13,7 +13,7 @@ FirstIsListed r pairs p = IsFirstOfRight r p → Contains pairs p
 abbrev pub StepIsListed : LocalRule → List ℕ → ℕ → ℕ → ℕ → Type 0
 StepIsListed r pairs p a b = (q : ℕ) → follow r p a b ≡ Some q → Contains pairs q
 
--- each pair that a step reaches from pair p is listed
+-- each pair that a step reaches from the pair p is listed
 abbrev pub StepsAreListed : LocalRule → List ℕ → ℕ → Type 0
 StepsAreListed r pairs p = EachBelow r.states (λ a. EachBelow r.states (StepIsListed r pairs p a))
 

@@ -62,11 +62,11 @@ pub record Parts : Type 0 where
 abbrev pub with : List ℕ → RefusalNumbers → Parts
 with cause ns = record { cause = cause; side = None; because = None; key = None; fault = None; numbers = ns }
 
--- the same parts of a refusal with this side
+-- the given parts of a refusal with this side in addition
 abbrev pub on : Side → Parts → Parts
 on s p = record { cause = p.cause; side = Some (side_text s); because = p.because; key = p.key; fault = p.fault; numbers = p.numbers }
 
--- the same parts of a refusal with this reason
+-- the given parts of a refusal with this reason in addition
 abbrev pub because : List ℕ → Parts → Parts
 because why p = record { cause = p.cause; side = p.side; because = Some why; key = p.key; fault = p.fault; numbers = p.numbers }
 
@@ -82,7 +82,7 @@ of_shape (shape.Version v) = because (codes "version") (with (codes "format") (n
 of_shape (shape.Shape k) = record { cause = codes "format"; side = None; because = Some (codes "shape"); key = Some (key_text k); fault = None; numbers = numbers.None }
 of_shape (shape.Rule f) = record { cause = codes "format"; side = None; because = Some (codes "rule"); key = None; fault = Some (fault_name f); numbers = place_number (fault_place f) }
 
--- the parts of a refusal; a lack of memory isn't a refusal
+-- the parts of a refusal; a lack of memory, which isn't a refusal, has an empty cause
 abbrev pub parts_of : Refusal → Parts
 parts_of (refusal.Format f) = of_shape f
 parts_of (refusal.Rank s p) = on s (with (codes "rank") (numbers.One p))

@@ -6,7 +6,7 @@ use Rattle.cert_values.specs.Certificates.{Certificate}
 use Rattle.word_image.specs.declared.side.Side.{Side}
 use Rattle.word_image.specs.declared.side.Side.TheVariants.{Right, Left}
 
--- two configurations agree on the opposite side: on the left if this side is the right, and on the right if it is the left
+-- two configurations agree on the side opposite to this one: on the left if this side is the right, and on the right if it is the left
 abbrev pub AgreeBehind : Side → TailConfig → TailConfig → Type 0
 AgreeBehind Right = AgreeLeft
 AgreeBehind Left = AgreeRight

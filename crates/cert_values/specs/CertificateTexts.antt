@@ -134,7 +134,7 @@ pub data HasWeights (version : CertVersion) (r : LocalRule) (ms : Members) (weig
   Named : names_weights version ≡ true → HasMember ms (codes "weights") (λ d. IsArrayOf IsWhole d weights) → AreWeights r.states weights → HasWeights version r ms weights
   Own : (names_weights version ≡ true → get_member (codes "weights") ms ≡ None) → weights ≡ own_weights r.states → HasWeights version r ms weights
 
--- there is a member "ranks" with these claims of ranks, forward and backward, and the claims are within the limits of the rule
+-- there is a member "ranks" with the forward claims and the backward claims of ranks, and the claims are within the limits of the rule
 abbrev pub HasRanks : LocalRule → Members → List (Option ℕ) → List (Option ℕ) → Type 0
 HasRanks r ms forward backward = HasMember ms (codes "ranks") (λ d. IsRanksValue d forward backward) × IsRankShape r forward × IsRankShape r backward
 

@@ -23,7 +23,7 @@ abbrev pub letter_of : Letter → ℕ → ℕ
 letter_of First step = step / most_states
 letter_of Second step = step % most_states
 
--- the configuration that the first or the second letters of two walks spell, with the letter 0 for ever on the left
+-- the configuration that the first or the second letters of two walks spell, with the letter 0 everywhere to the left
 abbrev pub tail_by : Letter → Walks → TailConfig
 tail_by letter w = record { left = 0 ∷ []; middle = map (letter_of letter) w.middle.items; right = map (letter_of letter) w.period.items }
 

@@ -29,11 +29,11 @@ pub record AreListed (sets : List ℕ) (n : ℕ) (rows : List ℕ) : Type 0 wher
   pub within : (i : ℕ) → i < length sets → slice_index sets i < 2 ^ n
   pub marked : (x : ℕ) → x < 2 ^ n → (IsSetMarked rows x ↔ Contains sets x)
 
--- among the sets of n nodes, exactly those are marked that contain a set of the list
+-- among the sets of n nodes, exactly those are marked that have a set of the list as a subset
 abbrev pub AreAbove : List ℕ → ℕ → List ℕ → Type 0
 AreAbove sets n rows = (x : ℕ) → x < 2 ^ n → (IsSetMarked rows x ↔ ((i : ℕ) × (i < length sets) × IsPart (slice_index sets i) x))
 
--- among the sets of n nodes, exactly those are marked that contain a set of the list other than themselves
+-- among the sets of n nodes, exactly those are marked that have a set of the list other than themselves as a subset
 abbrev pub AreBeyond : List ℕ → ℕ → List ℕ → Type 0
 AreBeyond sets n rows = (x : ℕ) → x < 2 ^ n → (IsSetMarked rows x ↔ ((i : ℕ) × (i < length sets) × (slice_index sets i ≢ x) × IsPart (slice_index sets i) x))
 
@@ -56,7 +56,7 @@ AreMarksTo sets n u rows = (x : ℕ) → x < 2 ^ n → (IsSetMarked rows x ↔ C
 abbrev pub IsMinimal : List ℕ → ℕ → Type 0
 IsMinimal sets i = (j : ℕ) → j < length sets → j ≢ i → ¬ IsPart (slice_index sets j) (slice_index sets i)
 
--- the sets of the list are all different, and the marked sets are those that contain a set of the list other than themselves
+-- the sets of the list are all different, and the marked sets are those that have a set of the list other than themselves as a subset
 pub record AreCovers (sets rows : List ℕ) : Type 0 where
   pub nodes : ℕ
   pub few : nodes ≤ most_nodes

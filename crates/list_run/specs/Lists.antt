@@ -7,7 +7,7 @@ use Rattle.rule_lists.specs.Calls.{AreSoFar, AreListed}
 use Rattle.rule_lists.specs.declared.properties.Property.{Property}
 use Rattle.list_run.specs.Lines.{rule_lines, last_line}
 
--- exactly the letters of the beginning are fixed: all other windows have 255, which isn't a letter
+-- the list has the letters of the beginning at its windows, and 255, which isn't a letter, at all other windows
 pub record AreGiven (b : Beginning) (letters : List ℕ) : Type 0 where
   pub given : (v : ℕ) → v < b.given → v < b.rule.states ^ b.rule.width → slice_index letters v ≡ slice_index b.rule.table v
   pub open_ : (v : ℕ) → b.given ≤ v → v < b.rule.states ^ b.rule.width → slice_index letters v ≡ 255

@@ -1,4 +1,4 @@
--- Pairs of nodes from which steps by fixed letters of a table lead on for ever, forward on the right and backward on the left.
+-- Pairs of nodes from which steps by fixed letters of a table lead on without end, forward on the right and backward on the left.
 use Rattle.std.specs.Prelude.{◌≡◌, ◌≢◌, ℕ, ◌^◌, ◌<◌, ◌⊎◌, List, slice_index}
 use Rattle.word_image.specs.LocalRules.{LocalRule, node_count}
 use Rattle.word_image.specs.Ends.{window_with}

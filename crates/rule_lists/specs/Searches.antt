@@ -40,7 +40,7 @@ pub record HasShape (a : Asked) (r : LocalRule) : Type 0 where
   pub states : r.states ≡ a.shape.now.states
   pub width : r.width ≡ a.shape.now.width
 
--- the search answers this question, and continues after this rule, or is at its beginning
+-- the search has this question, and continues after this rule, or is at its beginning if there is no rule
 abbrev pub IsBehind : Asked → Option LocalRule → Search → Type 0
 IsBehind a last s = (s.asked ≡ a) × (s.last ≡ last)
 

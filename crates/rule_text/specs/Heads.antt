@@ -80,7 +80,7 @@ kind_text kind.Number = codes "w"
 abbrev pub IsNoKind : ℕ → Type 0
 IsNoKind b = (b ≢ 116) × (b ≢ 119)
 
--- the fault is a fault of form at a place of the text with this property
+-- the fault is a fault of form, and its place in the text has the property P
 abbrev pub IsRuleFormAt : List ℕ → TextFault → (ℕ → Type 0) → Type 0
 IsRuleFormAt text f P = (place : ℕ) × (f ≡ fault.Form place) × (place ≤ length text) × P place
 

@@ -37,7 +37,7 @@ pub record LacksBar (text : List ℕ) (start place : ℕ) : Type 0 where
   pub digits : IsDigitsEnd text start place
   pub other : place < length text → slice_index text place ≢ bar
 
--- the fault is a fault of form at a place with this property
+-- the fault is a fault of form, and its place has the property P
 abbrev pub IsFormAt : TailTextFault → (ℕ → Type 0) → Type 0
 IsFormAt f P = (place : ℕ) × (f ≡ fault.Form place) × P place
 

@@ -34,7 +34,7 @@ pub record Shape : Type 0 where
   pub after : ℕ
   pub on : ℕ
 
--- the placed configuration has this shape: its parts are as long as these periods of t, its middle is where they are, and the m - 1 cells from there on are equal to the cells one of its left periods earlier
+-- the placed configuration has this shape: its parts are as long as these periods of t, its middle begins where the first of them begins, moved by the offset of the rule, and its left period leads back to the m - 1 cells at the beginning of the middle
 pub record HasShape (r : LocalRule) (t : TailConfig) (s : Shape) (p : PlacedConfig) : Type 0 where
   pub back_some : 1 ≤ s.back
   pub on_some : 1 ≤ s.on
