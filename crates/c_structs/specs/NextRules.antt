@@ -33,7 +33,7 @@ abbrev pub IsToCome : Bool → ℕ → List ℕ → List ℕ → LocalRule → T
 IsToCome false states order table q = ⊤
 IsToCome true states order table q = rank states order table < rank states order q.table
 
--- the arguments are a question: the table makes a rule, the number stands for the property, the windows are in an order, and no more letters are fixed than there are windows
+-- the arguments are a question: the table makes a rule, the number stands for the property, `order` is an order of all windows, and no more letters are fixed than there are windows
 pub record IsQuestion (property : Property) (number states width : ℕ) (order begin table : List ℕ) : Type 0 where
   pub rule : IsRule (rule_of_table states width table)
   pub numbered : number ≡ property_number property
@@ -46,7 +46,7 @@ pub data IsNext (number states width : ℕ) (order begin : List ℕ) (after : Bo
   NoTable : (f : RuleFault) → rule_fault states width (pos 0) before ≡ Some f → IsNext number states width order begin after before (fault_code (Some f)) before
   -- if the number stands for no property, the call returns the code 10 and leaves the table as it was
   NoProperty : IsRule (rule_of_table states width before) → IsNoProperty number → IsNext number states width order begin after before 10 before
-  -- if the windows aren't in an order, the call returns the code 11 and leaves the table as it was
+  -- if `order` isn't an order of all windows, the call returns the code 11 and leaves the table as it was
   NoOrder : (property : Property) → IsRule (rule_of_table states width before) → number ≡ property_number property → ¬ IsOrder (states ^ width) order
       → IsNext number states width order begin after before 11 before
   -- if more letters are fixed than there are windows, the call returns the code 12 and leaves the table as it was

@@ -77,5 +77,5 @@ pub data IsReportCall (r : LocalRule) (weights : Option (List ℕ)) (was : RuleR
   -- if the buffer is too short for the letters, the call returns the code 10 and the number of letters, and leaves the report and the buffer as they were
   Short : (v : RuleReport) (letters : List ℕ) → IsReported r weights v letters → length before < length letters
       → IsReportCall r weights was before 10 (length letters) was before
-  -- if there is no memory, the call returns the code 8, and leaves the report and the buffer as they were
+  -- if there is no memory, the call returns the code 8 and the length 0, and leaves the report and the buffer as they were
   Memory : IsReportCall r weights was before 8 0 was before

@@ -32,7 +32,7 @@ pub data IsHandedBack (bytes_of : Reply → List ℕ) (block input before : List
   -- if the buffer is too short for the output, the call returns the code 10 and the length of the output, and leaves the buffer as it was
   Short : (status : Status) (output : List ℕ) → IsAnswerIn bytes_of block input status output → length before < length output
       → IsHandedBack bytes_of block input before 10 (length output) before
-  -- if the block isn't made of words, the call returns the code 9 and leaves the buffer as it was
+  -- if the block isn't made of words, the call returns the code 9 and the length 0, and leaves the buffer as it was
   NoWords : ((words : List (List ℕ)) → ¬ AreWords block words) → IsHandedBack bytes_of block input before 9 0 before
-  -- if there is no memory, the call returns the code 8 and leaves the buffer as it was
+  -- if there is no memory, the call returns the code 8 and the length 0, and leaves the buffer as it was
   Memory : IsHandedBack bytes_of block input before 8 0 before
