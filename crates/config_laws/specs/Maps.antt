@@ -51,7 +51,7 @@ IsOpenMap r = (x : Config) (n : ℕ) → IsConfig r.states x → (N : ℕ) × Is
 abbrev pub IsEvenlyOpenMap : LocalRule → Type 0
 IsEvenlyOpenMap r = (n : ℕ) → (N : ℕ) × ((x : Config) → IsConfig r.states x → IsNear r x n N)
 
--- two configurations differ at a place
+-- two configurations differ at some place
 abbrev pub Differ : Config → Config → Type 0
 Differ x y = (i : ℤ) × (x i ≢ y i)
 

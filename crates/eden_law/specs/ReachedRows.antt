@@ -1,10 +1,10 @@
--- Sets of pairs of nodes as rows: for each node u the set of the nodes v for which the pair (u, v) is in it. Bit v stands for node v.
+-- Sets of pairs of nodes as rows: for each node u the set of the nodes v for which the pair (u, v) is in the set of pairs. Bit v stands for node v. A pair is reached if steps lead to it from a first pair on the right.
 use Rattle.std.specs.Prelude.{◌≡◌, ◌≢◌, ℕ, ◌<◌, ◌≤◌, ◌⊎◌, ◌↔◌, List, length, slice_index, IsBitSet}
 use Rattle.word_image.specs.LocalRules.{LocalRule, node_count, most_nodes}
 use Rattle.word_image.specs.Graphs.{next, label, pair_of, HasBit, AreSets}
 use Rattle.garden_laws.specs.ReachedPairs.{IsReached}
 
--- a letter other than a leads from the node to v, with the same label as a
+-- some letter other than a leads from the node to v, along an edge with the same label as the edge of a
 pub record LeadsApart (r : LocalRule) (node a v : ℕ) : Type 0 where
   pub b : ℕ
   pub letter : b < r.states
@@ -12,7 +12,7 @@ pub record LeadsApart (r : LocalRule) (node a v : ℕ) : Type 0 where
   pub one_label : label r node a ≡ label r node b
   pub leads : next r node b ≡ v
 
--- a letter leads from a node of the set to v, with the label that a has at this node
+-- some letter leads from a node of the set to v, along an edge with the same label as the edge of a from the given node
 pub record LeadsBeside (r : LocalRule) (node set a v : ℕ) : Type 0 where
   pub other : ℕ
   pub b : ℕ

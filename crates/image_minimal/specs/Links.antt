@@ -31,7 +31,7 @@ HasChain r links pair e = (f : ℕ → Bool) → HaveOneColour (2 ^ node_count r
 abbrev pub set_count : LocalRule → LocalRule → ℕ
 set_count r q = 2 ^ node_count r + 2 ^ node_count q
 
--- a bound on the number of links: each link makes some parent less
+-- a bound on the number of links, since each link makes some parent less
 abbrev pub most_links : LocalRule → LocalRule → ℕ
 most_links r q = total (range_with_len 0 (set_count r q)) + 1
 

@@ -15,16 +15,16 @@ limit_fault k m o =
     else (if nat_lt most_nodes (k ^ (m - 1)) then Some Nodes
     else offset_fault m o)
 
--- the fault of a rule that is shifted, if there is one
+-- the fault of shifting a rule by this number of cells, if there is one
 abbrev pub shift_fault : LocalRule → ℤ → Option AlgebraFault
 shift_fault r by = offset_fault r.width (r.offset +ℤ by)
 
--- the fault of a composition of two rules, if there is one
+-- the fault of composing two rules, if there is one
 abbrev pub compose_fault : LocalRule → LocalRule → Option AlgebraFault
 compose_fault first second =
     if not (first.states == second.states) then Some States
     else limit_fault first.states (first.width + second.width - 1) (first.offset +ℤ second.offset)
 
--- the fault of a rule that is widened to m cells, if there is one
+-- the fault of widening a rule to m cells, if there is one
 abbrev pub widen_fault : LocalRule → ℕ → Option AlgebraFault
 widen_fault r m = if nat_lt m r.width then Some Width else limit_fault r.states m r.offset

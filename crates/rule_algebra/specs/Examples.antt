@@ -24,7 +24,7 @@ sum_of_products = refl
 product_of_sums : composed sum_mod_two both ≡ record { states = 2; width = 3; offset = pos 0; table = 0 ∷ 0 ∷ 1 ∷ 0 ∷ 0 ∷ 1 ∷ 0 ∷ 0 ∷ [] }
 product_of_sums = refl
 
--- the image of a word under the composition is the image of its image
+-- the image of a word under the composition is the second rule's image of the first rule's image of the word
 sum_of_products-image : image (composed both sum_mod_two) (1 ∷ 1 ∷ 0 ∷ 1 ∷ []) ≡ image sum_mod_two (image both (1 ∷ 1 ∷ 0 ∷ 1 ∷ []))
 sum_of_products-image = refl
 
@@ -32,7 +32,7 @@ sum_of_products-image = refl
 widened-sum : widened sum_mod_two 3 ≡ record { states = 2; width = 3; offset = pos 0; table = 0 ∷ 0 ∷ 1 ∷ 1 ∷ 1 ∷ 1 ∷ 0 ∷ 0 ∷ [] }
 widened-sum = refl
 
--- rule 204 without its first cell
+-- rule 204 without the first cell of its window
 without_first-204 : without_first rule204 ≡ record { states = 2; width = 2; offset = pos 0; table = 0 ∷ 0 ∷ 1 ∷ 1 ∷ [] }
 without_first-204 = refl
 

@@ -4,7 +4,7 @@ use Rattle.word_image.specs.LocalRules.{LocalRule}
 use Rattle.word_image.specs.Words.{IsSurjective}
 use Rattle.tail_config.specs.Tails.{IsInjective, IsRightClosing, IsLeftClosing}
 
--- r and g have the same verdicts; if there is a mirror, right for r is left for g
+-- r and g have the same verdicts; if `mirror` is true, right-closing for r is left-closing for g, and left-closing for r is right-closing for g
 pub record HaveOneVerdict (r : LocalRule) (mirror : Bool) (g : LocalRule) : Type 0 where
   pub surjective : IsSurjective r ↔ IsSurjective g
   pub injective : IsInjective r ↔ IsInjective g

@@ -14,7 +14,7 @@ pub record HasRecolouredTable (r g : LocalRule) : Type 0 where
 abbrev pub turned : LocalRule → Bool → LocalRule
 turned r mirror = if mirror then mirrored r else r
 
--- g is in the class of r: its table is the table of r with permuted letters, or that of the mirrored rule of r if `mirror` is true
+-- g is in the class of r: with permuted letters its table is the table of r, or the table of the mirrored rule of r if `mirror` is true
 abbrev pub IsInClass : LocalRule → Bool → LocalRule → Type 0
 IsInClass r mirror g = HasRecolouredTable (turned r mirror) g
 

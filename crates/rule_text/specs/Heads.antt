@@ -50,7 +50,7 @@ abbrev pub sign : Bool → List ℕ
 sign true = codes "-"
 sign false = []
 
--- a number with this sign
+-- the integer with this sign and this absolute value
 abbrev pub signed : Bool → ℕ → ℤ
 signed true n = neg_ℤ (pos n)
 signed false n = pos n
@@ -88,7 +88,7 @@ IsRuleFormAt text f P = (place : ℕ) × (f ≡ fault.Form place) × (place ≤ 
 abbrev pub IsForm : TextFault → Type 0
 IsForm f = (place : ℕ) × (f ≡ fault.Form place)
 
--- the entries for digits of this kind
+-- the entries that digits of this kind give
 abbrev pub entries_of : Kind → List ℕ → Entries
 entries_of kind.Table digits = Table (map letter_at digits)
 entries_of kind.Number digits = Number (decimal_value digits)
@@ -98,11 +98,11 @@ abbrev pub IsEntries : Kind → List ℕ → Type 0
 IsEntries kind.Table digits = All IsHexDigit digits
 IsEntries kind.Number digits = IsDecimal 1 39 digits
 
--- the meaning of a head with these entries
+-- the meaning of a text with this head and these entries
 abbrev pub said_with : Head → Entries → Said
 said_with f entries = record { states = f.k; width = f.m; offset = f.o; entries = entries; place = f.place }
 
--- the meaning of a head with digits of its kind
+-- the meaning of a text with this head and these digits
 abbrev pub said_of : Head → List ℕ → Said
 said_of f digits = said_with f (entries_of f.kind digits)
 

@@ -8,7 +8,7 @@ use Rattle.word_image.specs.Digits.{lower_digit}
 abbrev pub head : List ℕ → List ℕ → List ℕ → List ℕ → List ℕ
 head k m o kind = k ++ codes ":" ++ m ++ codes ":" ++ o ++ codes ":" ++ kind
 
--- an offset, with a minus sign if it is negative
+-- the text of an offset, with a minus sign if the offset is negative
 abbrev pub offset_text : ℤ → List ℕ
 offset_text (pos n) = decimal n
 offset_text (negsuc n) = codes "-" ++ decimal (n + 1)

@@ -11,7 +11,7 @@ use Rattle.rule_text.specs.PrintedRules.{head}
 use Rattle.rule_text.specs.declared.text_fault.TextFault.{TextFault}
 use Rattle.rule_text.specs.declared.text_fault.TextFault.TheVariants as fault
 
--- a decimal digit
+-- the byte is a decimal digit
 abbrev pub IsDigit : ℕ → Type 0
 IsDigit b = (48 ≤ b) × (b ≤ 57)
 
@@ -25,12 +25,12 @@ pub record IsDecimal (low high : ℕ) (text : List ℕ) : Type 0 where
 abbrev pub decimal_value : List ℕ → ℕ
 decimal_value text = value 10 (map (λ b. b - 48) text)
 
--- the text is this offset: one or two decimal digits, which may follow a minus sign
+-- the text is this offset: one or two decimal digits, with or without a minus sign before them
 pub data IsOffset : List ℕ → ℤ → Type 0 where
   Plain : (digits : List ℕ) → IsDecimal 1 2 digits → IsOffset digits (pos (decimal_value digits))
   Minus : (digits : List ℕ) → IsDecimal 1 2 digits → IsOffset (codes "-" ++ digits) (neg_ℤ (pos (decimal_value digits)))
 
--- the part after the kind: the table's letters, or the number
+-- the entries are the part of a text after the kind: the letters of the table, or the number
 pub data Entries : Type 0 where
   Table : (letters : List ℕ) → Entries
   Number : (number : ℕ) → Entries
@@ -92,7 +92,7 @@ abbrev pub table_of : Said → Entries → List ℕ
 table_of s (Entries.Table letters) = letters
 table_of s (Entries.Number n) = reverse (word_of s.states (s.states ^ s.width) n)
 
--- the rule of a text
+-- the rule of a text with this meaning
 abbrev pub rule_of : Said → LocalRule
 rule_of s = record { states = s.states; width = s.width; offset = s.offset; table = table_of s s.entries }
 
@@ -100,7 +100,7 @@ rule_of s = record { states = s.states; width = s.width; offset = s.offset; tabl
 abbrev pub rule_of_table : ℕ → ℕ → List ℕ → LocalRule
 rule_of_table k m table = record { states = k; width = m; offset = pos 0; table = table }
 
--- the text is a text of the rule
+-- the text is a text of this rule
 pub record IsRuleText (text : List ℕ) (r : LocalRule) : Type 0 where
   pub said : Said
   pub says : Says text said

@@ -1,4 +1,4 @@
--- The walks that form a placed configuration, and the first of them.
+-- Walks in the de Bruijn graph whose letters form a placed configuration, and the first of these walks.
 use Rattle.std.specs.Prelude.{◌≡◌, ℕ, ◌+◌, ◌-◌, ◌*◌, ◌^◌, ◌≤◌, List, length, drop, slice_index, pos, ◌-ℤ◌}
 use Rattle.std.specs.List.{repeat}
 use Rattle.word_image.specs.LocalRules.{LocalRule}

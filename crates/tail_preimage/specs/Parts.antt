@@ -1,4 +1,4 @@
--- The parts of a configuration as relations between nodes: a part relates two nodes if a walk whose labels spell the part leads from one to the other. Also the shapes of walks that are possible, and the numbers of periods that have no walk.
+-- The parts of a configuration as relations between nodes: a part relates two nodes if a walk whose labels spell the part leads from one to the other. This file also defines which shapes of walks are possible, and along how many periods no walk leads.
 use Rattle.std.specs.Prelude.{◌≢◌, ℕ, ◌<◌, ◌≤◌, [], get_or}
 use Rattle.std.specs.declared.cmp.Ordering.TheVariants.{Greater}
 use Rattle.word_image.specs.LocalRules.{LocalRule, IsRule, node_count, most_nodes}
@@ -11,12 +11,12 @@ use Rattle.tail_preimage.specs.declared.periods.Periods.{Periods}
 use Rattle.tail_preimage.specs.declared.shapes.Parts.{Parts}
 use Rattle.tail_preimage.specs.declared.shapes.Spans.{Spans}
 
--- the relations of 0 to 16 periods are the relations of 0 to 16 steps by one period
+-- the stored relations of 0 to 16 periods are right: n periods relate the nodes between which n steps of the relation of one period lead
 pub record ArePeriods (r : LocalRule) (periods : Periods) : Type 0 where
   pub period : AreSets r periods.period
   pub powers : (n : ℕ) → n ≤ most_nodes → IsRelation r (Steps (HasBit periods.period) n) (get_or periods.powers n [])
 
--- the relations of the parts of a configuration: the left period relates the node at its end to the node at its start, and the middle and the right period relate the node at their start to the node at their end
+-- each part has the right relation: the left period relates the node at its end to the node at its start, and the middle and the right period relate the node at their start to the node at their end
 pub record AreTailParts (r : LocalRule) (t : TailConfig) (parts : Parts) : Type 0 where
   pub rule : IsRule r
   pub left_periods : ArePeriods r parts.left
@@ -25,7 +25,7 @@ pub record AreTailParts (r : LocalRule) (t : TailConfig) (parts : Parts) : Type 
   pub middle : IsRelation r (HasWalk r t.middle) parts.middle
   pub right : IsRelation r (HasWalk r t.right) parts.right.period
 
--- the relations belong to the parts of some configuration
+-- the relations are those of the parts of some configuration
 abbrev pub HaveParts : LocalRule → Parts → Type 0
 HaveParts r parts = (t : TailConfig) × AreTailParts r t parts
 

@@ -42,7 +42,7 @@ pub record HasShape (r : LocalRule) (t : TailConfig) (s : Shape) (p : PlacedConf
   pub middle : length p.config.middle ≡ s.before * length t.left + length t.middle + s.after * length t.right
   pub right : length p.config.right ≡ s.on * length t.right
   pub at : p.at ≡ r.offset -ℤ pos (s.before * length t.left)
-  -- the m - 1 cells at the beginning of the middle are equal to those one left period earlier
+  -- the m - 1 cells at the beginning of the middle are equal to the cells one left period earlier
   pub node : placed_cells p p.at (r.width - 1) ≡ placed_cells p (p.at -ℤ pos (s.back * length t.left)) (r.width - 1)
 
 -- the order of shapes: by the left periods in left period and middle together, then by the right periods in middle and right period together, then by the left periods in the middle, then by the right periods in the middle

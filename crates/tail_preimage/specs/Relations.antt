@@ -16,11 +16,11 @@ Unlettered E s a t = E s t
 pub record Steps (E : ℕ → ℕ → Type 0) (n u v : ℕ) : Type 0 where
   pub walk : Walk (Unlettered E) u (replicate n tt) v
 
--- some walk of n steps begins at u
+-- some walk of n steps of the relation begins at u
 abbrev pub Open : (ℕ → ℕ → Type 0) → ℕ → ℕ → Type 0
 Open E n u = (v : ℕ) × Steps E n u v
 
--- n steps lead from u to a node that has a loop of `on` steps
+-- n steps of the relation lead from u to a node that has a loop of `on` steps
 abbrev pub Rounds : (ℕ → ℕ → Type 0) → ℕ → ℕ → ℕ → Type 0
 Rounds E n on u = (v : ℕ) × Steps E n u v × Steps E on v v
 
