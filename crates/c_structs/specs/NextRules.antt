@@ -1,4 +1,4 @@
--- What a call hands back of the rules of a shape that have a property.
+-- What the C library returns to a call about the rules of a shape that have a property: the table of the next such rule, or the order of the windows.
 use Rattle.std.specs.Prelude.{◌≡◌, ◌≢◌, ℕ, ◌^◌, ◌-◌, ◌<◌, ◌≤◌, Bool, true, false, ⊤, List, ◌++◌, length, replicate, Some, None, pos}
 use Rattle.word_image.specs.LocalRules.{LocalRule, IsRule}
 use Rattle.word_image.specs.RuleFaults.{rule_fault, shape_fault}
@@ -11,7 +11,7 @@ use Rattle.rule_lists.specs.declared.properties.Property.TheVariants.{Surjective
 use Rattle.rule_text.specs.RuleTexts.{rule_of_table}
 use Rattle.c_structs.specs.Verdicts.{fault_code}
 
--- the number that stands for a property: what it adds to the byte of a rule that has it
+-- the number that stands for a property: what the property adds to the verdict byte of a rule that has it
 abbrev pub property_number : Property → ℕ
 property_number Surjective = 1
 property_number Injective = 2
@@ -20,53 +20,53 @@ property_number LeftClosing = 8
 property_number Open = 16
 property_number Conserving = 32
 
--- the number stands for no property
+-- this number stands for no property
 abbrev pub IsNoProperty : ℕ → Type 0
 IsNoProperty number = (property : Property) → number ≢ property_number property
 
--- the letters that tables begin with, and no letter behind them, since 255 is none
+-- the fixed letters: the letters that tables begin with, followed by 255 up to 256 numbers, since 255 is no letter and fixes nothing
 abbrev pub fixed_letters : List ℕ → List ℕ
 fixed_letters begin = begin ++ replicate (256 - length begin) 255
 
--- the rules that are to come: all, or behind a table those of a greater rank
+-- the rule q is still to come: each rule is at the beginning, and after a table only a rule with a greater rank is
 abbrev pub IsToCome : Bool → ℕ → List ℕ → List ℕ → LocalRule → Type 0
 IsToCome false states order table q = ⊤
 IsToCome true states order table q = rank states order table < rank states order q.table
 
--- the table makes a rule, the number is that of a property, the windows are in an order, and no more letters are fixed than there are windows
+-- the arguments are a question: the table makes a rule, the number stands for the property, `order` is an order of all windows, and no more letters are fixed than there are windows
 pub record IsQuestion (property : Property) (number states width : ℕ) (order begin table : List ℕ) : Type 0 where
   pub rule : IsRule (rule_of_table states width table)
   pub numbered : number ≡ property_number property
   pub ordered : IsOrder (states ^ width) order
   pub within : length begin ≤ states ^ width
 
--- the code and the table that are handed back, where the table was this before: the first line that fits
+-- the code and the table that a call returns if the table was `before`: only one of these cases fits
 pub data IsNext (number states width : ℕ) (order begin : List ℕ) (after : Bool) (before : List ℕ) : ℕ → List ℕ → Type 0 where
-  -- the table before makes no rule
+  -- if the table `before` makes no rule, the call returns the code of the fault and leaves the table as it was
   NoTable : (f : RuleFault) → rule_fault states width (pos 0) before ≡ Some f → IsNext number states width order begin after before (fault_code (Some f)) before
-  -- the number stands for no property
+  -- if the number stands for no property, the call returns the code 10 and leaves the table as it was
   NoProperty : IsRule (rule_of_table states width before) → IsNoProperty number → IsNext number states width order begin after before 10 before
-  -- the windows are in no order
+  -- if `order` isn't an order of all windows, the call returns the code 11 and leaves the table as it was
   NoOrder : (property : Property) → IsRule (rule_of_table states width before) → number ≡ property_number property → ¬ IsOrder (states ^ width) order
       → IsNext number states width order begin after before 11 before
-  -- more letters are fixed than there are windows
+  -- if more letters are fixed than there are windows, the call returns the code 12 and leaves the table as it was
   NoBeginning : (property : Property) → IsRule (rule_of_table states width before) → number ≡ property_number property → IsOrder (states ^ width) order → states ^ width < length begin
       → IsNext number states width order begin after before 12 before
-  -- no rule with the property is to come
+  -- if no rule with the property is to come, the call returns the code 13 and leaves the table as it was
   NoRule : (property : Property) → IsQuestion property number states width order begin before → NoneIs property states width (fixed_letters begin) (IsToCome after states order before)
       → IsNext number states width order begin after before 13 before
-  -- the table of the first one that is
+  -- if a rule with the property is to come, the call returns the code 0 and the table of the first such rule
   Rule : (property : Property) (r : LocalRule) → IsQuestion property number states width order begin before → IsFirst property states width (fixed_letters begin) order (IsToCome after states order before) r
       → IsNext number states width order begin after before 0 r.table
 
--- the code and the windows that are handed back, where these bytes stood there before: the first line that fits
+-- the code and the windows that a call returns if the buffer had the bytes `before`: only one of these cases fits
 pub data IsWindowOrder (number states width : ℕ) (before : List ℕ) : ℕ → List ℕ → Type 0 where
-  -- there is no such shape
+  -- if no rule has this shape, the call returns the code of the fault and leaves the buffer as it was
   NoShape : (f : RuleFault) → shape_fault states width (pos 0) ≡ Some f → IsWindowOrder number states width before (fault_code (Some f)) before
-  -- the number stands for no property
+  -- if the number stands for no property, the call returns the code 10 and leaves the buffer as it was
   NoProperty : shape_fault states width (pos 0) ≡ None → IsNoProperty number → IsWindowOrder number states width before 10 before
-  -- there isn't one byte for each window
+  -- if the buffer doesn't have one byte for each window, the call returns the code 5 and leaves the buffer as it was
   NoLength : (property : Property) → shape_fault states width (pos 0) ≡ None → number ≡ property_number property → length before ≢ states ^ width → IsWindowOrder number states width before 5 before
-  -- the order of the windows for the property
+  -- if there is no fault, the call returns the code 0 and the order of the windows for the property
   Order : (property : Property) (order : List ℕ) → shape_fault states width (pos 0) ≡ None → number ≡ property_number property → IsOrderFor property states width order
       → IsWindowOrder number states width before 0 order

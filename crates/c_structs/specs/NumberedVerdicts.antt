@@ -1,9 +1,9 @@
--- What a call hands back of rules with consecutive numbers.
+-- The code that the C library returns to a call that asks for the verdicts of rules with consecutive numbers.
 use Rattle.std.specs.Prelude.{ℕ, Option, Some, None}
 use Rattle.rule_text.specs.declared.text_fault.TextFault.{TextFault}
 use Rattle.rule_text.specs.declared.text_fault.TextFault.TheVariants.{Form, States, Width, Nodes, Offset, Length, Letter, Kind, Number}
 
--- the number that stands for a fault, and 0 for none. Of consecutive numbers only 1, 2, 3, 7 and 8 come
+-- the code of a fault, and 0 if there is none; of the faults only 1, 2, 3, 7 and 8 are possible for consecutive numbers
 abbrev pub number_code : Option TextFault → ℕ
 number_code None = 0
 number_code (Some States) = 1

@@ -1,4 +1,4 @@
--- What a report says of each question, and the letters of its words.
+-- The parts of a report in the C library, with one part for each property, and the letters of their words.
 use Rattle.std.specs.Prelude.{◌≡◌, ℕ, ◌-◌, ◌≤◌, List, [], ◌++◌, length, replicate, Option, Some, None, ℤ, pos, ⊤}
 use Rattle.cert_values.specs.Evidence.{InjectiveEvidence, SideEvidence, SumEvidence, Window, Twins, Ahead, Split, Flux, Ring}
 use Rattle.c_structs.specs.declared.letter_rows.LetterRow.{LetterRow}
@@ -6,51 +6,51 @@ use Rattle.c_structs.specs.declared.letter_rows.TwinRows.{TwinRows}
 use Rattle.c_structs.specs.declared.letter_rows.SplitRows.{SplitRows}
 use Rattle.c_structs.specs.LetterRows.{IsRow, AreTwinRows, AreSplitRows, split_letters, no_row, no_twins, no_split}
 
--- the letters of an orphan, where there is one
+-- the letters of an orphan, or no letters if there is no orphan
 abbrev pub orphan_letters : Option (List ℕ) → List ℕ
 orphan_letters None = []
 orphan_letters (Some w) = w
 
--- the letters of twins, where there are any
+-- the letters of the twins, or no letters if the evidence is a window
 abbrev pub injective_letters : InjectiveEvidence → List ℕ
 injective_letters (Window n c) = []
 injective_letters (Twins x y) = x ++ y
 
--- the letters of a split, where there is one
+-- the letters of the split, or no letters if the evidence is a look-ahead
 abbrev pub side_letters : SideEvidence → List ℕ
 side_letters (Ahead n) = []
 side_letters (Split x y) = split_letters x y
 
--- the letters of a ring, where there is one
+-- the letters of the ring, or no letters if the evidence is a flux
 abbrev pub sum_letters : SumEvidence → List ℕ
 sum_letters (Flux phi) = []
 sum_letters (Ring p) = p
 
--- at most 16 numbers, and zeros after them
+-- the numbers of a flux, followed by zeros up to 16 numbers
 abbrev pub flux_row : List ℤ → List ℤ
 flux_row phi = phi ++ replicate (16 - length phi) (pos 0)
 
--- where there is a flux it has at most 16 numbers
+-- if the evidence is a flux, it has at most 16 numbers
 abbrev pub IsShortSum : SumEvidence → Type 0
 IsShortSum (Flux phi) = length phi ≤ 16
 IsShortSum (Ring p) = ⊤
 
--- yes; or no, and this is the row of the orphan
+-- the part of a report that says whether the rule is surjective: 1 for yes, or 0 for no and the row of the orphan
 abbrev pub SaysSurjective : List ℕ → ℕ → LetterRow → Option (List ℕ) → Type 0
 SaysSurjective letters holds orphan None = (holds ≡ 1) × (orphan ≡ no_row)
 SaysSurjective letters holds orphan (Some w) = (holds ≡ 0) × IsRow letters orphan w
 
--- yes, with the window and the place; or no, and these are the rows of the twins
+-- the part of a report that says whether the rule is injective: 1 for yes, the window and the place, or 0 for no and the rows of the twins
 abbrev pub SaysInjective : List ℕ → ℕ → ℕ → ℕ → TwinRows → InjectiveEvidence → Type 0
 SaysInjective letters holds window place twins (Window n c) = (holds ≡ 1) × (window ≡ n) × (place ≡ c) × (twins ≡ no_twins)
 SaysInjective letters holds window place twins (Twins x y) = (holds ≡ 0) × (window ≡ 0) × (place ≡ 0) × AreTwinRows letters twins x y
 
--- yes, with the look-ahead; or no, and these are the rows of the split
+-- the part of a report that says whether the rule is closing on a side: 1 for yes and the look-ahead, or 0 for no and the rows of the split
 abbrev pub SaysSide : List ℕ → ℕ → ℕ → SplitRows → SideEvidence → Type 0
 SaysSide letters holds ahead split (Ahead n) = (holds ≡ 1) × (ahead ≡ n) × (split ≡ no_split)
 SaysSide letters holds ahead split (Split x y) = (holds ≡ 0) × (ahead ≡ 0) × AreSplitRows letters split x y
 
--- yes, with the numbers of the flux; or no, and this is the row of the ring
+-- the part of a report that says whether the rule is conserving: 1 for yes and the numbers of the flux, or 0 for no and the row of the ring
 abbrev pub SaysConserving : List ℕ → ℕ → ℕ → List ℤ → LetterRow → SumEvidence → Type 0
 SaysConserving letters holds nodes flux ring (Flux phi) = (holds ≡ 1) × (nodes ≡ length phi) × (flux ≡ flux_row phi) × (ring ≡ no_row)
 SaysConserving letters holds nodes flux ring (Ring p) = (holds ≡ 0) × (nodes ≡ 0) × (flux ≡ replicate 16 (pos 0)) × IsRow letters ring p

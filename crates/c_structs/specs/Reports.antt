@@ -1,4 +1,4 @@
--- What a call hands back of a rule with its evidence.
+-- What the C library returns to a call that asks for a report: the verdicts of a rule with their evidence.
 use Rattle.std.specs.Prelude.{◌≡◌, ℕ, ◌<◌, ◌≤◌, min, List, [], ◌∷◌, ◌++◌, length, drop, replicate, Option, Some, None, ℤ, pos}
 use Rattle.word_image.specs.LocalRules.{LocalRule, IsRule}
 use Rattle.word_image.specs.RuleFaults.{rule_fault}
@@ -11,11 +11,11 @@ use Rattle.c_structs.specs.Verdicts.{fault_code}
 use Rattle.c_structs.specs.LetterRows.{no_row, no_twins, no_split}
 use Rattle.c_structs.specs.ReportParts.{SaysSurjective, SaysInjective, SaysSide, SaysConserving, orphan_letters, injective_letters, side_letters, sum_letters}
 
--- the rule of these parts
+-- the rule with these states, width, offset and table
 abbrev pub rule_with : ℕ → ℕ → ℤ → List ℕ → LocalRule
 rule_with states width offset table = record { states = states; width = width; offset = offset; table = table }
 
--- the weights that are named; none by an empty list
+-- the weights that a list names; the empty list names none
 abbrev pub named_weights : List ℕ → Option (List ℕ)
 named_weights [] = None
 named_weights (weight ∷ weights) = Some (weight ∷ weights)
@@ -24,7 +24,7 @@ named_weights (weight ∷ weights) = Some (weight ∷ weights)
 abbrev pub letters_in : Evidence → List ℕ
 letters_in e = orphan_letters e.orphan ++ injective_letters e.injective ++ side_letters e.right ++ side_letters e.left ++ sum_letters e.conserving
 
--- the report and the letters are this evidence
+-- the report gives exactly this evidence, and the letters of its words are in this list
 pub record IsReportOf (letters : List ℕ) (e : Evidence) (v : RuleReport) : Type 0 where
   pub fault : v.fault ≡ 0
   pub surjective : SaysSurjective letters v.surjective v.orphan e.orphan
@@ -35,7 +35,7 @@ pub record IsReportOf (letters : List ℕ) (e : Evidence) (v : RuleReport) : Typ
   pub conserving : SaysConserving letters v.conserving v.nodes v.flux v.ring e.conserving
   pub reserved : v.reserved ≡ replicate 8 0
 
--- there is no report, for the fault of this number
+-- the struct that has the number of a fault and no report
 abbrev pub no_report : ℕ → RuleReport
 no_report fault = record {
   fault = fault;
@@ -59,23 +59,23 @@ no_report fault = record {
   reserved = replicate 8 0;
 }
 
--- the report of a rule and weights, and the letters of its words
+-- the struct and the letters that a rule and weights give: a report and the letters of its words, or a fault and no letters
 pub data IsReported (r : LocalRule) (weights : Option (List ℕ)) : RuleReport → List ℕ → Type 0 where
-  -- the parts make no rule
+  -- if the parts make no rule, the struct has the fault of the rule, and there are no letters
   NoRule : (f : RuleFault) → rule_fault r.states r.width r.offset r.table ≡ Some f → IsReported r weights (no_report (fault_code (Some f))) []
-  -- there isn't one weight for each letter
+  -- if there isn't one weight for each letter, the struct has the fault 18, and there are no letters
   NoWeights : IsRule r → ¬ AreFor weights r → IsReported r weights (no_report 18) []
-  -- the right finding
+  -- if there is no fault, the struct has the report of the right finding, and the letters are those of its words
   Found : (e : Evidence) (v : RuleReport) → IsRule r → IsFinding (Question.Report r weights) (Finding.Report e) → IsReportOf (letters_in e) e v
       → IsReported r weights v (letters_in e)
 
--- the code, the length, the report and the buffer that are handed back, where the report and the buffer were these before
+-- the code, the length, the report and the buffer that a call returns if the report was `was` and the buffer had the letters `before`
 pub data IsReportCall (r : LocalRule) (weights : Option (List ℕ)) (was : RuleReport) (before : List ℕ) : ℕ → ℕ → RuleReport → List ℕ → Type 0 where
-  -- the report, and all letters at the beginning of the buffer
+  -- if the buffer has room for all letters, the call returns the code 0, the number of letters, the report, and the letters at the beginning of the buffer
   Whole : (v : RuleReport) (letters : List ℕ) → IsReported r weights v letters → length letters ≤ length before
       → IsReportCall r weights was before 0 (length letters) v (letters ++ drop (length letters) before)
-  -- how many letters there are, for which the buffer is too short
+  -- if the buffer is too short for the letters, the call returns the code 10 and the number of letters, and leaves the report and the buffer as they were
   Short : (v : RuleReport) (letters : List ℕ) → IsReported r weights v letters → length before < length letters
       → IsReportCall r weights was before 10 (length letters) was before
-  -- there was no memory
+  -- if there is no memory, the call returns the code 8 and the length 0, and leaves the report and the buffer as they were
   Memory : IsReportCall r weights was before 8 0 was before

@@ -1,4 +1,4 @@
--- What a call hands back of the sums that a rule keeps, and of a flux.
+-- What the C library returns to a call that asks which sums of weights a rule keeps, or for the flux of such a sum.
 use Rattle.std.specs.Prelude.{◌≡◌, ℕ, List, Option, Some, None, ℤ, pos}
 use Rattle.word_image.specs.RuleFaults.{rule_fault}
 use Rattle.word_image.specs.declared.local_rule.RuleFault.{RuleFault}
@@ -11,33 +11,33 @@ use Rattle.kept_sums.specs.Fluxes.{IsFluxList}
 use Rattle.rule_text.specs.RuleTexts.{rule_of_table}
 use Rattle.c_structs.specs.Verdicts.{fault_code}
 
--- the number that stands for a fault of how many letters the words have, and 0 for none
+-- the code of a fault in the number of letters of the words, and 0 if there is none
 abbrev pub range_code : Option RangeFault → ℕ
 range_code None = 0
 range_code (Some Zero) = 14
 range_code (Some Words) = 15
 
--- the number of the rule's fault, or else that of the range's
+-- the code of the rule's fault, or else the code of the fault in the number of letters of the words
 abbrev pub first_code : Option RuleFault → Option RangeFault → ℕ
 first_code None range = range_code range
 first_code (Some fault) range = fault_code (Some fault)
 
--- the number that stands for the first fault of a rule at offset 0 and of how many letters the words have, and 0 for none
+-- the code of the first fault of a rule at offset 0 and of the number of letters of the words, and 0 if there is none
 abbrev pub sums_code : ℕ → ℕ → List ℕ → ℕ → ℕ
 sums_code states width table range = first_code (rule_fault states width (pos 0) table) (range_fault states range)
 
--- the code and the numbers that are handed back by a call that asks for the flux of weights, where these numbers stood there before: the first that holds
+-- the code and the numbers that a call for the flux of weights returns if the numbers were `before`: only one of these cases fits
 pub data IsFluxCall (states width : ℕ) (table : List ℕ) (range : ℕ) (weights before : List ℤ) : ℕ → List ℤ → Type 0 where
-  -- there is no such rule
+  -- if the parts make no rule, the call returns the code of the fault and leaves the numbers as they were
   NoRule : (f : RuleFault) → rule_fault states width (pos 0) table ≡ Some f → IsFluxCall states width table range weights before (fault_code (Some f)) before
-  -- there are no words of so many letters, or too many
+  -- if words of `range` letters have no letter or are too many, the call returns the code of this fault and leaves the numbers as they were
   NoRange : (f : RangeFault) → rule_fault states width (pos 0) table ≡ None → range_fault states range ≡ Some f
       → IsFluxCall states width table range weights before (range_code (Some f)) before
-  -- a weight is too great
+  -- if a weight isn't from -2^56 to 2^56, the call returns the code 16 and leaves the numbers as they were
   Great : rule_fault states width (pos 0) table ≡ None → range_fault states range ≡ None → ¬ IsSmall weights → IsFluxCall states width table range weights before 16 before
-  -- the rule doesn't keep the sum
+  -- if the rule doesn't keep the sum of the weights, the call returns the code 17 and leaves the numbers as they were
   Lost : rule_fault states width (pos 0) table ≡ None → range_fault states range ≡ None → IsSmall weights → ¬ IsKept range (at weights) (rule_of_table states width table)
       → IsFluxCall states width table range weights before 17 before
-  -- the flux
+  -- if the rule keeps the sum of the weights, the call returns the code 0 and the numbers of the flux
   Found : (numbers : List ℤ) → rule_fault states width (pos 0) table ≡ None → range_fault states range ≡ None → IsSmall weights
       → IsFluxList range (at weights) (rule_of_table states width table) numbers → IsFluxCall states width table range weights before 0 numbers

@@ -1,4 +1,4 @@
--- Within the crate: the state while classes are counted: the counts, and the verdicts of the least rules.
+-- Used only in this crate: the state while rules and their classes are counted. It has the counts so far and an entry for the least rule of each class, with its number and its verdicts.
 use Rattle.std.specs.Prelude.{◌≡◌, ℕ, List, ◌++◌, [], ◌∷◌, map, All, Contains}
 use Rattle.word_image.specs.LocalRules.{LocalRule, IsRule, wolfram_number}
 use Rattle.rule_verdicts.specs.declared.truths.Truths.{Truths}
@@ -8,21 +8,21 @@ use Rattle.ca_questions.specs.Counts.{AreCounts, AreLeastRules}
 use Rattle.ca_questions.specs.Values.{counts_of}
 use Rattle.ca_answering.specs.declared.class_tally.ClassTally.{ClassTally}
 
--- the rule of k states, width m and offset 0 of an entry
+-- the rule of k states, width m and offset 0 with the number in an entry
 abbrev pub rule_in : ℕ → ℕ → ℕ × Truths → LocalRule
 rule_in k m entry = numbered_rule k m entry.0
 
--- the rules that have been decided
+-- the rules of the entries, whose verdicts have been decided
 abbrev pub rules_in : ℕ → ℕ → List (ℕ × Truths) → List LocalRule
 rules_in k m entries = map (rule_in k m) entries
 
--- the verdicts of an accepted rule, under its number
+-- the entry has the number of an accepted rule and the verdicts of this rule
 pub record IsDecided (k m : ℕ) (entry : ℕ × Truths) : Type 0 where
   pub accepted : IsRule (rule_in k m entry)
   pub number : wolfram_number (rule_in k m entry) ≡ entry.0
   pub truths : AreTruths (rule_in k m entry) entry.1
 
--- the list has the rule, as before or at its end
+-- the new list of rules is the old list if this has the rule g, and otherwise the old list followed by g
 pub data IsRuleAdded (g : LocalRule) : List LocalRule → List LocalRule → Type 0 where
   Old : (rules : List LocalRule) → Contains rules g → IsRuleAdded g rules rules
   New : (rules : List LocalRule) → ¬ Contains rules g → IsRuleAdded g rules (rules ++ g ∷ [])

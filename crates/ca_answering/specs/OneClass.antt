@@ -1,7 +1,7 @@
--- Within the crate: the automaton of a surjective rule.
+-- Used only in this crate: the automaton of a surjective rule, which has no orphans.
 use Rattle.std.specs.Prelude.{ℕ, None, replicate}
 use Rattle.image_minimal.specs.ImageLanguages.{Automaton}
 
--- one class, which follows itself on each letter and has no orphans
+-- the automaton with one class, which follows itself on each letter, and no orphans
 abbrev pub one_class : ℕ → Automaton
 one_class k = record { states = k; classes = 1; next = replicate k 0; dead = None }

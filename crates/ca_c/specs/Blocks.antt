@@ -1,13 +1,13 @@
--- The words of a command line in one block of bytes.
+-- The words of a command line in one block of bytes: each word is followed by a 0 byte.
 use Rattle.std.specs.Prelude.{◌≡◌, ◌≢◌, ℕ, List, [], ◌∷◌, ◌++◌, All}
 use Rattle.std.specs.Str.{IsUtf8}
 
--- each word with a 0 byte after it, one after the other
+-- the block of these words: each word with a 0 byte after it, one after another
 abbrev pub block_of : List (List ℕ) → List ℕ
 block_of [] = []
 block_of (word ∷ words) = word ++ 0 ∷ block_of words
 
--- a word that a block can have: a text in UTF-8 without a 0 byte
+-- the word can be in a block: it is a text in UTF-8 without a 0 byte
 pub record IsWordText (word : List ℕ) : Type 0 where
   pub text : IsUtf8 word
   pub unended : All (λ b. b ≢ 0) word

@@ -1,4 +1,4 @@
--- What a call of the interface hands back.
+-- What the C interface returns to a call: a code, a length, and the output in the caller's buffer.
 use Rattle.std.specs.Prelude.{◌≡◌, ℕ, ◌<◌, ◌≤◌, List, ◌++◌, length, drop, Some}
 use Rattle.ca_questions.specs.Replies.{Reply}
 use Rattle.ca_text.specs.Replies.{reply_text}
@@ -10,12 +10,12 @@ use Rattle.ca_c.specs.Blocks.{AreWords}
 use Rattle.ca_c.specs.declared.calls.Form.{Form}
 use Rattle.ca_c.specs.declared.calls.Form.TheVariants as form
 
--- the bytes of a reply in a form: what the program prints, or JSON
+-- the bytes of a reply in the form that a call asks for: what the program prints, or JSON
 abbrev pub bytes_in : Form → Reply → List ℕ
 bytes_in form.Text = reply_text
 bytes_in form.Json = json_text
 
--- the status and the output are those of a right reply to the words of a block and to an input
+-- the status and the output are those of a right reply to the words of the block and to the input
 pub record IsAnswerIn (bytes_of : Reply → List ℕ) (block input : List ℕ) (status : Status) (output : List ℕ) : Type 0 where
   pub words : List (List ℕ)
   pub in_block : AreWords block words
@@ -24,15 +24,15 @@ pub record IsAnswerIn (bytes_of : Reply → List ℕ) (block input : List ℕ) (
   pub status_is : status ≡ reply_status reply
   pub output_is : output ≡ bytes_of reply
 
--- the code, the length and the buffer that are handed back, where the buffer had these bytes before
+-- the code, the length and the buffer that a call returns if the buffer had the bytes `before`
 pub data IsHandedBack (bytes_of : Reply → List ℕ) (block input before : List ℕ) : ℕ → ℕ → List ℕ → Type 0 where
-  -- the status, and the whole output at the beginning of the buffer
+  -- if the buffer has room for the output, the call returns the code of the status, the length of the output, and the output at the beginning of the buffer
   Whole : (status : Status) (output : List ℕ) → IsAnswerIn bytes_of block input status output → length output ≤ length before
       → IsHandedBack bytes_of block input before (code_of status) (length output) (output ++ drop (length output) before)
-  -- the length of an output for which the buffer is too short
+  -- if the buffer is too short for the output, the call returns the code 10 and the length of the output, and leaves the buffer as it was
   Short : (status : Status) (output : List ℕ) → IsAnswerIn bytes_of block input status output → length before < length output
       → IsHandedBack bytes_of block input before 10 (length output) before
-  -- the block has no words
+  -- if the block isn't made of words, the call returns the code 9 and the length 0, and leaves the buffer as it was
   NoWords : ((words : List (List ℕ)) → ¬ AreWords block words) → IsHandedBack bytes_of block input before 9 0 before
-  -- there was no memory
+  -- if there is no memory, the call returns the code 8 and the length 0, and leaves the buffer as it was
   Memory : IsHandedBack bytes_of block input before 8 0 before

@@ -1,4 +1,4 @@
--- Worked examples of a block of words, which the check computes.
+-- Worked examples of a block of words, which the prover computes.
 use Rattle.std.specs.Prelude.{◌≡◌, refl, [], ◌∷◌, codes}
 use Rattle.ca_c.specs.Blocks.{block_of}
 

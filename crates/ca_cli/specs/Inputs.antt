@@ -1,15 +1,15 @@
--- The input of the command `check`: all of it, or that it is too long.
+-- The input of the command `check`: the bytes of a whole input, or that it is too long. A source of bytes may tell which bytes it has left.
 use Rattle.std.specs.Prelude.{◌≡◌, ℕ, ◌+◌, ◌≤◌, List, length, Option, MatchOption, ⊤}
 
 -- the greatest number of bytes that the judge accepts
 abbrev pub most_input : ℕ
 most_input = 4194304
 
--- the bytes are all that the source had left, if it tells its bytes, and not too many
+-- the bytes are at most as many as the judge accepts, and they are all bytes that the source had left, if it tells its bytes
 pub record IsWholeInput (input : Option (List ℕ)) (bytes : List ℕ) : Type 0 where
   pub all : MatchOption input ⊤ (λ left. bytes ≡ left)
   pub short : length bytes ≤ most_input
 
--- the source had too many bytes left, if it tells its bytes
+-- the source had more bytes left than the judge accepts, if it tells its bytes
 abbrev pub IsLongInput : Option (List ℕ) → Type 0
 IsLongInput input = MatchOption input ⊤ (λ left. most_input + 1 ≤ length left)

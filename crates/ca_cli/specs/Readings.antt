@@ -1,4 +1,4 @@
--- How many bytes a command reads, and how many are left in the source.
+-- How many bytes a command reads from a source, and how many are left in the source.
 use Rattle.std.specs.Prelude.{◌≡◌, ℕ, ◌+◌, ◌≤◌, List, length, Option, is_some, ⊤, ◌≢◌}
 use Rattle.std.specs.Io.KnownBytes.{Consumes, IsAtEnd}
 use Rattle.ca_io.specs.Faults.{Rose}
@@ -8,19 +8,19 @@ use Rattle.ca_cli.specs.Inputs.{most_input}
 use Rattle.ca_commands.specs.declared.names.Name.TheVariants as name
 use Rattle.ca_commands.specs.Commands.{Command}
 
--- at most this many of the first bytes were taken
+-- at most this many bytes were taken from the beginning of the source
 pub record TakesAtMost (most : ℕ) (before after : Option (List ℕ)) : Type 0 where
   pub bytes : List ℕ
   pub few : length bytes ≤ most
   pub first : Consumes before after bytes
 
--- exactly this many of the first bytes were taken
+-- exactly this many bytes were taken from the beginning of the source
 pub record TakesExactly (count : ℕ) (before after : Option (List ℕ)) : Type 0 where
   pub bytes : List ℕ
   pub many : length bytes ≡ count
   pub first : Consumes before after bytes
 
--- the bytes that `check` has read when it ends with this status: all of them, or one more than the judge accepts
+-- what `check` has read when it ends with this status: the whole source, or one byte more than the judge accepts
 abbrev pub IsReadFor : Status → Option (List ℕ) → Option (List ℕ) → Type 0
 IsReadFor status.Done before after = IsAtEnd after
 IsReadFor status.Refused before after = IsAtEnd after
@@ -32,7 +32,7 @@ IsReadFor status.ReadFault before after = ⊤
 IsReadFor status.WriteFault before after = ⊤
 IsReadFor status.Memory before after = ⊤
 
--- the effect of a call on a source in which a read may have failed: the bytes left, and its count of faults
+-- the effect of a call on a source: it took at most one byte more than the judge accepts, and the count of faults rose only if a read failed
 pub record Reading (failed : Type 0) (before after : Option (List ℕ)) (faults faults_after : ℕ) : Type 0 where
   pub most : TakesAtMost (most_input + 1) before after
   pub counted : failed → Rose faults faults_after

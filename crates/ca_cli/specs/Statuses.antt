@@ -4,7 +4,7 @@ use Rattle.ca_questions.specs.Replies.{Reply}
 use Rattle.ca_cli.specs.declared.status.Status.{Status}
 use Rattle.ca_cli.specs.declared.status.Status.TheVariants.{Done, Refused, Usage, RuleFault, NotFit, TooLong, ReadFault, WriteFault, Memory}
 
--- the exit status of the program
+-- the number with which the program exits for a status
 abbrev pub code_of : Status → ℕ
 code_of Done = 0
 code_of Refused = 1
@@ -16,7 +16,7 @@ code_of ReadFault = 6
 code_of WriteFault = 7
 code_of Memory = 8
 
--- the status belongs to an answer, and isn't a failure on the way
+-- the status belongs to an answer, and not to a failure before the end, such as a failed write
 abbrev pub IsAnswered : Status → Type 0
 IsAnswered Done = ⊤
 IsAnswered Refused = ⊤

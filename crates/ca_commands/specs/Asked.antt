@@ -1,4 +1,4 @@
--- Which question a command asks of its rules, and which of its operands is refused.
+-- Which question a command asks about its rules, and which of its operands is refused.
 use Rattle.std.specs.Prelude.{◌≡◌, ℕ, ◌+◌, List, [], ◌∷◌, map, Option, Some, None, ℤ}
 use Rattle.word_image.specs.Digits.{letter_at}
 use Rattle.word_image.specs.LocalRules.{LocalRule}
@@ -17,18 +17,18 @@ use Rattle.ca_questions.specs.Samples.{survey_rules, sample_rules, sample_fault}
 
 -- The question
 
--- the texts are those of the rules, in order
+-- the texts in the first list are texts of the rules in the second list, in order
 pub data AreRuleTexts : List (List ℕ) → List LocalRule → Type 0 where
   NoText : AreRuleTexts [] []
   More : (text : List ℕ) (texts : List (List ℕ)) (r : LocalRule) (rules : List LocalRule) → IsRuleText text r → AreRuleTexts texts rules
       → AreRuleTexts (text ∷ texts) (r ∷ rules)
 
--- the weights that operands name
+-- the weights that the operands of a command name, or None if there are no operands
 abbrev pub weights_in : List (List ℕ) → Option (List ℕ)
 weights_in [] = None
 weights_in (text ∷ _) = Some (weights_said text)
 
--- a command of this name asks the question, of these rules and with these operands
+-- a command of this name asks this question, about these rules and with these operands
 pub data Asks : Name → List LocalRule → List (List ℕ) → Question → Type 0 where
   Decide : (r : LocalRule) (operands : List (List ℕ)) → Asks name.Decide (r ∷ []) operands (Question.Report r (weights_in operands))
   Certify : (r : LocalRule) (operands : List (List ℕ)) → Asks name.Certify (r ∷ []) operands (Question.Certify version.Two r (weights_in operands))
@@ -56,7 +56,7 @@ pub data Asks : Name → List LocalRule → List (List ℕ) → Question → Typ
   Classes : (k m from count : List ℕ) → numbers_fault (decimal_value k) (decimal_value m) (decimal_value from) (decimal_value count) ≡ None
       → Asks name.Classes [] (k ∷ m ∷ from ∷ count ∷ []) (Question.Classes (survey_rules (decimal_value k) (decimal_value m) (decimal_value from) (decimal_value count)))
 
--- the command asks the question, of the rules whose texts it has
+-- the command asks the question about the rules whose texts it has
 pub record IsAsked (c : Command) (q : Question) : Type 0 where
   pub rules : List LocalRule
   pub texts : AreRuleTexts c.rules rules
@@ -64,13 +64,13 @@ pub record IsAsked (c : Command) (q : Question) : Type 0 where
 
 -- Operands that are refused
 
--- the first text with a fault has this number, from 1 on, and this is its first fault
+-- i is the number of the first text with a fault, counting from 1, and f is the first fault of this text
 pub data IsFirstFault : List (List ℕ) → ℕ → TextFault → Type 0 where
   Here : (text : List ℕ) (texts : List (List ℕ)) (f : TextFault) → IsTextFault text f → IsFirstFault (text ∷ texts) 1 f
   Later : (text : List ℕ) (texts : List (List ℕ)) (r : LocalRule) (i : ℕ) (f : TextFault) → IsRuleText text r → IsFirstFault texts i f
       → IsFirstFault (text ∷ texts) (i + 1) f
 
--- there are no rules of the shape with the numbers that the operands say, and this is the first fault
+-- no rules have the shape and the numbers that the operands give, and this is the first fault
 pub data IsShapeFault : Form → List (List ℕ) → TextFault → Type 0 where
   Numbers : (k m from count : List ℕ) (f : TextFault) → numbers_fault (decimal_value k) (decimal_value m) (decimal_value from) (decimal_value count) ≡ Some f
       → IsShapeFault Form.Numbers (k ∷ m ∷ from ∷ count ∷ []) f

@@ -1,4 +1,4 @@
--- What words ask, or why they ask nothing.
+-- What the words of a command line ask, or why nothing is found for them.
 use Rattle.std.specs.Prelude.{◌≡◌, ℕ, List, [], ◌∷◌, None, ⊤}
 use Rattle.word_image.specs.LocalRules.{LocalRule}
 use Rattle.rule_text.specs.declared.text_fault.TextFault.{TextFault}
@@ -34,18 +34,18 @@ pub record Ask (words : List (List ℕ)) (q : Question) : Type 0 where
   pub is : IsCommand words command
   pub asked : IsAsked command q
 
--- the words ask this question, whose parts belong together
+-- the words ask this question, whose parts fit together
 abbrev pub IsAskedBy : List (List ℕ) → code.Question → Type 0
 IsAskedBy words q = Ask words (question_of q) × IsWhole q
 
--- nothing is found for the words: they are no command, or one of its operands is refused, or nothing fits its question, or there was no memory
+-- the reason why nothing is found for the words: they are no command, or one of its operands is refused, or nothing fits its question, or there is no memory
 abbrev pub IsStop : List (List ℕ) → Stop → Type 0
 IsStop words stop.Usage = (c : Command) → ¬ IsCommand words c
 IsStop words (stop.RuleFault operand f) = (c : Command) × IsCommand words c × IsOperandFault c operand f
 IsStop words (stop.Unfit u) = (q : Question) × Ask words q × IsUnfitFor q (unfit_of u)
 IsStop words (stop.Memory _) = ⊤
 
--- the operands behind the name say the numbers of these rules
+-- the operands of a command of this name give the shape, the first number and the count of these rules
 pub record AreNumberedBy (n : Name) (operands : List (List ℕ)) (rules : Numbered) : Type 0 where
   pub k : List ℕ
   pub m : List ℕ
@@ -55,7 +55,7 @@ pub record AreNumberedBy (n : Name) (operands : List (List ℕ)) (rules : Number
   pub are : AreNumbered rules
   pub rules_are : rules ≡ record { states = decimal_value k; width = decimal_value m; first = decimal_value first; count = decimal_value count }
 
--- the operands of `sample` say the seed of these rules
+-- the operands of `sample` give the shape, the seed and the count of these rules
 pub record AreDrawnBy (operands : List (List ℕ)) (rules : Drawn) : Type 0 where
   pub k : List ℕ
   pub m : List ℕ
@@ -66,7 +66,7 @@ pub record AreDrawnBy (operands : List (List ℕ)) (rules : Drawn) : Type 0 wher
   pub accepted : sample_fault (decimal_value k) (decimal_value m) ≡ None
   pub rules_are : rules ≡ record { states = decimal_value k; width = decimal_value m; seed = decimal_value seed; count = decimal_value count }
 
--- the text, the operand with this number, isn't one of a rule
+-- the operand with this number isn't the text of a rule, and the reason names its first fault
 pub record IsRuleFault (operand : ℕ) (text : List ℕ) (s : Stop) : Type 0 where
   pub fault : TextFault
   pub is : s ≡ stop.RuleFault operand fault

@@ -7,7 +7,7 @@ use Rattle.ca_commands.specs.WeightTexts.{AreWeightTexts}
 use Rattle.ca_commands.specs.declared.names.Name.{Name}
 use Rattle.ca_commands.specs.declared.names.Name.TheVariants as name
 
--- the word of a name
+-- the word for the name of a command
 abbrev pub word_of : Name → List ℕ
 word_of name.Decide = codes "decide"
 word_of name.Orphan = codes "orphan"
@@ -33,7 +33,7 @@ word_of name.Sample = codes "sample"
 word_of name.Classes = codes "classes"
 word_of name.Check = codes "check"
 
--- how many rules stand behind the name
+-- how many texts of rules follow the name of a command
 abbrev pub rule_count : Name → ℕ
 rule_count name.Compose = 2
 rule_count name.Same = 2
@@ -43,7 +43,7 @@ rule_count name.Classes = 0
 rule_count name.Check = 0
 rule_count _ = 1
 
--- what stands behind the rules of a command: nothing, weights or nothing, an offset, a width of one digit, new letters, a configuration, or numbers or a seed of many rules
+-- what follows the rules of a command: nothing, weights or nothing, an offset, a width of one digit, new letters, a configuration, or numbers or a seed of many rules
 pub data Form : Type 0 where
   Nothing : Form
   Weights : Form
@@ -54,7 +54,7 @@ pub data Form : Type 0 where
   Numbers : Form
   Seed : Form
 
--- the form of the operands behind the rules
+-- the form of the operands that follow the rules of a command
 abbrev pub form_of : Name → Form
 form_of name.Decide = Form.Weights
 form_of name.Certify = Form.Weights
@@ -68,13 +68,13 @@ form_of name.Classes = Form.Numbers
 form_of name.Sample = Form.Seed
 form_of _ = Form.Nothing
 
--- no operand may stand behind the rules
+-- a command with operands of this form may have none
 abbrev pub MayBeNone : Form → Type 0
 MayBeNone Form.Nothing = ⊤
 MayBeNone Form.Weights = ⊤
 MayBeNone _ = ⊥
 
--- the one operand behind the rules has this form
+-- the text is the one operand of a command with operands of this form
 abbrev pub IsOperand : Form → List ℕ → Type 0
 IsOperand Form.Weights text = AreWeightTexts text
 IsOperand Form.Offset text = (o : ℤ) × IsOffset text o
@@ -83,34 +83,34 @@ IsOperand Form.Colours text = AreColours text
 IsOperand Form.Tail text = HasForm text
 IsOperand _ text = ⊥
 
--- where many rules begin: a number of up to 39 digits, or a seed
+-- the text says at which number or with which seed many rules begin: it is a number of up to 39 digits, or a seed
 abbrev pub IsBeginning : Form → List ℕ → Type 0
 IsBeginning Form.Numbers text = IsDecimal 1 39 text
 IsBeginning Form.Seed text = IsSeed text
 IsBeginning _ text = ⊥
 
--- the operands behind the rules: none, or one, or the states, the width, where many rules begin and how many there are
+-- the operands that follow the rules have this form: there are none, or one, or four, which are the states, the width, the first number or the seed, and how many rules there are
 abbrev pub AreOperands : Form → List (List ℕ) → Type 0
 AreOperands f [] = MayBeNone f
 AreOperands f (text ∷ []) = IsOperand f text
 AreOperands f (states ∷ width ∷ from ∷ count ∷ []) = IsDecimal 1 2 states × IsDecimal 1 2 width × IsBeginning f from × IsCount count
 AreOperands f _ = ⊥
 
--- a command with its operands as they stand on the command line; a rule may be any word
+-- a command has a name, the texts of its rules and its other operands, as they are on the command line; the text of a rule may be any word
 pub record Command : Type 0 where
   pub name : Name
   pub rules : List (List ℕ)
   pub operands : List (List ℕ)
 
--- the command that reads, which has no operands
+-- the command `check`, which reads an input and has no operands
 abbrev pub check_command : Command
 check_command = record { name = name.Check; rules = []; operands = [] }
 
--- the words of a command
+-- the words of a command: its name, the texts of its rules and its operands
 abbrev pub words_of : Command → List (List ℕ)
 words_of c = word_of c.name ∷ c.rules ++ c.operands
 
--- the words are those of the command, it has its rules, and its operands are well formed
+-- the words are those of the command, it has as many rules as its name needs, and its operands are well formed
 pub record IsCommand (words : List (List ℕ)) (c : Command) : Type 0 where
   pub words_are : words ≡ words_of c
   pub rules : length c.rules ≡ rule_count c.name

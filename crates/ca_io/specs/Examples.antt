@@ -1,4 +1,4 @@
--- Worked examples of a sink and a source in memory, which the check computes.
+-- Worked examples of a sink and a source in memory, which the prover computes.
 use Rattle.std.specs.Prelude.{◌≡◌, refl, true, false, [], ◌∷◌, codes}
 use Rattle.ca_io.specs.Faults.{count_up}
 use Rattle.ca_io.specs.Trays.{Tray, empty_tray, after_taking, after_fault}
@@ -6,7 +6,7 @@ use Rattle.ca_io.specs.Trays as tray
 use Rattle.ca_io.specs.Feeds.{Feed, whole_feed, after_giving}
 use Rattle.ca_io.specs.Feeds as feed
 
--- A count of faults rises by one, and stops at its greatest
+-- A count of faults rises by one, and stops at its greatest value
 
 count_up-small : count_up 3 ≡ 4
 count_up-small = refl
@@ -14,7 +14,7 @@ count_up-small = refl
 count_up-greatest : count_up 18446744073709551615 ≡ 18446744073709551615
 count_up-greatest = refl
 
--- Room for three bytes, one in a call, and the call 1 fails
+-- A sink that has room for three bytes and takes one byte in a call, and whose call 1 fails
 
 abbrev pub small_tray : Tray
 small_tray = empty_tray 3 1 (1 ∷ [])
@@ -31,7 +31,7 @@ third_write = refl
 full_tray : tray.next_write_fails (after_taking small_tray (codes "aeg")) ≡ true
 full_tray = refl
 
--- Three bytes, two in a call, and the call 1 fails
+-- A source that has three bytes and gives two bytes in a call, and whose call 1 fails
 
 abbrev pub small_feed : Feed
 small_feed = whole_feed (codes "abc") 2 (1 ∷ [])

@@ -16,15 +16,15 @@ pub record Feed : Type 0 where
   -- the bytes that are still to come
   pub left : List ℕ
 
--- a feed that no call has touched
+-- the feed with all these bytes, before its first call
 abbrev pub whole_feed : List ℕ → ℕ → List ℕ → Feed
 whole_feed bytes piece failing = record { piece = piece; failing = failing; calls = 0; faults = 0; left = bytes }
 
--- the number of the next call is listed
+-- the next call fails, since its number is listed
 abbrev pub next_read_fails : Feed → Bool
 next_read_fails f = list_any (λ n. n == f.calls) f.failing
 
--- the number of bytes that the next call gives into a buffer of this length if it doesn't fail: at most the greatest length of a piece and the number of bytes left
+-- the number of bytes that the next call gives into a buffer of this length if the call doesn't fail: at most the greatest length of a piece and the number of bytes left
 abbrev pub count_to_give : Feed → ℕ → ℕ
 count_to_give f len = min len (min f.piece (length f.left))
 

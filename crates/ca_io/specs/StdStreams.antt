@@ -1,4 +1,4 @@
--- The parts of a source or sink over a reader or writer of std that clauses name.
+-- The parts of a source over a reader of std and of a sink over a writer of std, which contracts name.
 use Rattle.std.specs.Prelude.{ℕ}
 use Rattle.ca_io.specs.declared.standard.StdSource.{StdSource}
 use Rattle.ca_io.specs.declared.standard.StdSink.{StdSink}

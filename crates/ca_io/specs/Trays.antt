@@ -5,7 +5,7 @@ use Rattle.ca_io.specs.Faults.{count_up}
 
 -- the parts of a sink in memory, and the results of its calls so far
 pub record Tray : Type 0 where
-  -- how many bytes it takes in all
+  -- how many bytes the sink takes in all
   pub room : ℕ
   -- how many bytes one call takes at most
   pub piece : ℕ
@@ -18,16 +18,16 @@ pub record Tray : Type 0 where
   -- the bytes taken so far
   pub taken : List ℕ
 
--- a tray that no call has touched
+-- the tray with this room and nothing in it, before its first call
 abbrev pub empty_tray : ℕ → ℕ → List ℕ → Tray
 empty_tray room piece failing =
     record { room = room; piece = piece; failing = failing; calls = 0; faults = 0; taken = [] }
 
--- the number of the next call is listed, or the room is used up
+-- the next call fails, since its number is listed or the room is used up
 abbrev pub next_write_fails : Tray → Bool
 next_write_fails t = list_any (λ n. n == t.calls) t.failing || nat_le t.room (length t.taken)
 
--- the number of bytes of a piece of this length that the next call takes if it doesn't fail: at most the greatest length of a piece and the rest of the room
+-- the number of bytes that the next call takes from a piece of this length if the call doesn't fail: at most the greatest length of a piece and the rest of the room
 abbrev pub count_to_take : Tray → ℕ → ℕ
 count_to_take t len = min len (min t.piece (t.room - length t.taken))
 

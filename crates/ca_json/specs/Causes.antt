@@ -1,4 +1,4 @@
--- The JSON of why nothing fits, of the fault of an operand, and of a refusal.
+-- The JSON of a cause why nothing fits, of the fault of an operand, and of a refusal.
 use Rattle.std.specs.Prelude.{ℕ, List, [], ◌∷◌, ◌++◌, codes, Option, Some, None}
 use Rattle.serde_json.specs.Data.{Data, null, string, Members, put}
 use Rattle.tail_config.specs.declared.faults.TailFault.{TailFault}
@@ -12,14 +12,14 @@ use Rattle.cert_conditions.specs.declared.refusal_parts.RefusalNumbers.TheVarian
 use Rattle.cert_conditions.specs.RefusalParts.{Parts}
 use Rattle.ca_json.specs.Values.{object_of, tagged, status, numbers_json, two}
 
--- why three parts make no configuration
+-- the word for the reason why three parts don't form a configuration
 abbrev pub tail_name : TailFault → List ℕ
 tail_name tail.LeftEmpty = codes "leftempty"
 tail_name tail.RightEmpty = codes "rightempty"
 tail_name (tail.Long part) = codes "long"
 tail_name (tail.Letter part place) = codes "letter"
 
--- why nothing fits, under a key that says its kind
+-- the JSON of a cause why nothing fits, under a key that says its kind
 abbrev pub unfit_json : Unfit → Data
 unfit_json (Unfit.Twins x y) = tagged (codes "twins") (two (word_value x) (word_value y))
 unfit_json (Unfit.Wide n) = tagged (codes "wide") (whole_value n)
@@ -30,33 +30,33 @@ unfit_json (Unfit.Tail f) = tagged (codes "tail") (string (tail_name f))
 unfit_json Unfit.Weights = tagged (codes "weights") null
 unfit_json Unfit.States = tagged (codes "states") null
 
--- -- an operand with a fault of this kind, and the place of the fault if it has one
+-- the JSON of an operand with a fault of this kind, with the place of the fault if it has one
 abbrev pub operand_json : ℕ → List ℕ → Option ℕ → Data
 operand_json operand name None = object_of ((codes "fault", string name) ∷ (codes "operand", whole_value operand) ∷ status (codes "rulefault") ∷ [])
 operand_json operand name (Some place) = object_of (
     (codes "fault", string name) ∷ (codes "operand", whole_value operand) ∷ (codes "place", whole_value place) ∷ status (codes "rulefault") ∷ [])
 
--- Of a refused certificate
+-- The JSON of a refused certificate
 
--- a word under its key, if there is one
+-- the member of a key and a word, or no member if there is no word
 abbrev pub named : List ℕ → Option (List ℕ) → List (List ℕ × Data)
 named key None = []
 named key (Some word) = (key, string word) ∷ []
 
--- the numbers of a refusal as a list
+-- the JSON list of the numbers of a refusal
 abbrev pub places_json : RefusalNumbers → Data
 places_json numbers.None = numbers_json []
 places_json (numbers.One a) = numbers_json (a ∷ [])
 places_json (numbers.Two a b) = numbers_json (a ∷ b ∷ [])
 places_json (numbers.Three a b c) = numbers_json (a ∷ b ∷ c ∷ [])
 
--- the parts of a refusal under their keys
+-- the JSON object of a refusal: its parts under their keys
 abbrev pub parts_json : Parts → Data
 parts_json p = object_of (
     (codes "at", places_json p.numbers) ∷ (named (codes "because") p.because ++ ((codes "cause", string p.cause) ∷ (named (codes "fault") p.fault
     ++ (named (codes "key") p.key ++ (named (codes "side") p.side ++ (status (codes "refused") ∷ [])))))))
 
--- members, and a word under its key, if there is one
+-- the members with one more, which has this key and this word, or the same members if there is no word
 abbrev pub put_named : List ℕ → Option (List ℕ) → Members → Members
 put_named key None ms = ms
 put_named key (Some word) ms = put key (string word) ms

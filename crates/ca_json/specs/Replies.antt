@@ -12,13 +12,13 @@ use Rattle.ca_json.specs.Values.{object_of, status, numbers_json}
 use Rattle.ca_json.specs.Findings.{finding_json}
 use Rattle.ca_json.specs.Causes.{unfit_json, operand_json, parts_json}
 
--- the verdicts of an accepted certificate
+-- the JSON of the verdicts of an accepted certificate
 abbrev pub verdicts_json : Verdicts → Data
 verdicts_json v = object_of (
     (codes "conserving", boolean v.conserving) ∷ (codes "injective", boolean v.injective) ∷ (codes "left", boolean v.left) ∷ (codes "open", boolean (is_open v))
     ∷ (codes "right", boolean v.right) ∷ (codes "rule", string (printed_rule v.rule)) ∷ (codes "surjective", boolean v.surjective) ∷ (codes "weights", numbers_json v.weights) ∷ [])
 
--- the object that a reply is, with its status
+-- the JSON object of a reply, with the status of the reply
 abbrev pub json_of : Reply → Data
 json_of (Reply.Found f) = object_of ((codes "finding", finding_json f) ∷ status (codes "done") ∷ [])
 json_of (Reply.NoFit u) = object_of ((codes "cause", unfit_json u) ∷ status (codes "notfit") ∷ [])
@@ -28,6 +28,6 @@ json_of (Reply.Refused f) = parts_json (parts_of f)
 json_of Reply.TooLong = object_of (status (codes "toolong") ∷ [])
 json_of Reply.Usage = object_of (status (codes "usage") ∷ [])
 
--- the text of a reply: keys ascending, and no blanks
+-- the JSON text of a reply: its keys ascend, and it has no blanks
 abbrev pub json_text : Reply → List ℕ
 json_text reply = compact_text (json_of reply)

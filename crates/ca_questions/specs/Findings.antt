@@ -1,4 +1,4 @@
--- Findings as values, which of them are right for a question, and the causes why nothing fits.
+-- Findings as values, which of them are right for a question, and the causes why a question has no finding.
 use Rattle.std.specs.Prelude.{◌≡◌, ◌≢◌, ℕ, ◌^◌, ◌<◌, ◌≤◌, List, length, slice_index, Bool, Option, Some, None, ℤ, ⊤}
 use Rattle.word_image.specs.LocalRules.{LocalRule, IsRule, mirrored}
 use Rattle.word_image.specs.Words.{IsSurjective}
@@ -28,7 +28,7 @@ use Rattle.ca_questions.specs.Questions.{Question}
 use Rattle.rule_text.specs.PrintedRules.{number_found}
 use Rattle.ca_questions.specs.Counts.{Counts, AreCounts, AreLeastRules}
 
--- a finding
+-- a finding answers a question, with one case for each kind of answer
 pub data Finding : Type 0 where
   Report : (evidence : Evidence) → Finding
   Written : (certificate : Certificate) → Finding
@@ -44,7 +44,7 @@ pub data Finding : Type 0 where
   Summary : (counts : Counts) → Finding
   Classes : (counts : Counts) (classes : ℕ) → Finding
 
--- a cause why nothing fits
+-- a cause why nothing fits a question, so that the question has no finding
 pub data Unfit : Type 0 where
   Twins : (x y : List ℕ) → Unfit
   Wide : (n : ℕ) → Unfit
@@ -74,12 +74,12 @@ AreFor (Some weights) r = length weights ≡ r.states
 
 -- What is right
 
--- the map is this rule, or no rule because it breaks a limit of rules
+-- this rule is the map as a rule, or None if the map breaks a limit of rules
 abbrev pub IsMapRule : WindowMap → Option LocalRule → Type 0
 IsMapRule g None = ¬ IsRule (map_rule g)
 IsMapRule g (Some r) = IsRule (map_rule g) × (r ≡ map_rule g)
 
--- the rule is injective, and this is its inverse map over the least determined window
+-- the rule is injective, and g is its inverse map over the least determined window
 pub record IsInverseFound (r : LocalRule) (n c : ℕ) (g : WindowMap) (rule : Option LocalRule) : Type 0 where
   pub injective : IsInjective r
   pub least : IsLeastDetermined r n c

@@ -34,18 +34,18 @@ question_of (asked.Survey n) = Question.Summary (survey_rules n.states n.width n
 question_of (asked.Sample d) = Question.Summary (sample_rules d.states d.width d.seed d.count)
 question_of (asked.Classes n) = Question.Classes (survey_rules n.states n.width n.first n.count)
 
--- each of these numbers has a rule, and there are from 1 to 4,096
+-- each of these consecutive numbers has a rule, and there are from 1 to 4,096 of them
 pub record AreNumbered (n : Numbered) : Type 0 where
   pub accepted : numbers_fault n.states n.width n.first n.count ≡ None
   pub some : 1 ≤ n.count
   pub few : n.count ≤ 4096
 
--- there are rules of this shape, and at most 4,096 are drawn
+-- there are rules of this shape, and at most 4,096 of them are drawn
 pub record AreDrawn (d : Drawn) : Type 0 where
   pub shape : IsShape d.states d.width (pos 0)
   pub few : d.count ≤ 4096
 
--- the parts of a question fit together
+-- the parts of the question fit together
 abbrev pub IsWhole : code.Question → Type 0
 IsWhole (asked.Certify v r weights) = names_weights v ≡ true
 IsWhole (asked.Preimage r t) = r.states ≡ t.states

@@ -1,10 +1,10 @@
--- Questions as values: rules, weights, numbers and configurations, without texts.
+-- The questions that commands ask, as values: they have rules, weights, numbers and configurations instead of texts.
 use Rattle.std.specs.Prelude.{ℕ, List, Option, ℤ, All}
 use Rattle.word_image.specs.LocalRules.{LocalRule, IsRule}
 use Rattle.tail_config.specs.Tails.{TailConfig}
 use Rattle.cert_values.specs.declared.cert_version.CertVersion.{CertVersion}
 
--- a question; if it has no weights, each letter weighs its own value
+-- a question about rules, weights, numbers and configurations; if it has no weights, each letter weighs its own value
 pub data Question : Type 0 where
   Report : (r : LocalRule) (weights : Option (List ℕ)) → Question
   Certify : (version : CertVersion) (r : LocalRule) (weights : Option (List ℕ)) → Question

@@ -5,7 +5,7 @@ use Rattle.cert_conditions.specs.declared.refusal.Refusal.{Refusal}
 use Rattle.cert_conditions.specs.declared.verdicts.Verdicts.{Verdicts}
 use Rattle.ca_questions.specs.Findings.{Finding, Unfit}
 
--- a finding, a cause why nothing fits, the fault of an operand, the result of judging an input, or that the words are no command
+-- a reply is a finding, a cause why nothing fits, the fault of an operand, the result of judging an input, or that the words are no command
 pub data Reply : Type 0 where
   Found : (finding : Finding) → Reply
   NoFit : (cause : Unfit) → Reply

@@ -12,24 +12,24 @@ use Rattle.rule_verdicts.specs.Numbers.{numbered_rule}
 abbrev pub survey_rules : ℕ → ℕ → ℕ → ℕ → List LocalRule
 survey_rules k m from count = map (numbered_rule k m) (range_with_len from count)
 
--- the state after the next draw
+-- the state of the generator after the next draw
 unfoldable pub next_state : ℕ → ℕ
 next_state s = (s * 6364136223846793005 + 1442695040888963407) % 2 ^ 64
 
--- the state after n draws
+-- the state of the generator after n draws
 unfoldable pub state_after : ℕ → ℕ → ℕ
 state_after s zero = s
 state_after s (suc n) = next_state (state_after s n)
 
--- the letter below k of draw i, starting at this state and counting from 0
+-- the letter below k of draw i, counting from 0, if the generator begins at the state s
 unfoldable pub drawn : ℕ → ℕ → ℕ → ℕ
 drawn k s i = (state_after s (i + 1) / 2 ^ 33) % k
 
--- the rule of k states, width m and offset 0 whose table has the letters of the next k ^ m draws
+-- the rule of k states, width m and offset 0 whose table has the letters of the next k ^ m draws from the state s
 abbrev pub drawn_rule : ℕ → ℕ → ℕ → LocalRule
 drawn_rule k m s = record { states = k; width = m; offset = pos 0; table = map (drawn k s) (range_with_len 0 (k ^ m)) }
 
--- the first rules that are drawn, starting at this state: each begins with the state after the one before it
+-- the first `count` rules that are drawn from the state s: the draws of each rule begin at the state after the draws of the rule before it
 unfoldable pub sample_rules : ℕ → ℕ → ℕ → ℕ → List LocalRule
 sample_rules k m s zero = []
 sample_rules k m s (suc count) = drawn_rule k m s ∷ sample_rules k m (state_after s (k ^ m)) count

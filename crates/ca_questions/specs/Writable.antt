@@ -1,4 +1,4 @@
--- Values that can be written: each letter has a digit, and an automaton has all its rows.
+-- Values that can be written: each letter is below 16, so it has a hexadecimal digit, and an automaton has all its rows.
 use Rattle.std.specs.Prelude.{◌≡◌, ◌*◌, ◌≤◌, ℕ, List, Option, length, IfSome, ⊤}
 use Rattle.word_image.specs.LocalRules.{IsWord}
 use Rattle.tail_config.specs.Tails.{TailConfig}
@@ -7,35 +7,35 @@ use Rattle.cert_values.specs.Evidence.{InjectiveEvidence, SumEvidence, Window, T
 use Rattle.ca_questions.specs.Findings.{Finding, Unfit}
 use Rattle.ca_questions.specs.Replies.{Reply}
 
--- the letters of a word, if there is one, have digits
+-- if there is a word, its letters are below 16
 abbrev pub HasDigits : Option (List ℕ) → Type 0
 HasDigits word = IfSome word (IsWord 16)
 
--- the letters of two words have digits
+-- if there is a pair of words, their letters are below 16
 abbrev pub HavePairDigits : Option (List ℕ × List ℕ) → Type 0
 HavePairDigits pair = IfSome pair (λ p. IsWord 16 p.0 × IsWord 16 p.1)
 
--- the letters of twins have digits
+-- if the evidence is twins, their letters are below 16
 abbrev pub HasTwinDigits : InjectiveEvidence → Type 0
 HasTwinDigits (Window n c) = ⊤
 HasTwinDigits (Twins x y) = IsWord 16 x × IsWord 16 y
 
--- the letters of a ring have digits
+-- if the evidence is a ring, its letters are below 16
 abbrev pub HasRingDigits : SumEvidence → Type 0
 HasRingDigits (Flux phi) = ⊤
 HasRingDigits (Ring p) = IsWord 16 p
 
--- the letters of a configuration have digits
+-- the letters of the three parts of the configuration are below 16
 abbrev pub HasTailDigits : TailConfig → Type 0
 HasTailDigits t = IsWord 16 t.left × IsWord 16 t.middle × IsWord 16 t.right
 
--- there is a following class for each class and each letter, and there are at most 16 letters
+-- the automaton has a following class for each class and each letter, and from 1 to 16 letters
 pub record HasRows (m : Automaton) : Type 0 where
   pub some : 1 ≤ m.states
   pub most : m.states ≤ 16
   pub long : length m.next ≡ m.classes * m.states
 
--- a finding can be written
+-- the finding can be written: the letters of its words are below 16, and its automaton has all its rows
 abbrev pub IsWritable : Finding → Type 0
 IsWritable (Finding.Report e) = HasDigits e.orphan × HasTwinDigits e.injective × HasRingDigits e.conserving
 IsWritable (Finding.Orphan orphan) = HasDigits orphan
@@ -46,12 +46,12 @@ IsWritable (Finding.Preimage p) = HasTailDigits p.config
 IsWritable (Finding.Gap before after w) = IsWord 16 w
 IsWritable _ = ⊤
 
--- a cause can be written
+-- the cause can be written: if it is twins, their letters are below 16
 abbrev pub IsWritableUnfit : Unfit → Type 0
 IsWritableUnfit (Unfit.Twins x y) = IsWord 16 x × IsWord 16 y
 IsWritableUnfit _ = ⊤
 
--- a reply can be written
+-- the reply can be written: its finding or its cause can
 abbrev pub IsWritableReply : Reply → Type 0
 IsWritableReply (Reply.Found f) = IsWritable f
 IsWritableReply (Reply.NoFit u) = IsWritableUnfit u

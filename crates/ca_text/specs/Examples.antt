@@ -1,11 +1,11 @@
--- Lines worked by hand, which the check computes.
+-- Lines of the output, worked by hand, which the prover computes.
 use Rattle.std.specs.Prelude.{◌≡◌, refl, ◌∷◌, [], codes, Some}
 use Rattle.std.specs.Fmt.{digits}
 use Rattle.rule_text.specs.declared.text_fault.TextFault.TheVariants as fault
 use Rattle.ca_text.specs.Reports.{line, number_line, surjective_line}
 use Rattle.ca_text.specs.StatusLines.{operand_fault_line}
 
--- letters from 10 on are written a, b, ..
+-- letters from 10 to 15 are written a to f
 line_of_an_orphan : surjective_line (Some (0 ∷ 1 ∷ 9 ∷ 10 ∷ 15 ∷ [])) ≡ codes "surjective no orphan 019af\n"
 line_of_an_orphan = refl
 
@@ -14,7 +14,7 @@ fault_with_place : operand_fault_line 1 (fault.Form 3) ≡ line (codes "rule fau
 unfolding digits
 fault_with_place = refl
 
--- a fault without a place is only its kind
+-- a fault without a place is written as its kind only
 fault_without_place : operand_fault_line 2 fault.Nodes ≡ line (codes "rule fault 2 nodes")
 unfolding digits
 fault_without_place = refl

@@ -8,31 +8,31 @@ use Rattle.rule_text.specs.PrintedRules.{printed_rule, offset_text, number_found
 use Rattle.cert_values.specs.Evidence.{InjectiveEvidence, SideEvidence, SumEvidence, Window, Twins, Ahead, Split, Flux, Ring, says_open}
 use Rattle.certificate_laws.specs.LeastEvidence.{Evidence}
 
--- a text and the byte at the end of a line
+-- the line of a text: the text and the byte at the end of a line
 abbrev pub line : List ℕ → List ℕ
 line text = text ++ 10 ∷ []
 
--- a number, or that there is none
+-- the line with the number of a rule, or with none if it has none
 abbrev pub number_line : Option ℕ → List ℕ
 number_line None = line (codes "number none")
 number_line (Some n) = line (codes "number " ++ decimal n)
 
--- every word has a preimage, or this is an orphan
+-- the line that says whether a rule is surjective: yes, or no with an orphan
 abbrev pub surjective_line : Option (List ℕ) → List ℕ
 surjective_line None = line (codes "surjective yes")
 surjective_line (Some w) = line (codes "surjective no orphan " ++ word_text w)
 
--- a window, or twins
+-- the line that says whether a rule is injective: yes with a window, or no with twins
 abbrev pub injective_line : InjectiveEvidence → List ℕ
 injective_line (Window n c) = line (codes "injective yes window " ++ decimal n ++ codes " " ++ decimal c)
 injective_line (Twins x y) = line (codes "injective no twins " ++ word_text x ++ codes " " ++ word_text y)
 
--- the line of a side with its name: a look-ahead, or a split
+-- the line that says whether a rule is closing on the side with this name: yes with a look-ahead, or no with a split
 abbrev pub side_line : List ℕ → SideEvidence → List ℕ
 side_line name (Ahead n) = line (name ++ codes " yes ahead " ++ decimal n)
 side_line name (Split x y) = line (name ++ codes " no split " ++ tail.printed x ++ codes " " ++ tail.printed y)
 
--- a flux, or a ring
+-- the line that says whether a rule is conserving: yes with a flux, or no with a ring
 abbrev pub conserving_line : SumEvidence → List ℕ
 conserving_line (Flux phi) = line (codes "conserving yes flux" ++ flat_map (λ z. codes " " ++ offset_text z) phi)
 conserving_line (Ring p) = line (codes "conserving no ring " ++ word_text p)

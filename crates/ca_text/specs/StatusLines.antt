@@ -1,4 +1,4 @@
--- The lines of the statuses: of words, operands, inputs and certificates.
+-- The lines of replies other than findings: about words that are no command, operands with faults, causes why nothing fits, inputs that are too long, and certificates.
 use Rattle.std.specs.Prelude.{ℕ, Bool, List, [], ◌++◌, length, codes, bytes_eq, if◌then◌else◌, Option, Some, None}
 use Rattle.std.specs.List.{join_by}
 use Rattle.std.specs.Fmt.{decimal}
@@ -14,54 +14,54 @@ use Rattle.cert_conditions.specs.RefusalParts.{Parts, parts_of}
 use Rattle.cert_conditions.specs.Accepted.{is_open}
 use Rattle.ca_text.specs.Reports.{line}
 
--- the words are no command
+-- the line if the words are no command
 abbrev pub usage_line : List ℕ
 usage_line = line (codes "usage error")
 
--- the operand with this number has this fault
+-- the line if the operand with this number has this fault
 abbrev pub operand_fault_line : ℕ → TextFault → List ℕ
 operand_fault_line operand f = line (codes "rule fault " ++ decimal operand ++ codes " " ++ fault_text f)
 
--- the input is too long
+-- the line if the input is too long
 abbrev pub too_long_line : List ℕ
 too_long_line = line (codes "too long")
 
--- the line of a cause why nothing fits
+-- the line of a cause why nothing fits, given by its words
 abbrev pub unfit_line : List ℕ → List ℕ
 unfit_line text = line (codes "notfit " ++ text)
 
--- Of an accepted certificate
+-- The lines of an accepted certificate
 
--- a verdict by its name
+-- the line of a verdict: its name, and yes or no
 abbrev pub verdict_line : List ℕ → Bool → List ℕ
 verdict_line name verdict = line (name ++ (if verdict then codes " yes" else codes " no"))
 
--- the weight of each letter, if some letter doesn't weigh its own value
+-- the line with the weight of each letter, or no line if each letter weighs its own value
 abbrev pub weights_lines : List ℕ → List ℕ
 weights_lines weights = if bytes_eq weights (own_weights (length weights)) then [] else line (codes "weights " ++ join_by decimal (codes ",") weights)
 
--- the seven lines, and the line of the weights
+-- the lines of an accepted certificate: its rule, the six verdicts, and its weights if some letter doesn't weigh its own value
 abbrev pub accepted_lines : Verdicts → List ℕ
 accepted_lines v =
     line (codes "accepted " ++ printed_rule v.rule) ++ verdict_line (codes "surjective") v.surjective ++ verdict_line (codes "injective") v.injective
     ++ verdict_line (codes "right") v.right ++ verdict_line (codes "left") v.left ++ verdict_line (codes "open") (is_open v)
     ++ verdict_line (codes "conserving") v.conserving ++ weights_lines v.weights
 
--- Of a refused one
+-- The line of a refused certificate
 
--- a blank and a word, if there is one
+-- a blank and a word, or nothing if there is no word
 abbrev pub word_part : Option (List ℕ) → List ℕ
 word_part None = []
 word_part (Some word) = codes " " ++ word
 
--- a blank and each number
+-- the numbers of a refusal, each after a blank
 abbrev pub number_parts : RefusalNumbers → List ℕ
 number_parts numbers.None = []
 number_parts (numbers.One a) = codes " " ++ decimal a
 number_parts (numbers.Two a b) = codes " " ++ decimal a ++ codes " " ++ decimal b
 number_parts (numbers.Three a b c) = codes " " ++ decimal a ++ codes " " ++ decimal b ++ codes " " ++ decimal c
 
--- the parts of a refusal in their order
+-- the text of a refusal: its parts in their order
 abbrev pub refusal_text : Parts → List ℕ
 refusal_text p = p.cause ++ word_part p.side ++ word_part p.because ++ word_part p.key ++ word_part p.fault ++ number_parts p.numbers
 

@@ -1,4 +1,4 @@
--- The texts of findings, and of causes why nothing fits.
+-- The texts that the program prints for findings, and the words for the causes why nothing fits a question.
 use Rattle.std.specs.Prelude.{ℕ, List, ◌++◌, codes, Option, None, Some}
 use Rattle.std.specs.Fmt.{decimal}
 use Rattle.word_image.specs.Digits.{word_text}
@@ -12,7 +12,7 @@ use Rattle.ca_questions.specs.Findings.{Finding, Unfit}
 use Rattle.ca_text.specs.Reports.{line, number_line, surjective_line, report_lines}
 use Rattle.ca_text.specs.Lines.{map_lines, automaton_lines, placed_text, gap_text, counts_lines, count_line}
 
--- the line of `same`, and of `erase`
+-- the line of the finding of `same`, and below it the line of the finding of `erase`
 abbrev pub same_line : Option (List ℕ) → List ℕ
 same_line None = line (codes "same yes")
 same_line (Some w) = line (codes "same no " ++ word_text w)

@@ -1,4 +1,4 @@
--- The results of checks: of one condition, and of a property of numbers.
+-- The results of checking one condition, and of looking for the first number without a property.
 use Rattle.std.specs.Prelude.{Result, MatchResult, ℕ, Option, MatchOption}
 use Rattle.cert_values.specs.Certificates.{Certificate}
 use Rattle.cert_conditions.specs.declared.condition.Condition.{Condition}
@@ -7,7 +7,7 @@ use Rattle.cert_conditions.specs.Conditions.{Holds}
 use Rattle.cert_conditions.specs.Refusals.{IsBreach}
 use Rattle.cert_conditions.specs.Breaches.{EachBelow, IsFirstBreach}
 
--- the result of checking one condition: it is met, or this is its breach
+-- the result of checking one condition: the condition is met, or the refusal says at which place it isn't
 abbrev pub IsChecked : Certificate → Condition → Result Unit Refusal → Type 0
 IsChecked c one result = MatchResult result (λ _. Holds c one) (IsBreach c one)
 

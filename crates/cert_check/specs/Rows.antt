@@ -1,21 +1,21 @@
--- Rows of bits, which mark sets of nodes.
+-- Rows of bits that mark sets of nodes. A set is a number, in which bit u stands for node u.
 use Rattle.std.specs.Prelude.{ℕ, ◌*◌, ◌/◌, ◌%◌, ◌^◌, ◌≤◌, ◌↔◌, List, slice_index, Contains, IsBitSet, bit_and}
 use Rattle.std.specs.Int.{bit_not, w16}
 use Rattle.cert_values.specs.declared.cert_version.CertVersion.{CertVersion}
 use Rattle.cert_conditions.specs.Sets.{IsKept}
 
--- a set with one of 16 nodes removed
+-- the set without this node, one of 16
 abbrev pub without : ℕ → ℕ → ℕ
 without set node = bit_and set (bit_not w16 (1 * 2 ^ node % 2 ^ 16))
 
--- the rows mark this set, one of 16 bits
+-- the rows mark this set of nodes: each row has 16 bits, one bit for each of 16 sets
 abbrev pub IsMarked : List ℕ → ℕ → Type 0
 IsMarked rows s = IsBitSet (slice_index rows (s / 16)) (s % 16)
 
--- the rows mark the sets of a list, and no others
+-- the rows mark the sets of the list, and no others
 abbrev pub AreMarked : List ℕ → List ℕ → Type 0
 AreMarked rows sets = (s : ℕ) → IsMarked rows s ↔ Contains sets s
 
--- among the sets up to the set of all nodes, the rows mark those that meet the condition of the version on steps
+-- among the sets up to the set of all nodes, the rows mark exactly those that meet the condition of the version on sets that a step reaches
 abbrev pub AreKept : CertVersion → ℕ → List ℕ → List ℕ → Type 0
 AreKept version full sets rows = (s : ℕ) → s ≤ full → (IsMarked rows s ↔ IsKept version sets s)

@@ -1,4 +1,4 @@
--- The bytes that are accepted, and the meaning of their verdicts.
+-- The bytes that the judge accepts, and what their verdicts mean. The judge is the part of the program that checks certificates.
 use Rattle.std.specs.Prelude.{◌≡◌, ℕ, ◌↔◌, Bool, ◌&&◌, IsTrue, List, slice_index}
 use Rattle.word_image.specs.Words.{IsSurjective}
 use Rattle.word_image.specs.Rings.{IsConserving}
@@ -9,7 +9,7 @@ use Rattle.cert_values.specs.CertificateTexts.{IsCertificateText}
 use Rattle.cert_conditions.specs.declared.verdicts.Verdicts.{Verdicts}
 use Rattle.cert_conditions.specs.Conditions.{MeetsConditions}
 
--- the verdicts of a certificate's parts
+-- the verdicts that the evidence of a certificate gives
 abbrev pub verdicts_of : Certificate → Verdicts
 verdicts_of c = record {
   rule = c.rule;
@@ -21,18 +21,18 @@ verdicts_of c = record {
   conserving = says_conserving c.conserving;
 }
 
--- a rule is open if it closes on both sides
+-- whether the rule is open: it is open if it is right-closing and left-closing
 abbrev pub is_open : Verdicts → Bool
 is_open v = v.right && v.left
 
--- the judge accepts the bytes with these verdicts: they are the text of a certificate with these verdicts that meets the conditions
+-- the judge accepts the bytes with these verdicts: they are the text of a certificate that meets the conditions, and the certificate has these verdicts
 pub record IsAccepted (bytes : List ℕ) (v : Verdicts) : Type 0 where
   pub certificate : Certificate
   pub text : IsCertificateText bytes certificate
   pub meets : MeetsConditions certificate
   pub verdicts : v ≡ verdicts_of certificate
 
--- each verdict is true of the rule, and the verdict on conserving under the weights
+-- each verdict is true of the rule, and the verdict whether it is conserving is true under the weights
 pub record AreTrue (v : Verdicts) : Type 0 where
   pub surjective : IsTrue v.surjective ↔ IsSurjective v.rule
   pub injective : IsTrue v.injective ↔ IsInjective v.rule

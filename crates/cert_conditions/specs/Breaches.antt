@@ -1,4 +1,4 @@
--- The first number at which something doesn't hold.
+-- The first number for which a property doesn't hold.
 use Rattle.std.specs.Prelude.{ℕ, ◌<◌}
 
 -- P holds for each number below n

@@ -1,8 +1,8 @@
--- A certificate with another version.
+-- The same certificate in another version.
 use Rattle.cert_values.specs.declared.cert_version.CertVersion.{CertVersion}
 use Rattle.cert_values.specs.Certificates.{Certificate}
 
--- the certificate with this version
+-- the same certificate with this version
 abbrev pub in_version : CertVersion → Certificate → Certificate
 in_version version c = record {
   version = version;

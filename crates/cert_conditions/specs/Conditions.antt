@@ -1,4 +1,4 @@
--- The conditions on a certificate, which make each of its verdicts true.
+-- The conditions on a certificate. If a certificate meets all conditions, each of its verdicts is true.
 use Rattle.std.specs.Prelude.{◌≡◌, ◌≢◌, ℕ, ◌^◌, ◌≤◌, List, [], ◌∷◌, length, slice_index, Contains, ℤ, ⊤}
 use Rattle.word_image.specs.LocalRules.{word_of}
 use Rattle.word_image.specs.Rings.{ring_image}
@@ -22,50 +22,50 @@ abbrev pub conditions : List Condition
 conditions =
     SideClaims Right ∷ SideClaims Left ∷ FullListed ∷ NoneEmpty ∷ Closed ∷ FirstsListed ∷ OffDiagonal ∷ PairsClosed ∷ OrphanRead ∷ WindowClaims ∷ TwinsAlike ∷ SideAhead Right ∷ SideSplit Right ∷ SideAhead Left ∷ SideSplit Left ∷ FluxFlows ∷ RingLossy ∷ []
 
--- a property of the listed sets, if the part has sets
+-- if the evidence lists sets, P holds for the list
 abbrev pub OfSets : SurjectiveEvidence → (List ℕ → Type 0) → Type 0
 OfSets (Sets sets) P = P sets
 OfSets (Pairs pairs) P = ⊤
 OfSets (Orphan w) P = ⊤
 
--- a property of the listed pairs, if the part has pairs
+-- if the evidence lists pairs, P holds for the list
 abbrev pub OfPairs : SurjectiveEvidence → (List ℕ → Type 0) → Type 0
 OfPairs (Sets sets) P = ⊤
 OfPairs (Pairs pairs) P = P pairs
 OfPairs (Orphan w) P = ⊤
 
--- a property of the orphan, if the part has one
+-- if the evidence is an orphan, P holds for it
 abbrev pub OfOrphan : SurjectiveEvidence → (List ℕ → Type 0) → Type 0
 OfOrphan (Sets sets) P = ⊤
 OfOrphan (Pairs pairs) P = ⊤
 OfOrphan (Orphan w) P = P w
 
--- a property of the window, if the part has one
+-- if the evidence is a window, P holds for it
 abbrev pub OfWindow : InjectiveEvidence → (ℕ → ℕ → Type 0) → Type 0
 OfWindow (Window n c) P = P n c
 OfWindow (Twins x y) P = ⊤
 
--- a property of the twins, if the part has them
+-- if the evidence is twins, P holds for them
 abbrev pub OfTwins : InjectiveEvidence → (List ℕ → List ℕ → Type 0) → Type 0
 OfTwins (Window n c) P = ⊤
 OfTwins (Twins x y) P = P x y
 
--- a property of the look-ahead, if the part has one
+-- if the evidence is a look-ahead, P holds for it
 abbrev pub OfAhead : SideEvidence → (ℕ → Type 0) → Type 0
 OfAhead (Ahead n) P = P n
 OfAhead (Split x y) P = ⊤
 
--- a property of the split, if the part has one
+-- if the evidence is a split, P holds for it
 abbrev pub OfSplit : SideEvidence → (TailConfig → TailConfig → Type 0) → Type 0
 OfSplit (Ahead n) P = ⊤
 OfSplit (Split x y) P = P x y
 
--- a property of the flux, if the part has one
+-- if the evidence is a flux, P holds for it
 abbrev pub OfFlux : SumEvidence → (List ℤ → Type 0) → Type 0
 OfFlux (Flux phi) P = P phi
 OfFlux (Ring p) P = ⊤
 
--- a property of the ring, if the part has one
+-- if the evidence is a ring, P holds for it
 abbrev pub OfRing : SumEvidence → (List ℕ → Type 0) → Type 0
 OfRing (Flux phi) P = ⊤
 OfRing (Ring p) P = P p

@@ -1,4 +1,4 @@
--- The parts of a refusal in texts and in JSON: words and numbers.
+-- The words and numbers of a refusal, as texts and JSON show them. A refusal is the reason why the judge doesn't accept bytes.
 use Rattle.std.specs.Prelude.{ℕ, List, [], codes, Option, Some, None}
 use Rattle.std.specs.Option.{option_map}
 use Rattle.word_image.specs.declared.side.Side.{Side}
@@ -18,7 +18,7 @@ use Rattle.cert_conditions.specs.declared.refusal_parts.RefusalNumbers.{RefusalN
 use Rattle.cert_conditions.specs.declared.refusal_parts.RefusalNumbers.TheVariants as numbers
 use Rattle.cert_conditions.specs.declared.refusal_parts.RefusalParts.{RefusalParts}
 
--- the word for the part that has the wrong shape
+-- the word for the part of a certificate that has the wrong shape
 abbrev pub key_text : Key → List ℕ
 key_text key.Top = codes "top"
 key_text key.Version = codes "version"
@@ -32,7 +32,7 @@ key_text key.Weights = codes "weights"
 key_text key.Ranks = codes "ranks"
 key_text key.Unknown = codes "unknown"
 
--- a word for each side
+-- the word for a side
 abbrev pub side_text : Side → List ℕ
 side_text side.Right = codes "right"
 side_text side.Left = codes "left"
@@ -49,7 +49,7 @@ split_text split.Same = codes "same"
 split_text split.Apart = codes "apart"
 split_text split.Image = codes "image"
 
--- a cause, and optionally a side, a reason, a key and a fault of the rule's text, and numbers
+-- the parts of a refusal: a cause, optionally a side, a reason, a key and a fault of the rule's text, and numbers
 pub record Parts : Type 0 where
   pub cause : List ℕ
   pub side : Option (List ℕ)
@@ -58,31 +58,31 @@ pub record Parts : Type 0 where
   pub fault : Option (List ℕ)
   pub numbers : RefusalNumbers
 
--- a cause with its numbers and no other parts
+-- the parts of a refusal with this cause, these numbers and nothing else
 abbrev pub with : List ℕ → RefusalNumbers → Parts
 with cause ns = record { cause = cause; side = None; because = None; key = None; fault = None; numbers = ns }
 
--- the same parts with a side
+-- the given parts of a refusal with this side in addition
 abbrev pub on : Side → Parts → Parts
 on s p = record { cause = p.cause; side = Some (side_text s); because = p.because; key = p.key; fault = p.fault; numbers = p.numbers }
 
--- the same parts with a reason
+-- the given parts of a refusal with this reason in addition
 abbrev pub because : List ℕ → Parts → Parts
 because why p = record { cause = p.cause; side = p.side; because = Some why; key = p.key; fault = p.fault; numbers = p.numbers }
 
--- the place of a fault, if it has one
+-- the number of the place of a fault, if it has a place
 abbrev pub place_number : Option ℕ → RefusalNumbers
 place_number None = numbers.None
 place_number (Some place) = numbers.One place
 
--- the parts of the first fault of a certificate's text
+-- the parts of a refusal whose reason is the first fault of a certificate's text
 abbrev pub of_shape : ShapeFault → Parts
 of_shape shape.NotJson = because (codes "notjson") (with (codes "format") numbers.None)
 of_shape (shape.Version v) = because (codes "version") (with (codes "format") (numbers.One v))
 of_shape (shape.Shape k) = record { cause = codes "format"; side = None; because = Some (codes "shape"); key = Some (key_text k); fault = None; numbers = numbers.None }
 of_shape (shape.Rule f) = record { cause = codes "format"; side = None; because = Some (codes "rule"); key = None; fault = Some (fault_name f); numbers = place_number (fault_place f) }
 
--- the parts of a refusal; lack of memory isn't one
+-- the parts of a refusal; a lack of memory, which isn't a refusal, has an empty cause
 abbrev pub parts_of : Refusal → Parts
 parts_of (refusal.Format f) = of_shape f
 parts_of (refusal.Rank s p) = on s (with (codes "rank") (numbers.One p))
@@ -101,7 +101,7 @@ parts_of (refusal.Flux w) = with (codes "flux") (numbers.One w)
 parts_of refusal.Ring = with (codes "ring") numbers.None
 parts_of (refusal.Memory _) = with [] numbers.None
 
--- the parts in the definitions of the parts in the code
+-- the parts of a refusal that a value of the code stands for
 abbrev pub said_in : RefusalParts → Parts
 said_in p = record {
   cause = p.cause.now;

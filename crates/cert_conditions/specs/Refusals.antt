@@ -27,19 +27,19 @@ use Rattle.cert_conditions.specs.Sides.{AgreeBehind, claims_on, evidence_on}
 use Rattle.cert_conditions.specs.Sums.{Flows, IsLossy}
 use Rattle.cert_conditions.specs.Conditions.{conditions, Holds}
 
--- the words don't have the same length of at least 1; or they are equal; or their rings have different images
+-- the reason why two words aren't twins: they don't have the same length of at least 1, or they are equal, or their rings have different images
 pub data IsTwinsBreach (r : LocalRule) (x y : List ℕ) : TwinCause → Type 0 where
   Length : ¬ ((length x ≡ length y) × (1 ≤ length x)) → IsTwinsBreach r x y twin.Length
   Same : length x ≡ length y → 1 ≤ length x → x ≡ y → IsTwinsBreach r x y twin.Same
   Image : length x ≡ length y → 1 ≤ length x → x ≢ y → ring_image r x ≢ ring_image r y → IsTwinsBreach r x y twin.Image
 
--- the configurations are equal; or they don't agree on the side; or their images differ
+-- the reason why two configurations aren't a split: they are equal, or they don't agree on the side, or their images differ
 pub data IsSplitBreach (r : LocalRule) (Agree : TailConfig → TailConfig → Type 0) (x y : TailConfig) : SplitCause → Type 0 where
   Same : ¬ Different x y → IsSplitBreach r Agree x y split.Same
   Apart : Different x y → ¬ Agree x y → IsSplitBreach r Agree x y split.Apart
   Image : Different x y → Agree x y → ¬ ShareImage r x y → IsSplitBreach r Agree x y split.Image
 
--- a condition isn't met, and this is the first pair, place, letter, window or cause at which it isn't
+-- the condition isn't met, and the refusal names the first pair, place, letter, window or cause at which it isn't
 pub data IsBreach (c : Certificate) : Condition → Refusal → Type 0 where
   Rising : (side : Side) (p : ℕ) → IsFirstBreach (pair_count c.rule) (Falls side c.rule (claims_on c side)) p → IsBreach c (condition.SideClaims side) (refusal.Rank side p)
   NoFull : (sets : List ℕ) → c.surjective ≡ Sets sets → ¬ Contains sets (full_set c.rule) → IsBreach c condition.FullListed refusal.NoFull
@@ -65,13 +65,13 @@ pub data IsBreach (c : Certificate) : Condition → Refusal → Type 0 where
       → IsFirstBreach (c.rule.states ^ c.rule.width) (λ v. Flows (slice_index c.weights) c.rule phi (word_of c.rule.states c.rule.width v)) v → IsBreach c condition.FluxFlows (refusal.Flux v)
   NoRing : (p : List ℕ) → c.conserving ≡ Ring p → ¬ IsLossy (slice_index c.weights) c.rule p → IsBreach c condition.RingLossy refusal.Ring
 
--- the first condition that isn't met, with the place at which it isn't
+-- the refusal names the first condition that isn't met, and the first place at which it isn't
 pub record IsFirstUnmet (c : Certificate) (f : Refusal) : Type 0 where
   pub unmet : Condition
   pub first : IsFirstWithout (Holds c) conditions unmet
   pub breach : IsBreach c unmet f
 
--- the reason why bytes are refused: they aren't the text of a certificate, or its certificate doesn't meet the conditions
+-- the reason why the bytes are refused: they aren't the text of a certificate, or their certificate doesn't meet the conditions
 pub data IsRefusal (bytes : List ℕ) : Refusal → Type 0 where
   NoShape : (f : ShapeFault) → IsShapeFault bytes f → IsRefusal bytes (refusal.Format f)
   Unmet : (c : Certificate) (f : Refusal) → IsCertificateText bytes c → IsFirstUnmet c f → IsRefusal bytes f

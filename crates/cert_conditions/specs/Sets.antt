@@ -1,4 +1,4 @@
--- Sets of nodes as numbers in which bit u stands for node u, and the steps between them (Sutner 1991).
+-- Sets of nodes as numbers in which bit u stands for node u, and the steps from set to set (Sutner 1991).
 use Rattle.std.specs.Prelude.{◌≡◌, ℕ, List, Contains, bit_and}
 use Rattle.word_image.specs.LocalRules.{LocalRule}
 use Rattle.word_image.specs.Edges.{IsStep}
@@ -6,20 +6,20 @@ use Rattle.search_laws.specs.Walks.{Walk}
 use Rattle.cert_values.specs.declared.cert_version.CertVersion.{CertVersion}
 use Rattle.cert_values.specs.declared.cert_version.CertVersion.TheVariants.{One, Two, Three}
 
--- a set contains a listed set
+-- the set contains some listed set
 abbrev pub HasPart : List ℕ → ℕ → Type 0
 HasPart sets set = (part : ℕ) × Contains sets part × (bit_and part set ≡ part)
 
--- the condition on the step of a listed set: in version 1 it is listed, and from version 2 on it contains a listed set
+-- the condition on a set that a step reaches from a listed set: in version 1 it is listed, and from version 2 on it contains a listed set
 abbrev pub IsKept : CertVersion → List ℕ → ℕ → Type 0
 IsKept One = Contains
 IsKept Two = HasPart
 IsKept Three = HasPart
 
--- the step of the set on this letter meets this condition
+-- the set that the letter a reaches from the given set meets the condition of the version
 abbrev pub StepIsKept : CertVersion → LocalRule → List ℕ → ℕ → ℕ → Type 0
 StepIsKept version r sets set a = (after : ℕ) × IsStep r set a after × IsKept version sets after
 
--- the steps of the letters of a word lead from one set to the other
+-- the letters of a word lead step by step from one set of nodes to another
 abbrev pub LeadsTo : LocalRule → ℕ → List ℕ → ℕ → Type 0
 LeadsTo r = Walk (IsStep r)

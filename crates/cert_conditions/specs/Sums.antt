@@ -3,15 +3,15 @@ use Rattle.std.specs.Prelude.{◌≡◌, ℕ, ◌-◌, ◌≤◌, List, length, 
 use Rattle.word_image.specs.LocalRules.{LocalRule, local_map, value}
 use Rattle.word_image.specs.Rings.{KeepsSum}
 
--- the flux phi at a node
+-- the number of the flux phi at node u
 abbrev pub flux_at : List ℤ → ℕ → ℤ
 flux_at phi u = slice_index_or phi u (pos 0)
 
--- the weight of the new letter minus the weight of the first letter of a window is phi of its first node minus phi of its last node
+-- the weight of the letter that the rule gives for w minus the weight of the first letter of w is phi of its first node minus phi of its last node
 abbrev pub Flows : (ℕ → ℕ) → LocalRule → List ℤ → List ℕ → Type 0
 Flows weight r phi w =
     (pos (weight (local_map r w)) -ℤ pos (weight (slice_index w 0))) ≡ (flux_at phi (value r.states (take (r.width - 1) w)) -ℤ flux_at phi (value r.states (drop 1 w)))
 
--- a ring of at least one letter whose image has another sum
+-- the ring has at least one letter, and its image has another sum of weights
 abbrev pub IsLossy : (ℕ → ℕ) → LocalRule → List ℕ → Type 0
 IsLossy weight r p = (1 ≤ length p) × ¬ KeepsSum weight r p

@@ -1,4 +1,4 @@
--- The texts of six certificates, worked by hand, which the check computes.
+-- The texts of six certificates, worked by hand, which the prover computes.
 use Rattle.std.specs.Prelude.{◌≡◌, ℕ, ℤ, List, [], ◌∷◌, codes, refl, pos, negsuc, Option, Some, None}
 use Rattle.std.specs.Fmt.{digits}
 use Rattle.serde_json.proofs.OnLiterals.{serde_json_on_literals}
@@ -14,15 +14,15 @@ use Rattle.cert_values.specs.Evidence.SideEvidence.{Ahead, Split}
 use Rattle.cert_values.specs.Evidence.SumEvidence.{Flux, Ring}
 use Rattle.cert_values.specs.WrittenTexts.{certificate_text}
 
--- a rule of two states and width 2, whose windows begin at the cell
+-- the rule of two states and width 2 with this table, whose windows begin at the cell
 abbrev two_state_rule : List ℕ → LocalRule
 two_state_rule table = record { states = 2; width = 2; offset = pos 0; table = table }
 
--- no claim for any of four pairs
+-- no claim is made for any of four pairs
 abbrev no_claims : List (Option ℕ)
 no_claims = None ∷ None ∷ None ∷ None ∷ []
 
--- the shift to the left by one cell
+-- a certificate of the shift to the left by one cell, with this version, flux and weights
 
 abbrev shift_with : CertVersion → List ℤ → List ℕ → Certificate
 shift_with version flux weights = record {
@@ -45,7 +45,7 @@ certificate_text-shift : certificate_text shift_cert ≡ codes "{\"conserving\":
 unfolding digits serde_json_on_literals
 certificate_text-shift = refl
 
--- both cells are 1
+-- the certificate of the rule that gives 1 if both cells are 1, and 0 if not
 
 abbrev both_cert : Certificate
 both_cert = record {
@@ -65,7 +65,7 @@ certificate_text-both : certificate_text both_cert ≡ codes "{\"conserving\":{\
 unfolding digits serde_json_on_literals
 certificate_text-both = refl
 
--- the sum of two cells modulo 2
+-- a certificate of the sum of two cells modulo 2, with this version and this evidence that the rule is surjective
 
 abbrev sum_with : CertVersion → SurjectiveEvidence → Certificate
 sum_with version surjective = record {
@@ -88,7 +88,7 @@ certificate_text-sum : certificate_text sum ≡ codes "{\"conserving\":{\"ring\"
 unfolding digits serde_json_on_literals
 certificate_text-sum = refl
 
--- the certificate of that rule in version 2
+-- the certificate of the sum of two cells in version 2, and its text
 
 abbrev second : Certificate
 second = sum_with Two (Sets (3 ∷ []))
@@ -97,7 +97,7 @@ certificate_text-second : certificate_text second ≡ codes "{\"conserving\":{\"
 unfolding digits serde_json_on_literals
 certificate_text-second = refl
 
--- the shift with a weight of 2 for the letter 1
+-- the certificate of the shift to the left with a weight of 2 for the letter 1, and its text
 
 abbrev weighted : Certificate
 weighted = shift_with Two (pos 0 ∷ negsuc 1 ∷ []) (0 ∷ 2 ∷ [])
@@ -106,7 +106,7 @@ certificate_text-weighted : certificate_text weighted ≡ codes "{\"conserving\"
 unfolding digits serde_json_on_literals
 certificate_text-weighted = refl
 
--- the sum of two cells by pairs: no pair is reached
+-- the certificate of the sum of two cells with a list of pairs, which is empty since no pair is reached, and its text
 
 abbrev with_pairs : Certificate
 with_pairs = sum_with Three (Pairs [])

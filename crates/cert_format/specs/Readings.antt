@@ -16,7 +16,7 @@ use Rattle.cert_values.specs.CertificateTexts.{IsWhole, IsSigned, IsDigits, IsTa
 use Rattle.cert_values.specs.ShapeFaults.{IsFirstWithout, Passes, part_steps, IsShapeFault}
 use Rattle.cert_values.specs.declared.shape_fault.ShapeFault.{ShapeFault}
 
--- the members of a value; a value that isn't an object has none
+-- the members of a JSON value; a value that isn't an object has none
 abbrev pub members_in : Data → Members
 members_in null = no_members
 members_in (boolean b) = no_members
@@ -25,94 +25,94 @@ members_in (string s) = no_members
 members_in (array ds) = no_members
 members_in (object ms) = ms
 
--- letters below k with their digits
+-- the text has the hexadecimal digits of this word, whose letters are below k
 abbrev pub IsLetters : ℕ → List ℕ → List ℕ → Type 0
 IsLetters k text w = Spells text w × IsWord k w
 
--- a string of a word over the letters below k
+-- the JSON value is a string of this word, whose letters are below k
 abbrev pub IsWordValue : ℕ → Data → List ℕ → Type 0
 IsWordValue k d w = IsDigits d w × IsWord k w
 
--- an array of two strings of words over the letters below k
+-- the JSON value is an array of two strings of these words, whose letters are below k
 abbrev pub IsWordsValue : ℕ → Data → List ℕ → List ℕ → Type 0
 IsWordsValue k d x y = IsArrayOf IsDigits d (x ∷ y ∷ []) × IsWord k x × IsWord k y
 
--- a string of a short configuration over the letters below k
+-- the JSON value is a string of this configuration, whose letters are below k and whose parts have at most 1,024 letters
 abbrev pub IsTailValue : ℕ → Data → TailConfig → Type 0
 IsTailValue k d t = IsTailString d t × IsShortTail k t
 
--- an array of two strings of short configurations over the letters below k
+-- the JSON value is an array of two strings of these configurations, whose letters are below k and whose parts have at most 1,024 letters
 abbrev pub IsTailsValue : ℕ → Data → TailConfig → TailConfig → Type 0
 IsTailsValue k d x y = IsArrayOf IsTailString d (x ∷ y ∷ []) × IsShortTail k x × IsShortTail k y
 
--- a whole number of sixteen bits
+-- the JSON value is this whole number of sixteen bits
 abbrev pub IsShort : Data → ℕ → Type 0
 IsShort d n = IsWhole d n × (n ≤ 65535)
 
--- null, or a whole number of sixteen bits
+-- the JSON value is this claim: null, or a whole number of sixteen bits
 abbrev pub IsRankValue : Data → Option ℕ → Type 0
 IsRankValue d o = IsClaimValue d o × IsClaim o
 
--- a signed whole number of the size of a flow
+-- the JSON value is this whole number from -1,000,000 to 1,000,000
 abbrev pub IsFlow : Data → ℤ → Type 0
 IsFlow d z = IsSigned d z × IsNear z
 
--- an array of whole numbers up to this one
+-- the JSON value is an array of these whole numbers, each at most `most`
 abbrev pub AreNumbers : ℕ → Data → List ℕ → Type 0
 AreNumbers most d ns = IsArrayOf IsWhole d ns × All (λ n. n ≤ most) ns
 
--- the number n of a window and its place c
+-- the two JSON values are n and c, the number of letters and the place of a window within the limits of the rule
 abbrev pub IsWindowFor : LocalRule → Data → Data → ℕ → ℕ → Type 0
 IsWindowFor r d e n c = IsWhole d n × IsWhole e c × (1 ≤ n) × (n ≤ 65535) × (c ≤ n + r.width - 2) × (c ≤ 65535)
 
--- a look-ahead
+-- the JSON value is this look-ahead, a number from 1 to 65,535
 abbrev pub IsAhead : Data → ℕ → Type 0
 IsAhead d n = IsWhole d n × (1 ≤ n) × (n ≤ 65535)
 
--- an array with a flow for each node
+-- the JSON value is an array of these numbers, one from -1,000,000 to 1,000,000 for each node
 abbrev pub IsFluxFor : LocalRule → Data → List ℤ → Type 0
 IsFluxFor r d phi = IsArrayOf IsSigned d phi × (length phi ≡ node_count r) × All IsNear phi
 
--- a whole number of eight bits
+-- the JSON value is this whole number of eight bits
 abbrev pub IsByte : Data → ℕ → Type 0
 IsByte d n = IsWhole d n × (n ≤ 255)
 
--- an array with a weight for each letter
+-- the JSON value is an array of these weights, one from 0 to 255 for each letter
 abbrev pub IsWeightsFor : LocalRule → Data → List ℕ → Type 0
 IsWeightsFor r d weights = IsArrayOf IsWhole d weights × AreWeights r.states weights
 
--- evidence for surjective, within its limits
+-- the JSON value is this evidence that the rule is surjective, or that it isn't, and the evidence is within the limits of the version and of the rule
 abbrev pub IsSurjectiveFor : CertVersion → LocalRule → Data → SurjectiveEvidence → Type 0
 IsSurjectiveFor version r d e = IsSurjectiveValue d e × IsSurjectiveShape version r e
 
--- evidence for injective, within its limits
+-- the JSON value is this evidence that the rule is injective, or that it isn't, and the evidence is within the limits of the rule
 abbrev pub IsInjectiveFor : LocalRule → Data → InjectiveEvidence → Type 0
 IsInjectiveFor r d e = IsInjectiveValue d e × IsInjectiveShape r e
 
--- evidence for closing on a side, within its limits
+-- the JSON value is this evidence that the rule is closing on a side, or that it isn't, and the evidence is within the limits of the rule
 abbrev pub IsSideFor : LocalRule → Data → SideEvidence → Type 0
 IsSideFor r d e = IsSideValue d e × IsSideShape r e
 
--- evidence for conserving, within its limits
+-- the JSON value is this evidence that the rule is conserving, or that it isn't, and the evidence is within the limits of the rule
 abbrev pub IsSumFor : LocalRule → Data → SumEvidence → Type 0
 IsSumFor r d e = IsSumValue d e × IsSumShape r e
 
--- claims for each pair
+-- the JSON value is an array of these claims, one for each pair of nodes
 abbrev pub IsRowFor : LocalRule → Data → List (Option ℕ) → Type 0
 IsRowFor r d row = IsArrayOf IsClaimValue d row × IsRankShape r row
 
--- claims for each pair, in both directions
+-- the JSON value has these claims for the pairs of nodes, forward and backward, one for each pair
 abbrev pub AreRanksFor : LocalRule → Data → List (Option ℕ) → List (Option ℕ) → Type 0
 AreRanksFor r d forward backward = IsRanksValue d forward backward × IsRankShape r forward × IsRankShape r backward
 
--- the step for this key fails, since P isn't true, or there is no memory
+-- the fault f is that the step for the key k fails, and then P isn't true, or that there is no memory
 abbrev pub IsStepFault : Key → Type 0 → CertFault → Type 0
 IsStepFault k P f = (f ≡ fault.Memory alloc_error) ⊎ ((f ≡ fault.Format (shape.Shape k)) × ¬ P)
 
--- the first step that fails, or there is no memory
+-- the fault f is that a step of reading the parts fails, and then it is the first that fails, or that there is no memory
 abbrev pub IsPartFault : CertVersion → LocalRule → Members → CertFault → Type 0
 IsPartFault version r ms f = (f ≡ fault.Memory alloc_error) ⊎ ((k : Key) × (f ≡ fault.Format (shape.Shape k)) × IsFirstWithout (Passes version r ms) part_steps k)
 
--- the reason why no certificate is read from the bytes: lack of memory, or their first fault
+-- the reason why no certificate is read from the bytes: there is no memory, or this is the first fault of the bytes
 abbrev pub IsCertFault : List ℕ → CertFault → Type 0
 IsCertFault bytes f = (f ≡ fault.Memory alloc_error) ⊎ ((s : ShapeFault) × (f ≡ fault.Format s) × IsShapeFault bytes s)

@@ -16,27 +16,27 @@ use Rattle.cert_values.specs.Certificates.{Certificate, IsSurjectiveShape, IsInj
 
 -- The JSON value of each part
 
--- the bytes are JSON with this value; if a key occurs twice, the last member counts
+-- the bytes are UTF-8 and JSON with this value; if a key occurs twice, the last member counts
 abbrev pub IsJson : List ℕ → Data → Type 0
 IsJson bytes d = IsUtf8 bytes × (read bytes ≡ Some d)
 
--- a whole number below 2 ^ 64 without sign, point or exponent
+-- the value is this whole number below 2 ^ 64, without sign, point or exponent
 abbrev pub IsWhole : Data → ℕ → Type 0
 IsWhole d n = option_and_then as_u64 (as_number d) ≡ Some n
 
--- a signed whole number of 64 bits
+-- the value is this signed whole number of 64 bits
 abbrev pub IsSigned : Data → ℤ → Type 0
 IsSigned d z = option_and_then as_i64 (as_number d) ≡ Some z
 
--- a string of hexadecimal digits of either case
+-- the value is a string of the hexadecimal digits of this word, in lower or upper case
 abbrev pub IsDigits : Data → List ℕ → Type 0
 IsDigits d w = (text : List ℕ) × (as_str d ≡ Some text) × Spells text w
 
--- a string of three parts with bars between them
+-- the value is a string of the three parts of this configuration with bars between them
 abbrev pub IsTailString : Data → TailConfig → Type 0
 IsTailString d t = (text : List ℕ) × (as_str d ≡ Some text) × HasParts text t
 
--- null, or a whole number
+-- the value is this claim: null for None, or a whole number
 abbrev pub IsClaimValue : Data → Option ℕ → Type 0
 IsClaimValue d None = d ≡ null
 IsClaimValue d (Some n) = IsWhole d n
@@ -46,44 +46,44 @@ abbrev pub list_of : Items → List Data
 list_of no_items = []
 list_of (item d ds) = d ∷ list_of ds
 
--- an array whose items are related to the elements of the list, in order
+-- the value is an array whose items R relates to the elements of the list, in order
 abbrev pub IsArrayOf : {A : Type 0} → (Data → A → Type 0) → Data → List A → Type 0
 IsArrayOf R d xs = (ds : Items) × (d ≡ array ds) × AllZip R (list_of ds) xs
 
--- an object with only this key
+-- the value d is an object with only the key k, and v is its value
 abbrev pub HasOnly : List ℕ → Data → Data → Type 0
 HasOnly k v d = as_object d ≡ Some (member k v no_members)
 
--- an object with only these two keys, in ascending order
+-- the value d is an object with only these two keys, in ascending order, and their values
 abbrev pub HasOnlyBoth : List ℕ → Data → List ℕ → Data → Data → Type 0
 HasOnlyBoth k v l u d = as_object d ≡ Some (member k v (member l u no_members))
 
--- {"sets":[..]}, {"pairs":[..]} or {"orphan":".."}
+-- the value is {"sets":[..]}, {"pairs":[..]} or {"orphan":".."}, with the sets, the pairs or the word of this evidence
 abbrev pub IsSurjectiveValue : Data → SurjectiveEvidence → Type 0
 IsSurjectiveValue d (Sets sets) = (v : Data) × HasOnly (codes "sets") v d × IsArrayOf IsWhole v sets
 IsSurjectiveValue d (Pairs pairs) = (v : Data) × HasOnly (codes "pairs") v d × IsArrayOf IsWhole v pairs
 IsSurjectiveValue d (Orphan w) = (v : Data) × HasOnly (codes "orphan") v d × IsDigits v w
 
--- {"c":C,"n":N} or {"twins":["..",".."]}
+-- the value is {"c":C,"n":N} or {"twins":["..",".."]}, with the window or the two words of this evidence
 abbrev pub IsInjectiveValue : Data → InjectiveEvidence → Type 0
 IsInjectiveValue d (Window n c) = (v u : Data) × HasOnlyBoth (codes "c") v (codes "n") u d × IsWhole v c × IsWhole u n
 IsInjectiveValue d (Twins x y) = (v : Data) × HasOnly (codes "twins") v d × IsArrayOf IsDigits v (x ∷ y ∷ [])
 
--- {"ahead":A} or {"split":["..",".."]}
+-- the value is {"ahead":A} or {"split":["..",".."]}, with the look-ahead or the two configurations of this evidence
 abbrev pub IsSideValue : Data → SideEvidence → Type 0
 IsSideValue d (Ahead n) = (v : Data) × HasOnly (codes "ahead") v d × IsWhole v n
 IsSideValue d (Split x y) = (v : Data) × HasOnly (codes "split") v d × IsArrayOf IsTailString v (x ∷ y ∷ [])
 
--- {"flux":[..]} or {"ring":".."}
+-- the value is {"flux":[..]} or {"ring":".."}, with the flux or the word of this evidence
 abbrev pub IsSumValue : Data → SumEvidence → Type 0
 IsSumValue d (Flux phi) = (v : Data) × HasOnly (codes "flux") v d × IsArrayOf IsSigned v phi
 IsSumValue d (Ring p) = (v : Data) × HasOnly (codes "ring") v d × IsDigits v p
 
--- {"backward":[..],"forward":[..]}
+-- the value is {"backward":[..],"forward":[..]}, with these claims of ranks, backward and forward
 abbrev pub IsRanksValue : Data → List (Option ℕ) → List (Option ℕ) → Type 0
 IsRanksValue d forward backward = (v u : Data) × HasOnlyBoth (codes "backward") v (codes "forward") u d × IsArrayOf IsClaimValue v backward × IsArrayOf IsClaimValue u forward
 
--- The shape of the whole
+-- The members of the whole object
 
 -- the bytes are a JSON object with these members
 abbrev pub IsObject : List ℕ → Members → Type 0
@@ -93,52 +93,52 @@ IsObject bytes ms = IsJson bytes (object ms)
 abbrev pub HasMember : Members → List ℕ → (Data → Type 0) → Type 0
 HasMember ms k P = (d : Data) × (get_member k ms ≡ Some d) × P d
 
--- the version is this number
+-- there is a member "version", whose value is this number
 abbrev pub HasVersion : Members → ℕ → Type 0
 HasVersion ms v = HasMember ms (codes "version") (λ d. IsWhole d v)
 
--- the rule is a string with this text
+-- there is a member "rule", whose value is a string with this text
 abbrev pub HasRuleText : Members → List ℕ → Type 0
 HasRuleText ms text = HasMember ms (codes "rule") (λ d. as_str d ≡ Some text)
 
--- the keys of each certificate, ascending
+-- the keys that each certificate has, ascending
 abbrev pub keys : List (List ℕ)
 keys = codes "conserving" ∷ codes "injective" ∷ codes "left" ∷ codes "ranks" ∷ codes "right" ∷ codes "rule" ∷ codes "surjective" ∷ codes "version" ∷ []
 
--- the keys that a certificate may have: the weights only if its version may name them
+-- the keys that a certificate of this version may have; the key of the weights is one of them only if the version may name weights
 abbrev pub keys_of : CertVersion → List (List ℕ)
 keys_of version = keys ++ (if names_weights version then codes "weights" ∷ [] else [])
 
--- there is no other key
+-- each key of the members is one that a certificate of this version may have
 abbrev pub HasNoOther : CertVersion → Members → Type 0
 HasNoOther version ms = (k : List ℕ) (d : Data) → get_member k ms ≡ Some d → Contains (keys_of version) k
 
--- the key of surjective is there, with evidence within its limits
+-- there is a member "surjective" with this evidence that the rule is surjective, or that it isn't, and the evidence is within the limits of the version and of the rule
 abbrev pub HasSurjective : CertVersion → LocalRule → Members → SurjectiveEvidence → Type 0
 HasSurjective version r ms e = HasMember ms (codes "surjective") (λ d. IsSurjectiveValue d e) × IsSurjectiveShape version r e
 
--- the key of injective is there, with evidence within its limits
+-- there is a member "injective" with this evidence that the rule is injective, or that it isn't, and the evidence is within the limits of the rule
 abbrev pub HasInjective : LocalRule → Members → InjectiveEvidence → Type 0
 HasInjective r ms e = HasMember ms (codes "injective") (λ d. IsInjectiveValue d e) × IsInjectiveShape r e
 
--- the given key, of the right or the left, is there, with evidence within its limits
+-- there is a member with this key, "right" or "left", with this evidence that the rule is closing on this side, or that it isn't, and the evidence is within the limits of the rule
 abbrev pub HasSide : List ℕ → LocalRule → Members → SideEvidence → Type 0
 HasSide k r ms e = HasMember ms k (λ d. IsSideValue d e) × IsSideShape r e
 
--- the key of conserving is there, with evidence within its limits
+-- there is a member "conserving" with this evidence that the rule is conserving, or that it isn't, and the evidence is within the limits of the rule
 abbrev pub HasConserving : LocalRule → Members → SumEvidence → Type 0
 HasConserving r ms e = HasMember ms (codes "conserving") (λ d. IsSumValue d e) × IsSumShape r e
 
--- the named weights, or the letters' own values if no weights are named
+-- the weights are those of the member "weights"; if there is no such member, or the version may not name weights, they are the letters' own values
 pub data HasWeights (version : CertVersion) (r : LocalRule) (ms : Members) (weights : List ℕ) : Type 0 where
   Named : names_weights version ≡ true → HasMember ms (codes "weights") (λ d. IsArrayOf IsWhole d weights) → AreWeights r.states weights → HasWeights version r ms weights
   Own : (names_weights version ≡ true → get_member (codes "weights") ms ≡ None) → weights ≡ own_weights r.states → HasWeights version r ms weights
 
--- the key of the ranks is there, with ranks in both directions
+-- there is a member "ranks" with the forward claims and the backward claims of ranks, and the claims are within the limits of the rule
 abbrev pub HasRanks : LocalRule → Members → List (Option ℕ) → List (Option ℕ) → Type 0
 HasRanks r ms forward backward = HasMember ms (codes "ranks") (λ d. IsRanksValue d forward backward) × IsRankShape r forward × IsRankShape r backward
 
--- the members contain each part of the certificate
+-- the members contain each part of the certificate, and there are no other keys
 pub record AreParts (ms : Members) (c : Certificate) : Type 0 where
   pub surjective : HasSurjective c.version c.rule ms c.surjective
   pub injective : HasInjective c.rule ms c.injective

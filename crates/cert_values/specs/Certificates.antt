@@ -1,4 +1,4 @@
--- The contents of a certificate of a rule, and the limits of each part.
+-- The contents of a certificate of a rule of width m, and the limits of each part.
 use Rattle.std.specs.Prelude.{◌≡◌, ℕ, ◌+◌, ◌-◌, ◌^◌, ◌<◌, ◌≤◌, List, length, Option, Some, None, All, pos, negsuc, ◌≤ℤ◌, ⊤, true, ℤ}
 use Rattle.word_image.specs.LocalRules.{LocalRule, IsWord, node_count}
 use Rattle.word_image.specs.Graphs.{pair_count}
@@ -7,7 +7,7 @@ use Rattle.cert_values.specs.declared.cert_version.CertVersion.{CertVersion}
 use Rattle.cert_values.specs.Versions.{lists_pairs}
 use Rattle.cert_values.specs.Evidence.{SurjectiveEvidence, InjectiveEvidence, SideEvidence, SumEvidence, Sets, Pairs, Orphan, Window, Twins, Ahead, Split, Flux, Ring}
 
--- a certificate has a weight for each letter, and for each pair of nodes a bound of its rank, or None if nothing is claimed
+-- a certificate of a rule has evidence on each property, a weight for each letter, and for each pair of nodes a bound of its rank forward and backward, or None if nothing is claimed
 pub record Certificate : Type 0 where
   pub version : CertVersion
   pub rule : LocalRule
@@ -22,37 +22,37 @@ pub record Certificate : Type 0 where
 
 -- The limits of each part, for its rule
 
--- sets of the rule's nodes, pairs of nodes if the version may list pairs, or a word
+-- the evidence that the rule is surjective, or that it isn't, is within its limits: sets of the rule's nodes, or pairs of nodes if the version may list pairs, or a word
 abbrev pub IsSurjectiveShape : CertVersion → LocalRule → SurjectiveEvidence → Type 0
 IsSurjectiveShape version r (Sets sets) = All (λ set. set ≤ 2 ^ node_count r - 1) sets
 IsSurjectiveShape version r (Pairs pairs) = (lists_pairs version ≡ true) × All (λ p. p < pair_count r) pairs
 IsSurjectiveShape version r (Orphan w) = IsWord r.states w
 
--- n letters of an image and a place among the n + m - 1 letters of each preimage, or two words
+-- the evidence that the rule is injective, or that it isn't, is within its limits: n letters of an image and a place c among the n + m - 1 letters of each preimage, both at most 65,535, or two words
 abbrev pub IsInjectiveShape : LocalRule → InjectiveEvidence → Type 0
 IsInjectiveShape r (Window n c) = (1 ≤ n) × (n ≤ 65535) × (c ≤ n + r.width - 2) × (c ≤ 65535)
 IsInjectiveShape r (Twins x y) = IsWord r.states x × IsWord r.states y
 
--- a look-ahead of at least 1, or two configurations
+-- the evidence that the rule is closing on a side, or that it isn't, is within its limits: a look-ahead from 1 to 65,535, or two configurations with at most 1,024 letters in each part
 abbrev pub IsSideShape : LocalRule → SideEvidence → Type 0
 IsSideShape r (Ahead n) = (1 ≤ n) × (n ≤ 65535)
 IsSideShape r (Split x y) = IsShortTail r.states x × IsShortTail r.states y
 
--- a number from -1,000,000 to 1,000,000
+-- the number is from -1,000,000 to 1,000,000
 abbrev pub IsNear : ℤ → Type 0
 IsNear z = (negsuc 999999 ≤ℤ z) × (z ≤ℤ pos 1000000)
 
--- a number for each node, or a word
+-- the evidence that the rule is conserving, or that it isn't, is within its limits: a number from -1,000,000 to 1,000,000 for each node, or a word
 abbrev pub IsSumShape : LocalRule → SumEvidence → Type 0
 IsSumShape r (Flux phi) = (length phi ≡ node_count r) × All IsNear phi
 IsSumShape r (Ring p) = IsWord r.states p
 
--- a claim is None or a number of sixteen bits
+-- the claim is None or a number from 0 to 65,535
 abbrev pub IsClaim : Option ℕ → Type 0
 IsClaim None = ⊤
 IsClaim (Some n) = n ≤ 65535
 
--- a claim for each pair
+-- the list has a claim for each pair of nodes
 pub record IsRankShape (r : LocalRule) (row : List (Option ℕ)) : Type 0 where
   pub each_pair : length row ≡ pair_count r
   pub claims : All IsClaim row

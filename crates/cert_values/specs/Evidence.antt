@@ -1,49 +1,49 @@
--- The evidence that a rule has a property, or that it doesn't, and which of the two it is.
+-- The evidence that a rule has a property, or that it doesn't have it, and which of these two the evidence says.
 use Rattle.std.specs.Prelude.{ℕ, Bool, true, false, ◌&&◌, List, ℤ}
 use Rattle.tail_config.specs.Tails.{TailConfig}
 
--- for surjective a list of sets of nodes or of pairs of nodes, each as a number; for not surjective a word
+-- the evidence is a list of sets of nodes or of pairs of nodes, each as a number, if the rule is surjective, and a word without a preimage if it isn't
 pub data SurjectiveEvidence : Type 0 where
   Sets : (sets : List ℕ) → SurjectiveEvidence
   Pairs : (pairs : List ℕ) → SurjectiveEvidence
   Orphan : (w : List ℕ) → SurjectiveEvidence
 
--- a window for injective, and two words for not injective
+-- the evidence is a determined window if the rule is injective, and two words if it isn't
 pub data InjectiveEvidence : Type 0 where
   Window : (n c : ℕ) → InjectiveEvidence
   Twins : (x y : List ℕ) → InjectiveEvidence
 
--- a look-ahead for closing on a side, and two configurations for not closing there
+-- the evidence is a look-ahead if the rule is closing on this side, and two configurations if it isn't
 pub data SideEvidence : Type 0 where
   Ahead : (n : ℕ) → SideEvidence
   Split : (x y : TailConfig) → SideEvidence
 
--- a number for each node for conserving, and a ring for not conserving
+-- the evidence is a number for each node if the rule is conserving, and a ring if it isn't
 pub data SumEvidence : Type 0 where
   Flux : (phi : List ℤ) → SumEvidence
   Ring : (p : List ℕ) → SumEvidence
 
--- yes if there are sets or pairs
+-- the evidence says that the rule is surjective: it has sets or pairs
 abbrev pub says_surjective : SurjectiveEvidence → Bool
 says_surjective (Sets sets) = true
 says_surjective (Pairs pairs) = true
 says_surjective (Orphan w) = false
 
--- yes if there is a window
+-- the evidence says that the rule is injective: it has a window
 abbrev pub says_injective : InjectiveEvidence → Bool
 says_injective (Window n c) = true
 says_injective (Twins x y) = false
 
--- yes if there is a look-ahead
+-- the evidence says that the rule is closing on this side: it has a look-ahead
 abbrev pub says_closing : SideEvidence → Bool
 says_closing (Ahead n) = true
 says_closing (Split x y) = false
 
--- yes if there is a flux
+-- the evidence says that the rule is conserving: it has a flux
 abbrev pub says_conserving : SumEvidence → Bool
 says_conserving (Flux phi) = true
 says_conserving (Ring p) = false
 
--- yes if there is a look-ahead on both sides
+-- the evidence says that the rule is open: it has a look-ahead on both sides
 abbrev pub says_open : SideEvidence → SideEvidence → Bool
 says_open right left = says_closing right && says_closing left

@@ -16,7 +16,7 @@ use Rattle.word_image.specs.Weights.{AreWeights, own_weights}
 use Rattle.cert_values.specs.declared.cert_version.CertVersion.{CertVersion}
 use Rattle.cert_values.specs.Versions.{names_weights}
 
--- the evidence of a part
+-- the evidence that a part of a certificate stands for
 abbrev pub surjective_of : SurjectivePart → SurjectiveEvidence
 surjective_of (Sets sets) = SurjectiveEvidence.Sets sets
 surjective_of (Pairs pairs) = SurjectiveEvidence.Pairs pairs
@@ -49,17 +49,17 @@ certificate_of c = record {
   backward = c.backward;
 }
 
--- the configurations of a part have this number of letters
+-- if the part has two configurations, both have k states
 abbrev pub IsOver : ℕ → SidePart → Type 0
 IsOver k (Ahead n) = ⊤
 IsOver k (Split x y) = (x.states ≡ k) × (y.states ≡ k)
 
--- a weight for each letter, which is its own value if the version may not name weights
+-- there is a weight for each letter, and it is the letter's own value if the version may not name weights
 pub record IsWeightShape (version : CertVersion) (r : LocalRule) (weights : List ℕ) : Type 0 where
   pub each : AreWeights r.states weights
   pub own : names_weights version ≡ false → weights ≡ own_weights r.states
 
--- a certificate keeps all its limits
+-- the certificate keeps the limits of its rule and of all its parts
 pub record IsShaped (c : Certificate) : Type 0 where
   pub rule : IsRule c.rule
   pub surjective : IsSurjectiveShape c.version c.rule c.surjective

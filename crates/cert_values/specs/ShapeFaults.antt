@@ -1,4 +1,4 @@
--- The first step of reading that bytes fail if they aren't the text of a certificate.
+-- Bytes that aren't the text of a certificate fail some step of reading. This file defines the first step that they fail.
 use Rattle.std.specs.Prelude.{◌≡◌, ◌≢◌, ℕ, List, [], ◌∷◌, ◌++◌, codes, Option, None, All, ⊤}
 use Rattle.serde_json.specs.Data.{Data, Members}
 use Rattle.serde_json.specs.Find.{as_object}
@@ -14,7 +14,7 @@ use Rattle.cert_values.specs.Evidence.{SurjectiveEvidence, InjectiveEvidence, Si
 use Rattle.cert_values.specs.Versions.{number_of}
 use Rattle.cert_values.specs.CertificateTexts.{IsJson, IsObject, HasVersion, HasRuleText, HasSurjective, HasInjective, HasSide, HasConserving, HasWeights, HasRanks, HasNoOther}
 
--- the members pass the step for this key, which comes after the rule
+-- the members pass the step of reading the part with this key; the first three keys come before the parts, and are passed
 abbrev pub Passes : CertVersion → LocalRule → Members → Key → Type 0
 Passes version r ms key.Top = ⊤
 Passes version r ms key.Version = ⊤
@@ -28,11 +28,11 @@ Passes version r ms key.Weights = (weights : List ℕ) × HasWeights version r m
 Passes version r ms key.Ranks = (forward backward : List (Option ℕ)) × HasRanks r ms forward backward
 Passes version r ms key.Unknown = HasNoOther version ms
 
--- the steps of the parts of a certificate, in their order
+-- the steps of reading the parts of a certificate, in their order
 abbrev pub part_steps : List Key
 part_steps = key.Surjective ∷ key.Injective ∷ key.Right ∷ key.Left ∷ key.Conserving ∷ key.Weights ∷ key.Ranks ∷ key.Unknown ∷ []
 
--- the first element of a list without the property
+-- x is the first element of the list xs that doesn't have the property P
 pub record IsFirstWithout {A : Type 0} (P : A → Type 0) (xs : List A) (x : A) : Type 0 where
   pub before : List A
   pub after : List A
@@ -40,7 +40,7 @@ pub record IsFirstWithout {A : Type 0} (P : A → Type 0) (xs : List A) (x : A) 
   pub earlier : All P before
   pub fails : ¬ P x
 
--- The bytes aren't the text of a certificate, and this is the first step that they fail: they aren't JSON, aren't an object, have no version or an unknown one, have no rule or one with a fault, or fail a later step.
+-- The bytes aren't the text of a certificate, and this is the first step that they fail: they aren't JSON, or aren't an object, or have no version or an unknown one, or have no rule or one with a fault, or fail the step of a later part.
 pub data IsShapeFault (bytes : List ℕ) : ShapeFault → Type 0 where
   NoJson : ((d : Data) → ¬ IsJson bytes d) → IsShapeFault bytes fault.NotJson
   NoObject : (d : Data) → IsJson bytes d → as_object d ≡ None → IsShapeFault bytes (fault.Shape key.Top)

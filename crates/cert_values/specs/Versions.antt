@@ -1,4 +1,4 @@
--- The differences between the versions of a certificate.
+-- The differences between the versions of certificates.
 use Rattle.std.specs.Prelude.{ℕ, Bool, true, false}
 use Rattle.cert_values.specs.declared.cert_version.CertVersion.{CertVersion}
 use Rattle.cert_values.specs.declared.cert_version.CertVersion.TheVariants.{One, Two, Three}
@@ -9,13 +9,13 @@ number_of One = 1
 number_of Two = 2
 number_of Three = 3
 
--- from version 2 on, a certificate may name the weights of the letters
+-- a certificate of this version may name the weights of the letters, as it may from version 2 on
 abbrev pub names_weights : CertVersion → Bool
 names_weights One = false
 names_weights Two = true
 names_weights Three = true
 
--- in version 3, a certificate may list pairs
+-- a certificate of this version may list pairs of nodes, as it may in version 3
 abbrev pub lists_pairs : CertVersion → Bool
 lists_pairs One = false
 lists_pairs Two = false

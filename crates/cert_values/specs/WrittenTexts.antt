@@ -14,66 +14,66 @@ use Rattle.cert_values.specs.Evidence.{SurjectiveEvidence, InjectiveEvidence, Si
 use Rattle.cert_values.specs.Certificates.{Certificate}
 use Rattle.cert_values.specs.Versions.{number_of}
 
--- values as an array
+-- the JSON array of these values
 abbrev pub array_from : List Data → Data
 array_from ds = array (items_of ds)
 
--- a whole number in decimal
+-- the JSON number of a whole number, in decimal
 abbrev pub whole_value : ℕ → Data
 whole_value n = number (unsigned n)
 
--- a whole number in decimal, with a minus sign if it is negative
+-- the JSON number of a whole number, in decimal, with a minus sign if it is negative
 abbrev pub signed_value : ℤ → Data
 signed_value z = number (of_integer z)
 
--- the digits of a word in lower case
+-- the JSON string of the hexadecimal digits of a word, in lower case
 abbrev pub word_value : List ℕ → Data
 word_value w = string (map lower_digit w)
 
--- the text of a configuration
+-- the JSON string of the text of a configuration
 abbrev pub tail_value : TailConfig → Data
 tail_value t = string (tail.printed t)
 
--- null if nothing is claimed
+-- the JSON value of a claim: null if nothing is claimed, or else a number
 abbrev pub claim_value : Option ℕ → Data
 claim_value None = null
 claim_value (Some n) = whole_value n
 
--- an object with one member
+-- the JSON object with only this member
 abbrev pub only : List ℕ → Data → Data
 only k d = object (member k d no_members)
 
--- {"sets":[..]}, {"pairs":[..]} or {"orphan":".."}
+-- the JSON value of the evidence that a rule is surjective, or that it isn't: {"sets":[..]}, {"pairs":[..]} or {"orphan":".."}
 abbrev pub surjective_value : SurjectiveEvidence → Data
 surjective_value (Sets sets) = only (codes "sets") (array_from (map whole_value sets))
 surjective_value (Pairs pairs) = only (codes "pairs") (array_from (map whole_value pairs))
 surjective_value (Orphan w) = only (codes "orphan") (word_value w)
 
--- {"c":C,"n":N} or {"twins":["..",".."]}
+-- the JSON value of the evidence that a rule is injective, or that it isn't: {"c":C,"n":N} or {"twins":["..",".."]}
 abbrev pub injective_value : InjectiveEvidence → Data
 injective_value (Window n c) = object (member (codes "c") (whole_value c) (member (codes "n") (whole_value n) no_members))
 injective_value (Twins x y) = only (codes "twins") (array_from (word_value x ∷ word_value y ∷ []))
 
--- {"ahead":A} or {"split":["..",".."]}
+-- the JSON value of the evidence that a rule is closing on a side, or that it isn't: {"ahead":A} or {"split":["..",".."]}
 abbrev pub side_value : SideEvidence → Data
 side_value (Ahead n) = only (codes "ahead") (whole_value n)
 side_value (Split x y) = only (codes "split") (array_from (tail_value x ∷ tail_value y ∷ []))
 
--- {"flux":[..]} or {"ring":".."}
+-- the JSON value of the evidence that a rule is conserving, or that it isn't: {"flux":[..]} or {"ring":".."}
 abbrev pub sum_value : SumEvidence → Data
 sum_value (Flux phi) = only (codes "flux") (array_from (map signed_value phi))
 sum_value (Ring p) = only (codes "ring") (word_value p)
 
--- {"backward":[..],"forward":[..]}
+-- the JSON value of the claims of ranks: {"backward":[..],"forward":[..]}
 abbrev pub ranks_value : List (Option ℕ) → List (Option ℕ) → Data
 ranks_value forward backward =
     object (member (codes "backward") (array_from (map claim_value backward)) (member (codes "forward") (array_from (map claim_value forward)) no_members))
 
--- the weights, if they aren't the letters' own values
+-- the member of the weights, or no member if they are the letters' own values
 abbrev pub weights_members : LocalRule → List ℕ → Members
 weights_members r weights = if bytes_eq weights (own_weights r.states) then no_members else member (codes "weights") (array_from (map whole_value weights)) no_members
 
--- the members that each certificate has, followed by these
+-- the members that each certificate has, followed by the given members
 abbrev pub members_before : Members → Certificate → Members
 members_before rest c =
     member (codes "conserving") (sum_value c.conserving)
@@ -85,14 +85,14 @@ members_before rest c =
     (member (codes "surjective") (surjective_value c.surjective)
     (member (codes "version") (whole_value (number_of c.version)) rest)))))))
 
--- the members that are written for a certificate
+-- the members of the JSON object that is written for a certificate
 abbrev pub certificate_members : Certificate → Members
 certificate_members c = members_before (weights_members c.rule c.weights) c
 
--- the value that is written for a certificate
+-- the JSON value that is written for a certificate
 abbrev pub certificate_value : Certificate → Data
 certificate_value c = object (certificate_members c)
 
--- the text that is written: keys ascending, and no blanks
+-- the text that is written for a certificate: its keys ascend, and it has no blanks
 abbrev pub certificate_text : Certificate → List ℕ
 certificate_text c = compact_text (certificate_value c)

@@ -8,7 +8,7 @@ use Rattle.tail_config.specs.Tails.{IsInjective, IsRightClosing, IsLeftClosing}
 use Rattle.tail_config.specs.Splits.{IsLeastRightSplit, IsLeastLeftSplit}
 use Rattle.cert_values.specs.Evidence.{InjectiveEvidence, SideEvidence, SumEvidence, Window, Twins, Ahead, Split, Flux, Ring}
 
--- the evidence for a rule and weights: an orphan, or None if it is surjective, and the evidence for the other four questions
+-- the evidence for a rule with weights: an orphan, or None if the rule is surjective, and the evidence that it is injective, right-closing, left-closing and conserving, or that it isn't
 pub record Evidence : Type 0 where
   pub rule : LocalRule
   pub weights : List ℕ
@@ -18,32 +18,32 @@ pub record Evidence : Type 0 where
   pub left : SideEvidence
   pub conserving : SumEvidence
 
--- every word has a preimage; or this is the least orphan
+-- the rule is surjective and there is no orphan, or it isn't and this is the least orphan
 abbrev pub IsOrphanPart : LocalRule → Option (List ℕ) → Type 0
 IsOrphanPart r None = IsSurjective r
 IsOrphanPart r (Some w) = IsLeastOrphan r w
 
--- no two configurations share an image, and this is the least determined window; or some do, and these are the least twins
+-- the rule is injective and this is the least determined window, or it isn't and these are the least twins
 abbrev pub IsInjectivePart : LocalRule → InjectiveEvidence → Type 0
 IsInjectivePart r (Window n c) = IsInjective r × IsLeastDetermined r n c
 IsInjectivePart r (Twins x y) = ¬ IsInjective r × IsLeastTwins r x y
 
--- the rule is right-closing, and this is the least look-ahead; or it isn't, and this is the least normal split
+-- the rule is right-closing and this is the least look-ahead, or it isn't and this is the least normal right split
 abbrev pub IsRightPart : LocalRule → SideEvidence → Type 0
 IsRightPart r (Ahead n) = IsRightClosing r × IsLeastRightAhead r n
 IsRightPart r (Split x y) = ¬ IsRightClosing r × IsLeastRightSplit r x y
 
--- the rule is left-closing, and this is the least look-ahead; or it isn't, and this is the least normal left split
+-- the rule is left-closing and this is the least look-ahead, or it isn't and this is the least normal left split
 abbrev pub IsLeftPart : LocalRule → SideEvidence → Type 0
 IsLeftPart r (Ahead n) = IsLeftClosing r × IsLeastRightAhead (mirrored r) n
 IsLeftPart r (Split x y) = ¬ IsLeftClosing r × IsLeastLeftSplit r x y
 
--- every ring keeps its sum, and this is the flux that is 0 at node 0; or some doesn't, and this is the least
+-- the rule is conserving and this is its flux with 0 at node 0, or it isn't and this is the least ring that doesn't keep its sum
 abbrev pub IsConservingPart : (ℕ → ℕ) → LocalRule → SumEvidence → Type 0
 IsConservingPart weight r (Flux phi) = IsConserving weight r × IsFlux weight r phi × (slice_get phi 0 ≡ Some (pos 0))
 IsConservingPart weight r (Ring p) = ¬ IsConserving weight r × IsLeastLossyRing weight r p
 
--- each verdict is true of the rule, and its evidence is the least
+-- the evidence is right: each verdict is true of the rule, and its evidence is the least
 pub record IsLeastEvidence (weight : ℕ → ℕ) (r : LocalRule) (e : Evidence) : Type 0 where
   pub rule : e.rule ≡ r
   pub surjective : IsOrphanPart r e.orphan

@@ -1,9 +1,9 @@
--- The evidence in a report of the code.
+-- The evidence for which a report of the code stands.
 use Rattle.cert_values.specs.Parts.{injective_of, side_of, sum_of}
 use Rattle.cert_conditions.specs.declared.report.Report.{Report}
 use Rattle.certificate_laws.specs.LeastEvidence.{Evidence}
 
--- the evidence in a report
+-- the evidence for which a report of the code stands
 abbrev pub evidence_of : Report → Evidence
 evidence_of e = record {
   rule = e.rule;

@@ -13,19 +13,19 @@ use Rattle.cert_conditions.specs.Accepted.{IsAccepted, verdicts_of}
 use Rattle.certificate_laws.specs.LeastEvidence.{IsLeastEvidence}
 use Rattle.garden_laws.specs.ReachedPairs.{AreReached}
 
--- the orphan, if there is one
+-- the orphan, or None if the evidence is a list of sets or pairs
 abbrev pub orphan_of : SurjectiveEvidence → Option (List ℕ)
 orphan_of (Sets sets) = None
 orphan_of (Pairs pairs) = None
 orphan_of (Orphan w) = Some w
 
--- in version 2 the sets are the cover list, and in version 3 the pairs are the reached ones
+-- the list of the evidence is the right one for the version: the cover list in version 2, and the reached pairs in version 3
 abbrev pub IsListPart : CertVersion → LocalRule → SurjectiveEvidence → Type 0
 IsListPart version r (Sets sets) = (version ≡ Two) × IsCoverList r sets
 IsListPart version r (Pairs pairs) = (version ≡ Three) × AreReached r pairs
 IsListPart version r (Orphan w) = ⊤
 
--- the rank of each pair, or None if it is endless
+-- the row has the rank of each pair of nodes, or None if the pair is endless
 pub record IsRankRow (r : LocalRule) (Together : ℕ → ℕ → ℕ → Type 0) (row : List (Option ℕ)) : Type 0 where
   pub each_pair : length row ≡ pair_count r
   pub ranks : (p : ℕ) → p < pair_count r
@@ -41,7 +41,7 @@ pub record HasWrittenParts (version : CertVersion) (r : LocalRule) (weights : Li
   pub forward : IsRankRow r (BeginTogether r) c.forward
   pub backward : IsRankRow r (EndTogether r) c.backward
 
--- the program writes this certificate for the rule and weights: its evidence is the least, its text is accepted, and has fewer than 450,000 bytes
+-- the program writes this certificate for the rule and weights: its evidence is the least, and its text is accepted and has fewer than 450,000 bytes
 pub record IsWritten (version : CertVersion) (r : LocalRule) (weights : List ℕ) (c : Certificate) : Type 0 where
   pub parts : HasWrittenParts version r weights c
   pub accepted : IsAccepted (certificate_text c) (verdicts_of c)

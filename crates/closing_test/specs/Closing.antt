@@ -1,4 +1,4 @@
--- The meaning of the results of `right` and `left`.
+-- The meaning of the results of the functions `right` and `left`, which test whether a rule is closing on a side.
 use Rattle.std.specs.Prelude.{◌≡◌, ℕ, ◌+◌, ◌≤◌, length}
 use Rattle.least_walk.specs.Queues.{most_steps}
 use Rattle.pair_rank.specs.Sides.{most_rank}
@@ -21,24 +21,24 @@ pub record IsShortOver (r : LocalRule) (t : TailOver) : Type 0 where
   pub middle : length t.config.middle ≤ most_steps
   pub right : length t.config.right ≤ most_steps
 
--- the least normal right split, in configurations over the rule's letters whose parts have at most 512 letters each
+-- x and y are the least normal right split, as configurations over the rule's letters whose parts have at most 512 letters each
 pub record IsLeastSplitOf (r : LocalRule) (x y : TailOver) : Type 0 where
   pub least : IsLeastRightSplit r x.config y.config
   pub first : IsShortOver r x
   pub second : IsShortOver r y
 
--- the least normal left split, in configurations over the rule's letters whose parts have at most 512 letters each
+-- x and y are the least normal left split, as configurations over the rule's letters whose parts have at most 512 letters each
 pub record IsLeastLeftSplitOf (r : LocalRule) (x y : TailOver) : Type 0 where
   pub least : IsLeastLeftSplit r x.config y.config
   pub first : IsShortOver r x
   pub second : IsShortOver r y
 
--- the least right look-ahead of a right-closing rule, or the least normal right split of one that isn't
+-- the result of `right` is right: the least right look-ahead if the rule is right-closing, or the least normal right split if it isn't
 abbrev pub IsRightAnswer : LocalRule → Closing → Type 0
 IsRightAnswer r (Ahead n) = IsRightClosing r × IsLeastRightAhead r n × (n ≤ most_ahead)
 IsRightAnswer r (Split x y) = ¬ IsRightClosing r × IsLeastSplitOf r x y
 
--- the least left look-ahead of a left-closing rule, or the least normal left split of one that isn't
+-- the result of `left` is right: the least left look-ahead if the rule is left-closing, or the least normal left split if it isn't
 abbrev pub IsLeftAnswer : LocalRule → Closing → Type 0
 IsLeftAnswer r (Ahead n) = IsLeftClosing r × IsLeastRightAhead (mirrored r) n × (n ≤ most_ahead)
 IsLeftAnswer r (Split x y) = ¬ IsLeftClosing r × IsLeastLeftSplitOf r x y

@@ -19,11 +19,11 @@ IsLeftClosingMap r = (x y : Config) → IsConfig r.states x → IsConfig r.state
 abbrev pub IsPreinjectiveMap : LocalRule → Type 0
 IsPreinjectiveMap r = (x y : Config) → IsConfig r.states x → IsConfig r.states y → image_of r x ≡ image_of r y → AgreeFarLeft x y → AgreeFarRight x y → x ≡ y
 
--- a configuration that agrees far to the left with the image of x is the image of one that agrees far to the left with x (right-continuing)
+-- the map is right-continuing: if y agrees far to the left with the image of x, it is the image of a configuration that agrees far to the left with x
 abbrev pub IsRightContinuingMap : LocalRule → Type 0
 IsRightContinuingMap r = (x y : Config) → IsConfig r.states x → IsConfig r.states y → AgreeFarLeft (image_of r x) y → (z : Config) × IsConfig r.states z × AgreeFarLeft x z × (image_of r z ≡ y)
 
--- a configuration that agrees far to the right with the image of x is the image of one that agrees far to the right with x (left-continuing)
+-- the map is left-continuing: if y agrees far to the right with the image of x, it is the image of a configuration that agrees far to the right with x
 abbrev pub IsLeftContinuingMap : LocalRule → Type 0
 IsLeftContinuingMap r = (x y : Config) → IsConfig r.states x → IsConfig r.states y → AgreeFarRight (image_of r x) y → (z : Config) × IsConfig r.states z × AgreeFarRight x z × (image_of r z ≡ y)
 
@@ -39,11 +39,11 @@ IsOntoMap r = (y : Config) → IsConfig r.states y → (x : Config) × IsConfig 
 abbrev pub IsBijectiveMap : LocalRule → Type 0
 IsBijectiveMap r = (y : Config) → IsConfig r.states y → (x : Config) × IsConfig r.states x × (image_of r x ≡ y) × ((z : Config) → IsConfig r.states z → image_of r z ≡ y → z ≡ x)
 
--- each configuration that agrees with the image of x from -N to N is the image of one that agrees with x from -n to n
+-- each configuration that agrees with the image of x from -N to N is the image of a configuration that agrees with x from -n to n
 abbrev pub IsNear : LocalRule → Config → ℕ → ℕ → Type 0
 IsNear r x n N = (y : Config) → IsConfig r.states y → AgreeWithin N (image_of r x) y → (z : Config) × IsConfig r.states z × AgreeWithin n x z × (image_of r z ≡ y)
 
--- the map is open: for each x and n there is an N such that each configuration that agrees with the image of x from -N to N is the image of one that agrees with x from -n to n
+-- the map is open: for each x and n there is an N such that each configuration that agrees with the image of x from -N to N is the image of a configuration that agrees with x from -n to n
 abbrev pub IsOpenMap : LocalRule → Type 0
 IsOpenMap r = (x : Config) (n : ℕ) → IsConfig r.states x → (N : ℕ) × IsNear r x n N
 
@@ -51,11 +51,11 @@ IsOpenMap r = (x : Config) (n : ℕ) → IsConfig r.states x → (N : ℕ) × Is
 abbrev pub IsEvenlyOpenMap : LocalRule → Type 0
 IsEvenlyOpenMap r = (n : ℕ) → (N : ℕ) × ((x : Config) → IsConfig r.states x → IsNear r x n N)
 
--- two configurations differ at a place
+-- two configurations differ at some place
 abbrev pub Differ : Config → Config → Type 0
 Differ x y = (i : ℤ) × (x i ≢ y i)
 
--- configurations with the same image, of which those with the numbers from 0 to n are all different
+-- a sequence of configurations with the same image, in which the configurations 0 to n are all different
 pub record AreMany (r : LocalRule) (n : ℕ) (xs : ℕ → Config) : Type 0 where
   pub configs : (i : ℕ) → IsConfig r.states (xs i)
   pub differ : (i j : ℕ) → i < j → j ≤ n → Differ (xs i) (xs j)

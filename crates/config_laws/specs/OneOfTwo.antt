@@ -1,11 +1,11 @@
--- A principle that isn't provable constructively, and a principle from which it follows.
+-- The principle `OneOfTwo`, which isn't provable constructively, and the principle `AllOrNot`, from which it follows.
 use Rattle.std.specs.Prelude.{◌≡◌, ◌⊎◌, ℕ, suc, Bool, true}
 
--- if a test passes at a number, it passes at the number before
+-- if the test passes at a number, it passes at the number before
 abbrev pub Falls : (ℕ → Bool) → Type 0
 Falls test = (n : ℕ) → test (suc n) ≡ true → test n ≡ true
 
--- if of two falling tests one passes at each number, then one of them passes at all numbers: a form of the lesser limited principle of omniscience
+-- if of two falling tests at least one passes at each number, then one of the two passes at all numbers: a form of the lesser limited principle of omniscience
 abbrev pub OneOfTwo : Type 0
 OneOfTwo = (p q : ℕ → Bool) → Falls p → Falls q → ((n : ℕ) → (p n ≡ true) ⊎ (q n ≡ true)) → ((n : ℕ) → p n ≡ true) ⊎ ((n : ℕ) → q n ≡ true)
 

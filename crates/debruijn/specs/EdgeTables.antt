@@ -1,4 +1,4 @@
--- The rows of edges form one table, so the rule determines them.
+-- The edges of a rule as a table, with a row for each label and a set in it for each node. The rule determines this table.
 use Rattle.std.proofs.Common.{◌≡◌, ℕ, zero, suc, ◌+◌, ◌*◌, ◌/◌, ◌%◌, ◌^◌, ◌<◌, ◌≤◌, List, [], length, replicate, slice_index_or, refl, sym, ◌∙◌, subst, arith, ⊎_elim, mod-lt}
 use Rattle.std.proofs.lemmas.Bool.{cases_lt}
 use Rattle.std.proofs.lemmas.Grind.{same_number_lists}
@@ -13,12 +13,12 @@ use Rattle.word_image.proofs.laws.Edges.{HaveEdges, HaveEdges-none, HaveEdges-mo
 use Rattle.word_image.proofs.laws.WindowParts.{some_letter, window_with-within}
 use Rattle.search_laws.proofs.StepSets.{IsSetOf-unique}
 
--- there are 16 rows of 16 sets
+-- the table has 16 rows of 16 sets
 pub record AreRowsOf16 (rows : List (List ℕ)) : Type 0 where
   pub tall : length rows ≡ most_states
   pub wide : (label : ℕ) → label < most_states → length (slice_index_or rows label []) ≡ most_nodes
 
--- the table of the first n edges, node by node and letter by letter
+-- the table of the first n edges, ordered by nodes and then by letters
 abbrev first_edges : Side → LocalRule → ℕ → List (List ℕ)
 first_edges side r zero = replicate most_states (replicate most_nodes 0)
 first_edges side r (suc n) = with_ends (first_edges side r n) (label_at side r (n / r.states) (n % r.states)) (n / r.states) (2 ^ end_at side r (n / r.states) (n % r.states))
@@ -27,7 +27,7 @@ first_edges side r (suc n) = with_ends (first_edges side r n) (label_at side r (
 abbrev pub edge_table : Side → LocalRule → List (List ℕ)
 edge_table side r = first_edges side r (node_count r * r.states)
 
--- two tables of a rule's edges are equal
+-- two tables of the edges of the same rule are equal
 pub AreEdgeRows-one : {side : Side} {r : LocalRule} {rows others : List (List ℕ)} → AreEdgeRows side r rows → AreRowsOf16 rows → AreEdgeRows side r others → AreRowsOf16 others → rows ≡ others
 AreEdgeRows-one {side} {r} {rows} {others} edges size also as_many = same_lists rows others (size.tall ∙ sym as_many.tall) (λ label d inside.
     let below : label < most_states = omega (arith, size.tall, inside) in
@@ -42,7 +42,7 @@ AreEdgeRows-one {side} {r} {rows} {others} edges size also as_many = same_lists 
     (cases_lt u (node_count r)))
     ∙ get_or_default others label [] d (omega (arith, size.tall, as_many.tall, inside)))
 
--- a label is below 16
+-- each label of an accepted rule is below 16
 label_at-below : (side : Side) {r : LocalRule} → IsRule r → (u a : ℕ) → u < node_count r → a < r.states → label_at side r u a < most_states
 label_at-below side {r} rule u a node letter =
     let window = window_with side r u a in

@@ -1,10 +1,10 @@
--- Sets of pairs of nodes as rows: for each node u the set of the nodes v for which the pair (u, v) is in it. Bit v stands for node v.
+-- Sets of pairs of nodes as rows: for each node u the set of the nodes v for which the pair (u, v) is in the set of pairs. Bit v stands for node v. A pair is reached if steps lead to it from a first pair on the right.
 use Rattle.std.specs.Prelude.{◌≡◌, ◌≢◌, ℕ, ◌<◌, ◌≤◌, ◌⊎◌, ◌↔◌, List, length, slice_index, IsBitSet}
 use Rattle.word_image.specs.LocalRules.{LocalRule, node_count, most_nodes}
 use Rattle.word_image.specs.Graphs.{next, label, pair_of, HasBit, AreSets}
 use Rattle.garden_laws.specs.ReachedPairs.{IsReached}
 
--- a letter other than a leads from the node to v, with the same label as a
+-- some letter other than a leads from the node to v, along an edge with the same label as the edge of a
 pub record LeadsApart (r : LocalRule) (node a v : ℕ) : Type 0 where
   pub b : ℕ
   pub letter : b < r.states
@@ -12,7 +12,7 @@ pub record LeadsApart (r : LocalRule) (node a v : ℕ) : Type 0 where
   pub one_label : label r node a ≡ label r node b
   pub leads : next r node b ≡ v
 
--- a letter leads from a node of the set to v, with the label that a has at this node
+-- some letter leads from a node of the set to v, along an edge with the same label as the edge of a from the given node
 pub record LeadsBeside (r : LocalRule) (node set a v : ℕ) : Type 0 where
   pub other : ℕ
   pub b : ℕ
@@ -22,18 +22,18 @@ pub record LeadsBeside (r : LocalRule) (node set a v : ℕ) : Type 0 where
   pub one_label : label r node a ≡ label r other b
   pub leads : next r other b ≡ v
 
--- rows of sets of nodes
+-- there are 16 rows, and the row of each node is a set of nodes
 pub record AreNodeRows (r : LocalRule) (rows : List ℕ) : Type 0 where
   pub long : length rows ≡ most_nodes
   pub within : AreSets r rows
 
--- the pairs of the nodes that the first n letters reach from the node, with the nodes that each has, were added
+-- the new rows have the pairs of the old rows, and each pair (u, v) for which one of the first n letters a leads from the node to u and Has a v holds
 pub record AreAdded (r : LocalRule) (node : ℕ) (Has : ℕ → ℕ → Type 0) (n : ℕ) (old new : List ℕ) : Type 0 where
   pub rows : AreNodeRows r new
   pub grown : (u : ℕ) → u < node_count r → slice_index old u ≤ slice_index new u
   pub pairs : (u v : ℕ) → u < node_count r → v < node_count r → (HasBit new u v ↔ (HasBit old u v ⊎ ((a : ℕ) × (a < n) × (next r node a ≡ u) × Has a v)))
 
--- all that was found is reached and has two different nodes, and the steps from what was followed lead to what was found
+-- all found pairs are reached and have two different nodes, and the steps from followed pairs lead to found pairs
 pub record IsRowSearch (r : LocalRule) (found followed : List ℕ) : Type 0 where
   pub rows : AreNodeRows r found
   pub long : length followed ≡ most_nodes

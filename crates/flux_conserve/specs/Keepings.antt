@@ -1,11 +1,11 @@
--- The evidence that a rule keeps the weight of every ring, or that it doesn't.
+-- The evidence that a rule of width m keeps the weight of every ring, or that it doesn't.
 use Rattle.std.specs.Prelude.{◌≡◌, ⊤, ℕ, ◌-◌, ◌*◌, ◌≤◌, List, length, take, drop, replicate, slice_get, Some, Bool, true, false, ℤ, pos}
 use Rattle.word_image.specs.LocalRules.{LocalRule, node_count, most_nodes}
 use Rattle.word_image.specs.Rings.{IsFlux, IsLeastLossyRing}
 use Rattle.flux_conserve.specs.declared.verdict.Keeping.{Keeping}
 use Rattle.flux_conserve.specs.declared.verdict.Keeping.TheVariants.{Flux, Ring}
 
--- the flux of a rule that is 0 at node 0, in a row of 16 with zeros after the last node; there is only one
+-- the row of 16 numbers is the flux that is 0 at node 0, followed by zeros after the last node; there is only one such flux
 pub record IsFluxRow (weight : ℕ → ℕ) (r : LocalRule) (row : List ℤ) : Type 0 where
   pub flux : IsFlux weight r (take (node_count r) row)
   pub starts : slice_get row 0 ≡ Some (pos 0)
@@ -17,7 +17,7 @@ abbrev pub has_flux : Keeping → Bool
 has_flux (Flux row) = true
 has_flux (Ring ring) = false
 
--- the result is that flux, or the least ring that doesn't keep its sum
+-- the result is the flux that is 0 at node 0, or the least ring that doesn't keep its sum
 abbrev pub IsShown : (ℕ → ℕ) → LocalRule → Keeping → Type 0
 IsShown weight r (Flux row) = IsFluxRow weight r row
 IsShown weight r (Ring ring) = IsLeastLossyRing weight r ring

@@ -1,4 +1,4 @@
--- The words that are read along edges from the nodes of a set, and the greatest set from which no other words are read.
+-- The words that are read along edges from the nodes of a set, and the greatest set from which no other words are read. A word is read from a node if its letters are the labels of successive edges from this node.
 use Rattle.std.specs.Prelude.{◌≡◌, ℕ, ◌^◌, ◌<◌, ◌≤◌, List, length, slice_index, IsBitSet}
 use Rattle.word_image.specs.LocalRules.{LocalRule, node_count}
 use Rattle.word_image.specs.Graphs.{IsNodeSet}
@@ -6,7 +6,7 @@ use Rattle.word_image.specs.Edges.{IsEdge, IsStep}
 use Rattle.word_image.specs.declared.side.Side.TheVariants.{Right}
 use Rattle.search_laws.specs.Walks.{Walk}
 
--- every node of the one set is in the other
+-- every node of the first set is in the other set
 abbrev pub IsWithin : LocalRule → ℕ → ℕ → Type 0
 IsWithin r set other = (u : ℕ) → u < node_count r → IsBitSet set u → IsBitSet other u
 
@@ -14,37 +14,37 @@ IsWithin r set other = (u : ℕ) → u < node_count r → IsBitSet set u → IsB
 abbrev pub IsLedInto : LocalRule → ℕ → ℕ → ℕ → Type 0
 IsLedInto r set a u = (v : ℕ) → IsEdge Right r a u v → IsBitSet set v
 
--- the set of the nodes from which all edges with label a lead into the other set
+-- the set `before` consists of the nodes from which all edges with label a lead into the given set
 pub record IsBack (r : LocalRule) (set a before : ℕ) : Type 0 where
   pub of : IsNodeSet r (IsLedInto r set a) before
 
--- the set consists of the nodes from which all edges with label a lead into the rest
+-- the set consists of the nodes from which all edges with the letter a as label lead into the set `rest`
 abbrev pub StepsInto : LocalRule → ℕ → ℕ → ℕ → Type 0
 StepsInto r set a rest = (a < r.states) × IsBack r rest a set
 
--- the set of the nodes from which the word z isn't read
+-- the set consists of the nodes from which the word z isn't read
 abbrev pub IsUnread : LocalRule → List ℕ → ℕ → Type 0
 IsUnread r z set = Walk (StepsInto r) set z 0
 
--- a set is unread: it consists of the nodes from which some word isn't read
+-- the set is unread: it consists of the nodes from which some word isn't read
 abbrev pub IsUnreadSet : LocalRule → ℕ → Type 0
 IsUnreadSet r set = (z : List ℕ) × IsUnread r z set
 
--- the closure of a set: the intersection of the unread sets that contain it
+-- `closure` is the closure of the set: the intersection of the unread sets that contain it
 pub record IsClosure (r : LocalRule) (set closure : ℕ) : Type 0 where
   pub of : IsNodeSet r (λ u. (unread : ℕ) → IsUnreadSet r unread → IsWithin r set unread → IsBitSet unread u) closure
 
--- a step of a set, followed by the closure
+-- `after` is the closure of the set that a step on the letter a reaches from the given set
 pub record IsClosedStep (r : LocalRule) (set a after : ℕ) : Type 0 where
   pub to : ℕ
   pub step : IsStep r set a to
   pub closure : IsClosure r to after
 
--- the closures of the sets from n on, in the order of the sets
+-- the list has, for each set with a number from n on, its closure at this number
 pub record AreClosuresFrom (r : LocalRule) (n : ℕ) (closures : List ℕ) : Type 0 where
   pub long : length closures ≡ 2 ^ node_count r
   pub closure : (set : ℕ) → n ≤ set → set < 2 ^ node_count r → IsClosure r set (slice_index closures set)
 
--- the closures of all sets
+-- the list has the closure of each set
 abbrev pub AreClosures : LocalRule → List ℕ → Type 0
 AreClosures r = AreClosuresFrom r 0

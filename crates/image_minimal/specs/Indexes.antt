@@ -2,7 +2,7 @@
 use Rattle.std.specs.Prelude.{◌≡◌, ℕ, ◌<◌, ◌↔◌, ◌⊎◌, List, [], ◌∷◌, ◌++◌, length, slice_get, get_or, Option, Some, None, Contains}
 use Rattle.word_image.specs.LocalRules.{most_sets}
 
--- the place of a set in the list, or None if it isn't there
+-- `place` is the place of the set in the list, or None if the set isn't in the list
 abbrev pub IsPlaceOf : List ℕ → ℕ → Option ℕ → Type 0
 IsPlaceOf sets set place = (i : ℕ) → (place ≡ Some i) ↔ (slice_get sets i ≡ Some set)
 
@@ -12,6 +12,6 @@ pub record IsExactIndex (sets : List ℕ) (places : List (Option ℕ)) : Type 0 
   pub within : (i set : ℕ) → slice_get sets i ≡ Some set → set < most_sets
   pub each : (set : ℕ) → set < length places → IsPlaceOf sets set (get_or places set None)
 
--- the set was in the list, or it was new and was appended
+-- the set was in the list, which stayed the same, or it was new and was appended
 abbrev pub IsInserted : List ℕ → List ℕ → ℕ → Type 0
 IsInserted old new set = ((new ≡ old) × Contains old set) ⊎ ((¬ Contains old set) × (new ≡ old ++ set ∷ []))

@@ -2,7 +2,7 @@
 use Rattle.std.specs.Prelude.{◌≡◌, ℕ, ◌+◌, ◌<◌, ◌≤◌, List, length, slice_index, Bool, false, if◌then◌else◌}
 use Rattle.std.specs.List.{sum_by}
 
--- a colouring in which each number has the colour of its parent, so that each class has one colour
+-- f is a colouring in which each number has the colour of its parent, so that each class has one colour
 abbrev pub AreColours : List ℕ → (ℕ → Bool) → Type 0
 AreColours parents f = (x : ℕ) → x < length parents → f (slice_index parents x) ≡ f x
 
@@ -14,7 +14,7 @@ IsFalling parents = (x : ℕ) → x < length parents → slice_index parents x �
 abbrev pub total : List ℕ → ℕ
 total = sum_by (λ x. x)
 
--- each number has a parent in its class, the roots are the same, and no parent has grown
+-- each number has a new parent in its old class that isn't greater, the old roots are still roots, and the sum of all parents hasn't grown
 pub record IsHalved (old new : List ℕ) : Type 0 where
   pub long : length new ≡ length old
   pub falling : IsFalling new
@@ -22,13 +22,13 @@ pub record IsHalved (old new : List ℕ) : Type 0 where
   pub roots : (x : ℕ) → x < length old → slice_index old x ≡ x → slice_index new x ≡ x
   pub no_more : total new ≤ total old
 
--- the path from a number is halved up to a lesser number of its class
+-- on the way from `number` to the root of its class, the search has come to the number `at`, which is of the same class and isn't greater; each new parent is in the old class of its number
 pub record IsOnWay (old new : List ℕ) (number at : ℕ) : Type 0 where
   pub halved : IsHalved old new
   pub within : at ≤ number
   pub one : (f : ℕ → Bool) → AreColours old f → f number ≡ f at
 
--- the classes of two numbers are joined, or they were the same
+-- the classes of x and y were joined, or x and y were in one class before
 pub record IsJoin (old new : List ℕ) (x y : ℕ) (joined : Bool) : Type 0 where
   pub long : length new ≡ length old
   pub one : (f : ℕ → Bool) → AreColours old f → joined ≡ false → f x ≡ f y

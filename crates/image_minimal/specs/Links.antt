@@ -1,4 +1,4 @@
--- Pairs of sets that the same word reaches under two rules, linked (Hopcroft and Karp 1971).
+-- Links for the test whether two rules have the same orphans (Hopcroft and Karp 1971). A link is a pair of sets of nodes that the same word reaches, the first set under the first rule and the second set under the second rule.
 use Rattle.std.specs.Prelude.{◌≡◌, ℕ, ◌+◌, ◌≤◌, ◌^◌, List, length, map, slice_get, Some, Bool, nat_eq}
 use Rattle.std.specs.List.{range_with_len}
 use Rattle.search_laws.specs.SearchQueues.{Place, TreeSpells, IsFilled, filled}
@@ -15,15 +15,15 @@ link_place x = record { state = (x.first, x.second); parent = x.parent; letter =
 abbrev pub link_places : List Link → List (Place (ℕ × ℕ))
 link_places = map link_place
 
--- the two sets of each link that was made before the first e edges had been followed have the same colour; set s of the second rule has the number n + s
+-- f gives the same colour to the two sets of each link that was made before the first e edges had been followed; set s of the second rule has the number n + s
 abbrev pub HaveOneColour : ℕ → ℕ → List Link → ℕ → (ℕ → Bool) → Type 0
 HaveOneColour n k links e f = (i : ℕ) (x : Link) → slice_get links i ≡ Some x → filled k i (link_place x) ≤ e → f x.first ≡ f (n + x.second)
 
--- a step on the same letter under both rules
+-- a step from one pair of sets to another, on the same letter under both rules
 abbrev pub LinkStep : LocalRule → LocalRule → ℕ × ℕ → ℕ → ℕ × ℕ → Type 0
 LinkStep r q from a to = IsStep r from.0 a to.0 × IsStep q from.1 a to.1
 
--- the links made before the first e edges had been followed join two sets: these have the same colour under every colouring in which the two sets of each of these links do
+-- the links made before the first e edges had been followed join the two sets of the pair: both sets have the same colour under every colouring that gives one colour to the two sets of each of these links
 abbrev pub HasChain : LocalRule → List Link → ℕ × ℕ → ℕ → Type 0
 HasChain r links pair e = (f : ℕ → Bool) → HaveOneColour (2 ^ node_count r) r.states links e f → f pair.0 ≡ f (2 ^ node_count r + pair.1)
 
@@ -31,7 +31,7 @@ HasChain r links pair e = (f : ℕ → Bool) → HaveOneColour (2 ^ node_count r
 abbrev pub set_count : LocalRule → LocalRule → ℕ
 set_count r q = 2 ^ node_count r + 2 ^ node_count q
 
--- a bound on the number of links: each link makes some parent less
+-- a bound on the number of links, since each link makes some parent less
 abbrev pub most_links : LocalRule → LocalRule → ℕ
 most_links r q = total (range_with_len 0 (set_count r q)) + 1
 
@@ -43,6 +43,6 @@ pub record IsLinkSearch (r q : LocalRule) (links : List Link) (parents : List �
   pub joined : (f : ℕ → Bool) → HaveOneColour (2 ^ node_count r) r.states links e f → AreColours parents f
   pub few : length links + total parents ≤ most_links r q
 
--- the word on the way to a link
+-- the word of the letters on the way from the first link to this one
 abbrev pub SpellsLink : List Link → ℕ → List ℕ → Type 0
 SpellsLink links = TreeSpells (link_places links)

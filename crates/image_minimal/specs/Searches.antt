@@ -1,4 +1,4 @@
--- Searches through sets of nodes in which some edges have been followed.
+-- Searches through sets of nodes in which some edges have been followed. A set is unread if it consists of the nodes from which some word isn't read. The closure of a set is the intersection of the unread sets that contain it, and a closed step leads to the closure of the set that a step reaches.
 use Rattle.std.specs.Prelude.{◌≡◌, ℕ, ◌+◌, ◌*◌, ◌^◌, ◌<◌, ◌≤◌, ◌↔◌, List, length, slice_get, slice_index, Some, Contains}
 use Rattle.word_image.specs.LocalRules.{LocalRule, IsRule, node_count}
 use Rattle.word_image.specs.Graphs.{full_set}
@@ -8,15 +8,15 @@ use Rattle.image_minimal.specs.ImageLanguages.{Automaton, IsLeastAutomaton}
 use Rattle.image_minimal.specs.Closures.{IsUnreadSet, IsClosedStep, AreClosures}
 use Rattle.image_minimal.specs.Indexes.{IsPlaceOf}
 
--- the list has exactly the unread sets
+-- the list has exactly the unread sets of the rule
 abbrev pub AreUnreadSets : LocalRule → List ℕ → Type 0
 AreUnreadSets r sets = (set : ℕ) → Contains sets set ↔ IsUnreadSet r set
 
--- a search through the sets that closed steps reach from the set of all nodes
+-- a search through the sets that closed steps reach from the set of all nodes, in which the first e edges have been followed
 abbrev pub IsClassSearch : LocalRule → List ℕ → ℕ → Type 0
 IsClassSearch r = IsSearch (IsClosedStep r) r.states (full_set r)
 
--- the closures of all sets, and the closures of the classes in the order of the least automaton; each step leads to the class that the automaton names
+-- the lists have the closures of all sets, and the closures of the classes in the order of the least automaton; each step leads to the class that the automaton names
 pub record HasClasses (r : LocalRule) (closures classes : List ℕ) : Type 0 where
   pub rule : IsRule r
   pub closed : AreClosures r closures

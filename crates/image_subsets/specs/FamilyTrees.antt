@@ -1,16 +1,16 @@
--- The family of a rule, and from where each set is reached first.
+-- The family of a rule is the list of its sets of last nodes of preimages. A tree has also, for each set of the family, the step by which the set is reached first.
 use Rattle.std.specs.Prelude.{◌≡◌, ℕ, ◌<◌, ◌≤◌, List, length, slice_index, slice_get, Option, Some, MatchOption}
 use Rattle.word_image.specs.LocalRules.{LocalRule, IsRule, most_sets}
 use Rattle.word_image.specs.Graphs.{full_set}
 use Rattle.word_image.specs.Edges.{IsStep}
 use Rattle.word_image.specs.Families.{IsFamily}
 
--- the sets in their order, and for each the place and the letter of a step that leads to it, if it has one
+-- a family as a tree: the sets in their order, and for each set the place and the letter of a step that leads to it, if it has such a step
 pub record FamilyTree : Type 0 where
   pub sets : List ℕ
   pub parents : List (Option (ℕ × ℕ))
 
--- there are at most 65,536 sets; only the first has no parent, and each parent is before its set
+-- the tree has at most 65,536 sets, only the first set has no parent, and each parent comes before its set
 pub record IsTree (tree : FamilyTree) : Type 0 where
   pub most : length tree.sets ≤ most_sets
   pub one_each : length tree.parents ≡ length tree.sets
@@ -24,7 +24,7 @@ pub record IsLeastParent (r : LocalRule) (sets : List ℕ) (i p a : ℕ) : Type 
   pub least_place : (q b : ℕ) → q < length sets → b < r.states → IsStep r (slice_index sets q) b (slice_index sets i) → p ≤ q
   pub least_letter : (b : ℕ) → b < r.states → IsStep r (slice_index sets p) b (slice_index sets i) → a ≤ b
 
--- the family of an accepted rule, with the set of all nodes first; each other set has its least parent
+-- the tree is the family of an accepted rule: the set of all nodes comes first, and each other set has its least parent
 pub record IsFamilyTree (r : LocalRule) (tree : FamilyTree) : Type 0 where
   pub rule : IsRule r
   pub family : IsFamily r tree.sets

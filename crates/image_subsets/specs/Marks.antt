@@ -3,7 +3,7 @@ use Rattle.std.specs.Prelude.{◌≢◌, AllPairs, ℕ, ◌-◌, ◌*◌, ◌/�
 use Rattle.word_image.specs.LocalRules.{most_nodes}
 use Rattle.word_image.specs.Graphs.{HasBit}
 
--- set x is marked
+-- the set x is marked
 abbrev pub IsSetMarked : List ℕ → ℕ → Type 0
 IsSetMarked rows x = HasBit rows (x / 64) (x % 64)
 
@@ -11,15 +11,15 @@ IsSetMarked rows x = HasBit rows (x / 64) (x % 64)
 abbrev pub IsPart : ℕ → ℕ → Type 0
 IsPart s x = (i : ℕ) → IsBitSet s i → IsBitSet x i
 
--- set x without node u
+-- the set x without the node u
 abbrev pub set_without : ℕ → ℕ → ℕ
 set_without x u = bit_and x (65535 - 2 ^ u)
 
--- set x contains node u, and becomes a marked set when u is removed
+-- the set x contains node u, and becomes a marked set if u is removed
 abbrev pub HoldsWithout : List ℕ → ℕ → ℕ → Type 0
 HoldsWithout rows u x = IsBitSet x u × IsSetMarked rows (set_without x u)
 
--- among the first n sets, the marked ones are those that were marked before and those that contain node u and become marked sets of the other rows when u is removed
+-- among the first n sets, the marked ones are those that were marked before and those that contain node u and become marked sets of the rows `others` if u is removed
 pub record IsSpreadTo (u n : ℕ) (others old new : List ℕ) : Type 0 where
   pub done : (x : ℕ) → x < n → (IsSetMarked new x ↔ (IsSetMarked old x ⊎ HoldsWithout others u x))
   pub rest : (x : ℕ) → n ≤ x → (IsSetMarked new x ↔ IsSetMarked old x)
@@ -29,15 +29,15 @@ pub record AreListed (sets : List ℕ) (n : ℕ) (rows : List ℕ) : Type 0 wher
   pub within : (i : ℕ) → i < length sets → slice_index sets i < 2 ^ n
   pub marked : (x : ℕ) → x < 2 ^ n → (IsSetMarked rows x ↔ Contains sets x)
 
--- among the sets of n nodes, exactly those are marked that contain a set of the list
+-- among the sets of n nodes, exactly those are marked that have a set of the list as a subset
 abbrev pub AreAbove : List ℕ → ℕ → List ℕ → Type 0
 AreAbove sets n rows = (x : ℕ) → x < 2 ^ n → (IsSetMarked rows x ↔ ((i : ℕ) × (i < length sets) × IsPart (slice_index sets i) x))
 
--- among the sets of n nodes, exactly those are marked that contain a different set of the list
+-- among the sets of n nodes, exactly those are marked that have a set of the list other than themselves as a subset
 abbrev pub AreBeyond : List ℕ → ℕ → List ℕ → Type 0
 AreBeyond sets n rows = (x : ℕ) → x < 2 ^ n → (IsSetMarked rows x ↔ ((i : ℕ) × (i < length sets) × (slice_index sets i ≢ x) × IsPart (slice_index sets i) x))
 
--- the set becomes a marked one when one of its first n nodes is removed
+-- the set becomes a marked set if one of its first n nodes is removed
 abbrev pub HoldsSmaller : List ℕ → ℕ → ℕ → Type 0
 HoldsSmaller rows n set = (u : ℕ) × (u < n) × HoldsWithout rows u set
 
@@ -56,7 +56,7 @@ AreMarksTo sets n u rows = (x : ℕ) → x < 2 ^ n → (IsSetMarked rows x ↔ C
 abbrev pub IsMinimal : List ℕ → ℕ → Type 0
 IsMinimal sets i = (j : ℕ) → j < length sets → j ≢ i → ¬ IsPart (slice_index sets j) (slice_index sets i)
 
--- the marked sets are those that contain a different set of the list, whose sets are all different
+-- the sets of the list are all different, and the marked sets are those that have a set of the list other than themselves as a subset
 pub record AreCovers (sets rows : List ℕ) : Type 0 where
   pub nodes : ℕ
   pub few : nodes ≤ most_nodes

@@ -1,14 +1,14 @@
--- A list of different sets of at most 16 nodes, with a mark on each.
+-- A list of different sets of at most 16 nodes, and rows of marks, which mark the sets of the list.
 use Rattle.std.specs.Prelude.{◌≡◌, ◌≢◌, ◌↔◌, AllPairs, ℕ, ◌<◌, List, [], ◌∷◌, ◌++◌, length, slice_index, Contains, Bool, true, false}
 use Rattle.word_image.specs.LocalRules.{most_sets}
 use Rattle.image_subsets.specs.Marks.{IsSetMarked}
 
--- either the set was new and was appended, or it was in the list and nothing changed
+-- the set was new and was appended, or it was in the list and nothing changed
 abbrev pub IsInserted : List ℕ → List ℕ → ℕ → Bool → Type 0
 IsInserted old new set true = (¬ Contains old set) × (new ≡ old ++ set ∷ [])
 IsInserted old new set false = Contains old set × (new ≡ old)
 
--- the sets are different, and exactly these sets are marked
+-- the sets of the list are all different, and exactly these sets are marked
 pub record AreMembers (sets rows : List ℕ) : Type 0 where
   pub long : length rows ≡ 1024
   pub below : (i : ℕ) → i < length sets → slice_index sets i < most_sets

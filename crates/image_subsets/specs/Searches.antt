@@ -1,11 +1,11 @@
--- A search through the sets in which some edges of the subset automaton have been followed.
+-- A search through the sets of nodes that words reach from the set of all nodes, in which some edges have been followed. An edge is the step from a set on a letter.
 use Rattle.std.specs.Prelude.{◌≡◌, ℕ, ◌-◌, ◌<◌, List, length, slice_get, Option, Some, MatchOption, Contains, Bool, true, false}
 use Rattle.word_image.specs.LocalRules.{LocalRule}
 use Rattle.word_image.specs.Graphs.{full_set}
 use Rattle.word_image.specs.Edges.{IsStep}
 use Rattle.search_laws.specs.SearchQueues.{Place, IsSearch}
 
--- the first place of a tree has no way, and each other place has the step from its parent
+-- the way to place i of a tree: the first place has none, and each other place has the step from its parent
 abbrev pub IsWay : List (Place ℕ) → ℕ → Option (ℕ × ℕ) → Type 0
 IsWay tree i way = MatchOption way (i ≡ 0) (λ (p, a). (x : Place ℕ) × (0 < i) × (slice_get tree i ≡ Some x) × (x.parent ≡ p) × (x.letter ≡ a))
 
@@ -15,7 +15,7 @@ pub record IsTreeSearch (r : LocalRule) (sets : List ℕ) (parents : List (Optio
   pub one_each : length parents ≡ length sets
   pub ways : (i : ℕ) (way : Option (ℕ × ℕ)) → slice_get parents i ≡ Some way → IsWay search.tree i way
 
--- the empty set was found last
+-- the last set of the list is the empty set
 abbrev pub EndsEmpty : List ℕ → Type 0
 EndsEmpty sets = slice_get sets (length sets - 1) ≡ Some 0
 

@@ -1,11 +1,11 @@
--- Worked examples: maps as rules and their images of words, worked by hand, which the check computes.
+-- Worked examples: maps as rules and their images of words, worked by hand, which the prover computes.
 use Rattle.std.specs.Prelude.{◌≡◌, [], ◌∷◌, refl, pos, negsuc, Some, None}
 use Rattle.word_image.specs.declared.local_rule.RuleFault.TheVariants.{Width, Offset}
 use Rattle.tail_config.specs.InverseMaps.{WindowMap}
 use Rattle.inverse_table.specs.InverseMaps.{map_rule, map_image}
 use Rattle.inverse_table.specs.MapLimits.{rule_limit_fault}
 
--- the inverse of rule 170, which moves all cells to the left: it reads one letter, on the left
+-- the inverse map of rule 170, which moves all cells to the left: it reads one letter, the one to the left of the cell
 abbrev right_shift : WindowMap
 right_shift = record { states = 2; width = 1; offset = negsuc 0; table = 0 ∷ 1 ∷ [] }
 
@@ -13,15 +13,15 @@ right_shift = record { states = 2; width = 1; offset = negsuc 0; table = 0 ∷ 1
 map_rule-right_shift : map_rule right_shift ≡ record { states = 2; width = 2; offset = negsuc 0; table = 0 ∷ 0 ∷ 1 ∷ 1 ∷ [] }
 map_rule-right_shift = refl
 
--- the map of the sum of two letters modulo 2
+-- the map that adds two letters modulo 2
 abbrev sum : WindowMap
 sum = record { states = 2; width = 2; offset = pos 0; table = 0 ∷ 1 ∷ 1 ∷ 0 ∷ [] }
 
--- each letter except the last is added to the next one
+-- the image of a word under this map: each letter except the last is added to the next one
 map_image-sum : map_image sum (0 ∷ 1 ∷ 1 ∷ 0 ∷ []) ≡ 1 ∷ 0 ∷ 1 ∷ []
 map_image-sum = refl
 
--- the map of six letters breaks the limit of widths, and one that reads from cell -17 on that of offsets
+-- a map that reads six letters breaks the limit of widths, and a map that reads from cell -17 on breaks the limit of offsets
 rule_limit_fault-wide : rule_limit_fault (record { states = 2; width = 6; offset = pos 0; table = [] }) ≡ Some Width
 rule_limit_fault-wide = refl
 

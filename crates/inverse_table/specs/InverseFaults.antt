@@ -6,12 +6,12 @@ use Rattle.word_image.specs.Windows.{HaveOneImage}
 use Rattle.inverse_table.specs.declared.tables.InvFault.{InvFault}
 use Rattle.inverse_table.specs.declared.tables.InvFault.TheVariants.{Wide, NotDetermined, Memory}
 
--- two words with the same image that differ at c: the window (n, c) isn't determined
+-- x and y are two words with the same image that differ at place c, so the window (n, c) isn't determined
 pub record IsApartAt (r : LocalRule) (n c : ℕ) (x y : List ℕ) : Type 0 where
   pub one_image : HaveOneImage r n x y
   pub differ : slice_index x c ≢ slice_index y c
 
--- the condition of each fault: a map of more than 65,536 letters is refused first
+-- the window (n, c) has this fault: its map would have more than 65,536 letters; or, if it wouldn't, the two words show that the window isn't determined, or there is no memory
 abbrev pub IsInvFault : LocalRule → ℕ → ℕ → InvFault → Type 0
 IsInvFault r n c Wide = most_map_entries < r.states ^ n
 IsInvFault r n c (NotDetermined x y) = (r.states ^ n ≤ most_map_entries) × IsApartAt r n c x y

@@ -1,4 +1,4 @@
--- Properties of the inverse map of a determined window, and the map as a rule.
+-- Properties of the inverse map of a determined window of a rule of width m, and the map as a rule.
 use Rattle.std.specs.Prelude.{◌≡◌, ℕ, ◌+◌, ◌*◌, ◌/◌, List, length, map, max, slice_index, ◌==◌, if◌then◌else◌, ℤ, pos, ◌-◌, slice_range, ◌+ℤ◌}
 use Rattle.std.specs.List.{range_with_len}
 use Rattle.word_image.specs.LocalRules.{LocalRule, IsWord, local_map}

@@ -1,4 +1,4 @@
--- The maps that are computed, and the limits of a map as a rule.
+-- The limits of the maps that are computed, and the limits that a map must keep to be a rule.
 use Rattle.std.specs.Prelude.{◌≡◌, ℕ, ◌^◌, ◌≤◌, length, pos, negsuc, ◌≤ℤ◌, ◌-◌, Option, Some, None, nat_lt, ◌||◌, if◌then◌else◌, ◌+ℤ◌, int_lt}
 use Rattle.word_image.specs.LocalRules.{IsWord, LocalRule, most_nodes, most_states, most_width}
 use Rattle.tail_config.specs.InverseMaps.{WindowMap}
@@ -13,7 +13,7 @@ most_map_entries = 65536
 abbrev pub longest_window : ℕ
 longest_window = 480
 
--- a map has a letter for each of at most 65,536 words
+-- the map has an accepted number of states, width and offset, and a letter for each of at most 65,536 words
 pub record IsWindowMap (g : WindowMap) : Type 0 where
   pub least_states : 2 ≤ g.states
   pub most_states : g.states ≤ most_states
@@ -25,7 +25,7 @@ pub record IsWindowMap (g : WindowMap) : Type 0 where
   pub most_entries : g.states ^ g.width ≤ most_map_entries
   pub letters : IsWord g.states g.table
 
--- the first limit of a rule that it breaks, if any
+-- the first limit of accepted rules that the rule breaks, if there is one
 abbrev pub rule_limit_fault : LocalRule → Option RuleFault
 rule_limit_fault r =
     if nat_lt most_width r.width then Some Width

@@ -1,4 +1,4 @@
--- Two nodes that are endless in both directions.
+-- Two nodes that are endless in both directions: walks with equal labels and of any length lead from them, and to them.
 use Rattle.std.specs.Prelude.{ℕ}
 use Rattle.word_image.specs.LocalRules.{LocalRule}
 use Rattle.word_image.specs.Ranks.{BeginTogether, EndTogether, IsEndless}

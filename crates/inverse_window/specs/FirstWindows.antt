@@ -1,4 +1,4 @@
--- Pairs of nodes that differ in a letter, and the least window of several.
+-- Pairs of nodes that differ in a letter, and the least determined window among several windows. The rule has width m.
 use Rattle.std.specs.Prelude.{◌≡◌, ◌≢◌, ℕ, ◌+◌, ◌*◌, ◌<◌, ◌≤◌, ◌⊎◌, List, length, Option, None, slice_index_or, IfSome, IsSomeAnd, MatchOption}
 use Rattle.word_image.specs.LocalRules.{LocalRule, node_count}
 use Rattle.word_image.specs.Graphs.{first_of, second_of, node_letter}
@@ -8,7 +8,7 @@ use Rattle.pair_rank.specs.Sides.{most_rank}
 use Rattle.inverse_window.specs.Starts.{HoldsFrom}
 use Rattle.inverse_window.specs.declared.windows.WindowAt.{WindowAt}
 
--- the nodes of pair p differ in letter i
+-- the nodes of pair p differ in their letter at place i
 abbrev pub PairDiffersAt : LocalRule → ℕ → ℕ → Type 0
 PairDiffersAt r i p = node_letter r (first_of r p) i ≢ node_letter r (second_of r p) i
 
@@ -20,19 +20,19 @@ PairBegins r p n = BeginTogether r (first_of r p) (second_of r p) n
 abbrev pub PairEnds : LocalRule → ℕ → ℕ → Type 0
 PairEnds r p n = EndTogether r (first_of r p) (second_of r p) n
 
--- the same, for n of at most e
+-- two words of n + m - 1 letters with the same image end with the nodes of pair p, and n is at most e
 abbrev pub EndsFor : LocalRule → ℕ → ℕ → ℕ → Type 0
 EndsFor r e p n = (n ≤ e) × PairEnds r p n
 
--- e is above the finite backward ranks of u: each node that has a rank of at least e with it is endless with it
+-- e is above the finite backward ranks of node u: each node below `count` that has a backward rank of at least e with u is endless with u
 abbrev pub IsPastOf : LocalRule → ℕ → ℕ → ℕ → Type 0
 IsPastOf r u count e = (v n : ℕ) → v < count → e ≤ n → EndTogether r u v n → IsEndless (EndTogether r u v)
 
--- e is above the finite backward ranks of the nodes below `count`
+-- e is above the finite backward ranks of each node below `count` with each other node
 abbrev pub IsPast : LocalRule → ℕ → ℕ → Type 0
 IsPast r count e = (u : ℕ) → u < count → IsPastOf r u (node_count r) e
 
--- P doesn't hold for n and any of these pairs below `count`
+-- P p n holds for no pair p below `count` for which Of p holds
 abbrev pub NoneHolds : ℕ → (ℕ → Type 0) → (ℕ → ℕ → Type 0) → ℕ → Type 0
 NoneHolds count Of P n = (p : ℕ) → p < count → Of p → ¬ P p n
 
@@ -44,27 +44,27 @@ most_start = most_rank + 1
 abbrev pub most_window : ℕ
 most_window = 2 * most_start
 
--- for each b up to e: the least length for which no pair below `count` that differs in its first letter and has the backward rank b begins words with equal images
+-- the list has for each b up to e the least length for which no pair below `count` that differs in its first letter and has the backward rank b begins words with equal images
 pub record AreStarts (r : LocalRule) (e count : ℕ) (starts : List (Option ℕ)) : Type 0 where
   pub long : length starts ≡ most_start + 1
   pub few : e ≤ most_start
   pub from : (b : ℕ) → b ≤ e → HoldsFrom (slice_index_or starts b None) (NoneHolds count (λ p. PairDiffersAt r 0 p × IsRank (EndsFor r e p) b) (PairBegins r))
   pub most : (b : ℕ) → b ≤ e → IfSome (slice_index_or starts b None) (λ n. n ≤ most_start)
 
--- a determined window, before which none of these windows is determined
+-- (n, c) is a determined window, and no window in `Among` that comes before it is determined
 pub record IsFirstWindow (r : LocalRule) (Among : ℕ → ℕ → Type 0) (n c : ℕ) : Type 0 where
   pub determined : IsDetermined r n c
   pub least : (n' c' : ℕ) → Among n' c' → WindowBefore n' c' n c → ¬ IsDetermined r n' c'
 
--- the least determined window of several, or None if none of them is determined
+-- the result is the least determined window in `Among`, or None if no window in `Among` is determined
 abbrev pub IsFirstWindowOf : LocalRule → (ℕ → ℕ → Type 0) → Option WindowAt → Type 0
 IsFirstWindowOf r Among found = MatchOption found ((n c : ℕ) → Among n c → ¬ IsDetermined r n c) (λ w. IsFirstWindow r Among w.n w.c)
 
--- w isn't after v
+-- the window w doesn't come after the window v
 abbrev pub IsNoLater : WindowAt → WindowAt → Type 0
 IsNoLater w v = ¬ WindowBefore v.n v.c w.n w.c
 
--- this is one of two windows, if there are any, and neither of them is before it
+-- the window found is one of the two windows, if there are any, and neither of the two comes before it
 pub record IsEarlier (a b found : Option WindowAt) : Type 0 where
   pub one : (found ≡ a) ⊎ (found ≡ b)
   pub first : IfSome a (λ v. IsSomeAnd found (λ w. IsNoLater w v))

@@ -1,7 +1,7 @@
--- The number from which on a fact holds.
+-- The number from which on a property holds.
 use Rattle.std.specs.Prelude.{ℕ, ◌≤◌, ◌↔◌, Option, Some, None, MatchOption, IsSomeAnd, max}
 
--- a fact holds exactly for the numbers from this one on, or for no number if there is none
+-- the property holds exactly for the numbers from this one on, or for no number if this is None
 abbrev pub HoldsFrom : Option ℕ → (ℕ → Type 0) → Type 0
 HoldsFrom start P = MatchOption start ((n : ℕ) → ¬ P n) (λ a. (n : ℕ) → P n ↔ (a ≤ n))
 
@@ -9,7 +9,7 @@ HoldsFrom start P = MatchOption start ((n : ℕ) → ¬ P n) (λ a. (n : ℕ) �
 abbrev pub HasBegun : Option ℕ → ℕ → Type 0
 HasBegun start n = IsSomeAnd start (λ a. a ≤ n)
 
--- the number from which on two facts hold
+-- the number from which on two properties hold that each hold from a number on
 abbrev pub later : Option ℕ → Option ℕ → Option ℕ
 later None start = None
 later (Some a) None = None

@@ -1,4 +1,4 @@
--- The marked pairs that a search has reached, as a breadth first queue.
+-- The marked pairs that a search has reached, as a breadth first queue. A marked pair is a pair of nodes with a mark. The parent of a place is the place from which it was reached.
 use Rattle.std.specs.Prelude.{◌≡◌, ◌≢◌, ℕ, ◌+◌, ◌*◌, ◌<◌, ◌≤◌, List, ◌++◌, map, reverse, slice_get, Some, IsBitSet}
 use Rattle.word_image.specs.LocalRules.{LocalRule, IsRule, most_states}
 use Rattle.word_image.specs.Graphs.{pair_count}
@@ -9,11 +9,11 @@ use Rattle.least_walk.specs.declared.queue.Reached.{Reached}
 use Rattle.least_walk.specs.declared.queue.Ends.{Ends}
 use Rattle.least_walk.specs.Marks.{HasPair}
 
--- a step on the pair of letters with the number a * 16 + b
+-- a step from one marked pair to another on the letters a and b, which have the number a * 16 + b
 abbrev pub MarkedStep : LocalRule → ℕ → ℕ → ℕ → Type 0
 MarkedStep r = CodeStep (marked r) r.states most_states
 
--- the number of numbers for pairs of letters
+-- the numbers a * 16 + b of pairs of letters are below this number
 abbrev pub step_count : LocalRule → ℕ
 step_count r = r.states * most_states
 
@@ -21,19 +21,19 @@ step_count r = r.states * most_states
 abbrev pub most_steps : ℕ
 most_steps = most_marked_pairs
 
--- a marked pair that has been reached, as a place of a queue
+-- a marked pair that has been reached, as a place of a queue: the pair, the parent, and the number of the letters of the step
 abbrev pub place_of : Reached → Place ℕ
 place_of x = record { state = x.pair; parent = x.parent; letter = x.step }
 
 abbrev pub places_of : List Reached → List (Place ℕ)
 places_of = map place_of
 
--- each place knows the number of steps that lead to it: none for the first place, one more than its parent has for each other
+-- each place has the number of steps that lead to it: 0 for the first place, and for each later place one more than its parent has
 pub record HasDepths (queue : List Reached) : Type 0 where
   pub root : (x : Reached) → slice_get queue 0 ≡ Some x → x.depth ≡ 0
   pub more : (i : ℕ) (x : Reached) → 0 < i → slice_get queue i ≡ Some x → (p : Reached) × (slice_get queue x.parent ≡ Some p) × (x.depth ≡ p.depth + 1)
 
--- the first e edges from the start have been followed breadth first, and none leads to the goal
+-- the search has followed the first e edges breadth first from the start, and none of these edges leads to the goal
 pub record IsWalking (r : LocalRule) (ends : Ends) (queue : List Reached) (e : ℕ) : Type 0 where
   pub rule : IsRule r
   pub start_in : ends.start < 2 * pair_count r
@@ -41,13 +41,13 @@ pub record IsWalking (r : LocalRule) (ends : Ends) (queue : List Reached) (e : �
   pub depths : HasDepths queue
   pub none : (t : ℕ) → ends.goal ≡ Some t → NoEdgeBefore (MarkedStep r) (step_count r) (places_of queue) e t
 
--- the first e edges from the start have been followed, and the rows have all that has been reached except the goal
+-- the search has followed the first e edges, and the rows have exactly the marked pairs of the queue except the goal
 pub record IsWalkSearch (r : LocalRule) (ends : Ends) (queue : List Reached) (rows : List ℕ) (e : ℕ) : Type 0 where
   pub walking : IsWalking r ends queue e
   pub listed : (t : ℕ) → t < 2 * pair_count r → HasPair r rows t → (ends.goal ≢ Some t) × ((i : ℕ) × (x : Reached) × (slice_get queue i ≡ Some x) × (x.pair ≡ t))
   pub all : (i : ℕ) (x : Reached) → slice_get queue i ≡ Some x → ends.goal ≢ Some x.pair → HasPair r rows x.pair
 
--- the edges from the places before the head have been followed; the others are `most` steps away or more, and none is further than that
+-- the search has ended: it has followed the edges from all places before the head, each other place is at least `most` steps away from the start, and no place is more than `most` steps away
 pub record IsEnded (r : LocalRule) (ends : Ends) (queue : List Reached) (most : ℕ) : Type 0 where
   pub edges : ℕ
   pub head : ℕ
@@ -56,7 +56,7 @@ pub record IsEnded (r : LocalRule) (ends : Ends) (queue : List Reached) (most : 
   pub near : (i : ℕ) (x : Reached) → slice_get queue i ≡ Some x → x.depth ≤ most
   pub walking : IsWalking r ends queue edges
 
--- the first edge that leads to the goal is the step from this place
+-- the first edge that leads to the goal begins at this place of the queue, and `step` is the number of its letters
 pub record IsArrival (r : LocalRule) (ends : Ends) (queue : List Reached) (place step : ℕ) : Type 0 where
   pub from : Reached
   pub stands : slice_get queue place ≡ Some from
@@ -66,11 +66,11 @@ pub record IsArrival (r : LocalRule) (ends : Ends) (queue : List Reached) (place
   pub sought : ends.goal ≡ Some goal
   pub arrives : MarkedStep r from.pair step goal
 
--- fewer than `most` steps lead to this place
+-- fewer than `most` steps lead from the start to this place of the queue
 abbrev pub IsNearStart : List Reached → ℕ → ℕ → Type 0
 IsNearStart queue place most = (x : Reached) → slice_get queue place ≡ Some x → x.depth < most
 
--- with first letter a and a second letter outside this set, the marked pair at this place leads only to marked pairs that the rows have
+-- if the marked pair at this place leads to a marked pair on the first letter a and on a second letter that isn't in this set, the latter marked pair is in the rows
 abbrev pub IsOldBut : LocalRule → List Reached → List ℕ → ℕ → ℕ → ℕ → Type 0
 IsOldBut r queue rows place a letters =
     (x : Reached) (b q : ℕ) → slice_get queue place ≡ Some x → b < r.states → ¬ IsBitSet letters b → marked r x.pair a b ≡ Some q → HasPair r rows q
@@ -79,6 +79,6 @@ IsOldBut r queue rows place a letters =
 abbrev pub IsBackward : List Reached → Type 0
 IsBackward queue = (i : ℕ) (x : Reached) → 0 < i → slice_get queue i ≡ Some x → x.parent < i
 
--- the steps to a place come before the old steps, which are in reverse order
+-- the list has the steps from the start to this place, followed by the old steps in reverse order
 abbrev pub SpellsBefore : List Reached → ℕ → List ℕ → List ℕ → Type 0
 SpellsBefore queue place old steps = (w : List ℕ) × TreeSpells (places_of queue) place w × (steps ≡ w ++ reverse old)

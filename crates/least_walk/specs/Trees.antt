@@ -1,11 +1,11 @@
--- The least walks from one marked pair to all others.
+-- The least walks from one marked pair to all others. A marked pair is a pair of nodes with a mark, 0 or 1.
 use Rattle.std.specs.Prelude.{◌≡◌, ℕ, ◌<◌, ◌≤◌, List, length, slice_get, slice_index, Some, None}
 use Rattle.word_image.specs.MarkedPairs.{most_marked_pairs}
 use Rattle.word_image.specs.LocalRules.{LocalRule}
 use Rattle.least_walk.specs.declared.queue.Reached.{Reached}
 use Rattle.least_walk.specs.Queues.{IsEnded}
 
--- a rule, the marked pair at which walks start, and the greatest number of their steps
+-- the walks that are searched: a rule, the marked pair at which the walks start, and the greatest number of their steps
 pub record WalkSource : Type 0 where
   pub rule : LocalRule
   pub start : ℕ
@@ -17,11 +17,11 @@ pub record AreApart (queue : List Reached) : Type 0 where
   pub below : (i : ℕ) (x : Reached) → slice_get queue i ≡ Some x → x.pair < most_marked_pairs
   pub apart : (i j : ℕ) (x y : Reached) → slice_get queue i ≡ Some x → slice_get queue j ≡ Some y → x.pair ≡ y.pair → i ≡ j
 
--- the place of each marked pair of the queue is stored
+-- the list `places` has the place in the queue of each marked pair of the queue
 abbrev pub IsPairIndex : List Reached → List ℕ → Type 0
 IsPairIndex queue places = (i : ℕ) (x : Reached) → slice_get queue i ≡ Some x → slice_index places x.pair ≡ i
 
--- a search from the start has ended with all marked pairs that at most `most` steps reach, and these are their places
+-- the queue has all marked pairs that at most `most` steps reach from the start, and the list `places` has their places in the queue
 pub record IsWalkTree (r : LocalRule) (start most : ℕ) (queue : List Reached) (places : List ℕ) : Type 0 where
   pub ended : IsEnded r (record { start = start; goal = None }) queue most
   pub index : IsPairIndex queue places

@@ -19,17 +19,17 @@ name_of LeftClosing = codes "left"
 name_of Open = codes "open"
 name_of Conserving = codes "conserving"
 
--- the words are a property and any text
+-- the words are the word for this property and this text
 abbrev pub IsListing : List (List ℕ) → Property → List ℕ → Type 0
 IsListing words property text = words ≡ name_of property ∷ text ∷ []
 
--- the words aren't a property and a text, or their text isn't a beginning, or the output is the list
+-- the right status and output: a usage error if the words aren't a property and a text, a fault if the text isn't a beginning, and otherwise the list
 pub data IsAnswer (words : List (List ℕ)) : Status → List ℕ → Type 0 where
   Usage : ((property : Property) (text : List ℕ) → ¬ IsListing words property text) → IsAnswer words status.Usage usage_line
   RuleFault : (property : Property) (text : List ℕ) (f : TextFault) → IsListing words property text → IsBeginningFault text f → IsAnswer words status.RuleFault (fault_line f)
   Done : (property : Property) (text : List ℕ) (b : Beginning) (out : List ℕ) → IsListing words property text → IsBeginning text b → IsList property b out → IsAnswer words status.Done out
 
--- a right output, or the lines of the first rules of the list
+-- the output is a right output, or the lines of the first rules of the list
 pub data IsBegun (words : List (List ℕ)) (out : List ℕ) : Type 0 where
   Whole : (s : Status) → IsAnswer words s out → IsBegun words out
   SoFar : (property : Property) (text : List ℕ) (b : Beginning) → IsListing words property text → IsBeginning text b → IsListSoFar property b out → IsBegun words out

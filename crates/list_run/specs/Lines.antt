@@ -1,4 +1,4 @@
--- The lines of the output.
+-- The lines of the list that the program writes, and of the other outputs.
 use Rattle.std.specs.Prelude.{◌≡◌, ℕ, ◌-◌, ◌^◌, List, [], ◌∷◌, ◌++◌, length, min, codes}
 use Rattle.std.specs.Fmt.{decimal}
 use Rattle.word_image.specs.LocalRules.{LocalRule}
@@ -6,27 +6,27 @@ use Rattle.rule_text.specs.PrintedRules.{printed_rule}
 use Rattle.rule_text.specs.declared.text_fault.TextFault.{TextFault}
 use Rattle.rule_text.specs.FaultTexts.{fault_text}
 
--- a text and the byte at the end of a line
+-- the line of a text: the text and the byte at the end of a line
 abbrev pub line : List ℕ → List ℕ
 line text = text ++ 10 ∷ []
 
--- the words aren't a property and a text
+-- the line if the words aren't a property and a text
 abbrev pub usage_line : List ℕ
 usage_line = line (codes "usage error")
 
--- the beginning, which is the only operand, has this fault
+-- the line if the beginning, which is the only operand, has this fault
 abbrev pub fault_line : TextFault → List ℕ
 fault_line f = line (codes "rule fault 1 " ++ fault_text f)
 
--- a table of this shape, at its offset
+-- the rule with the given table and the states, width and offset of the shape
 abbrev pub with_table : LocalRule → List ℕ → LocalRule
 with_table shape table = record { states = shape.states; width = shape.width; offset = shape.offset; table = table }
 
--- the line of a rule that is listed
+-- the line of a listed rule, at the offset of the shape
 abbrev pub rule_line : LocalRule → LocalRule → List ℕ
 rule_line shape r = line (printed_rule (with_table shape r.table))
 
--- the lines of all rules
+-- the lines of all rules of a list, at the offset of the shape
 abbrev pub rule_lines : LocalRule → List LocalRule → List ℕ
 rule_lines shape [] = []
 rule_lines shape (r ∷ rs) = rule_line shape r ++ rule_lines shape rs
@@ -39,7 +39,7 @@ count_line count = line (codes "rules " ++ decimal count)
 abbrev pub last_line : List LocalRule → List ℕ
 last_line rules = count_line (min (length rules) (2 ^ 64 - 1))
 
--- the line of any rule of this shape
+-- the bytes are the line of some table of this shape
 pub record IsLineOf (shape : LocalRule) (bytes : List ℕ) : Type 0 where
   pub table : List ℕ
   pub long : length table ≡ shape.states ^ shape.width

@@ -3,7 +3,7 @@ use Rattle.std.specs.Prelude.{ℕ, ⊤}
 use Rattle.list_run.specs.declared.status.Status.{Status}
 use Rattle.list_run.specs.declared.status.Status.TheVariants.{Done, Usage, RuleFault, WriteFault, Memory}
 
--- the exit status of the program
+-- the number with which the program exits for a status
 abbrev pub code_of : Status → ℕ
 code_of Done = 0
 code_of Usage = 2
@@ -11,7 +11,7 @@ code_of RuleFault = 3
 code_of WriteFault = 7
 code_of Memory = 8
 
--- the status belongs to an answer, and isn't a failure on the way
+-- the status belongs to an answer, and not to a failure before the end, such as a failed write
 abbrev pub IsAnswered : Status → Type 0
 IsAnswered Done = ⊤
 IsAnswered Usage = ⊤

@@ -1,4 +1,4 @@
--- The results of a search.
+-- The results of a search for the least orphan of a rule.
 use Rattle.std.specs.Prelude.{◌≡◌, ◌≤◌, ℕ, List, [], length}
 use Rattle.word_image.specs.LocalRules.{LocalRule}
 use Rattle.word_image.specs.Words.{IsSurjective, IsLeastOrphan}
@@ -7,17 +7,17 @@ use Rattle.word_image.specs.Graphs.{full_set}
 use Rattle.orphan_search.specs.declared.search.Outcome.{Outcome}
 use Rattle.orphan_search.specs.declared.search.Outcome.TheVariants.{Closed, Orphan}
 
--- the results of a run
+-- the results of a search: a word, a list of sets and their covers
 pub record Found : Type 0 where
   pub word : List ℕ
   pub sets : List ℕ
   pub cover : List ℕ
 
--- no results
+-- there are no results: all lists are empty
 abbrev pub IsNothing : Found → Type 0
 IsNothing found = (found.word ≡ []) × (found.sets ≡ []) × (found.cover ≡ [])
 
--- either every word has a preimage, and the results are the family of the rule and its covers, or the result is the least orphan
+-- the results are right: every word has a preimage, and the results are the family of the rule and its covers; or the result is the least orphan
 abbrev pub IsVerdict : LocalRule → Outcome → Found → Type 0
 IsVerdict r Closed found = IsSurjective r × IsFamily r found.sets × (found.word ≡ []) × (found.cover ≡ covers_of (full_set r) found.sets)
 IsVerdict r Orphan found = IsLeastOrphan r found.word × (length found.word ≤ 65535) × (found.sets ≡ []) × (found.cover ≡ [])

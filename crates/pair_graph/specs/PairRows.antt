@@ -1,4 +1,4 @@
--- Sets of pairs as rows and as truth values, and how to get one form from the other.
+-- Sets of pairs of nodes in two forms, as rows of bits and as lists of truth values, and how to get one form from the other.
 use Rattle.std.proofs.Common.{◌≡◌, ◌==◌, ℕ, suc, ◌+◌, ◌-◌, ◌*◌, ◌/◌, ◌%◌, ◌^◌, ◌<◌, ◌≤◌, List, [], length, map, replicate, take, drop, Bool, true, false, get_or, slice_index, cond, refl, sym, ap, ap₂, ◌∙◌, subst, arith, ⊎_elim, eq-eqb, mod-lt, take_all}
 use Rattle.std.specs.Int.{bit_at}
 use Rattle.std.specs.List.{range_with_len}
@@ -13,11 +13,11 @@ use Rattle.std.proofs.Math.Nat.{mul-le-mul_right, suc-mul}
 use Rattle.word_image.specs.LocalRules.{most_nodes}
 use Rattle.pair_graph.specs.PairSets.{holds, truths, nodes_of, rows_of, AreRows}
 
--- a pair is in the list if and only if its bit is set
+-- a pair is in the set of the truth values if and only if its bit in the rows is 1
 pub holds_bit : (n : ℕ) (rows : List ℕ) (p : ℕ) → p < n * n → holds (truths n rows) p ≡ (bit_at (slice_index rows (p / n)) (p % n) == 1)
 holds_bit n rows p inside = get_or-map-range_with_len (λ q. bit_at (slice_index rows (q / n)) (q % n) == 1) 0 (n * n) p p false inside (omega arith)
 
--- there is a truth value for each pair
+-- there is a truth value for each pair of n nodes
 pub length-truths : (n : ℕ) (rows : List ℕ) → length (truths n rows) ≡ n * n
 length-truths n rows = length-map-range_with_len (λ p. bit_at (slice_index rows (p / n)) (p % n) == 1) 0 (n * n)
 
@@ -28,7 +28,7 @@ same_roots n m same = ⊎_elim
     (λ most. ⊎_elim (λ more. absurd (omega (arith, same, mul-lt m m n n more more))) (λ least. omega (arith, most, least)) (cases_lt m n))
     (cases_lt n m)
 
--- rows of all nodes have all pairs
+-- if each row has all n nodes, the set has all pairs
 pub truths-all : (n : ℕ) (rows : List ℕ) → ((u : ℕ) → u < n → slice_index rows u ≡ 2 ^ n - 1) → truths n rows ≡ replicate (n * n) true
 truths-all n rows full = sym (fill_by_all (λ p. bit_at (slice_index rows (p / n)) (p % n) == 1) (replicate (n * n) true) (n * n) false (length-replicate (n * n) true)
     (λ p inside.
@@ -36,14 +36,14 @@ truths-all n rows full = sym (fill_by_all (λ p. bit_at (slice_index rows (p / n
     let bit : bit_at (slice_index rows (p / n)) (p % n) ≡ 1 = ap (λ row. bit_at row (p % n)) (full (p / n) (div_below p n n some inside)) ∙ bit_at_ones n (p % n) (mod-lt p some) in
     get_or-replicate (n * n) p true false inside ∙ sym (eq-eqb (bit_at (slice_index rows (p / n)) (p % n)) 1 bit)))
 
--- a bit as the number that its test stands for
+-- the number that is 1 if a bit is 1, and 0 if it isn't, is the bit itself
 bit_tested : (a i : ℕ) → cond (bit_at a i == 1) 1 0 ≡ bit_at a i
 bit_tested a i = ⊎_elim
     (λ one. ap (λ (b : Bool). cond {A = ℕ} b 1 0) (eq-eqb (bit_at a i) 1 one) ∙ sym one)
     (λ other. let none : bit_at a i ≡ 0 = omega (arith, bit_at-lt a i, other) in ap (λ (b : Bool). cond {A = ℕ} b 1 0) (ne_eqb (bit_at a i) 1 other) ∙ sym none)
     (cases_eq (bit_at a i) 1)
 
--- the row of a node from the truth values
+-- the truth values of the pairs with the first node u give row u
 row_of_truths : (n : ℕ) (rows : List ℕ) → AreRows n rows → (u : ℕ) → u < n → mask_l (chunk (u * n) n (truths n rows)) ≡ slice_index rows u
 row_of_truths n rows h u inside =
     let set = truths n rows in
@@ -61,14 +61,14 @@ row_of_truths n rows h u inside =
     ∙ ap₂ (λ (x y : ℕ). bit_at (slice_index rows x) y == 1) at place)
     ∙ bit_tested (slice_index rows u) i)
 
--- there are no truth values for the rows of zeros
+-- past the last node there are no truth values, which gives 0, and the rows have 0 there too
 no_row : (n : ℕ) (rows : List ℕ) → AreRows n rows → (u : ℕ) → n ≤ u → mask_l (chunk (u * n) n (truths n rows)) ≡ slice_index rows u
 no_row n rows h u more =
     let past : n * n ≤ u * n = mul-le-mul_right n more in
     let none : drop (u * n) (truths n rows) ≡ [] = drop_all (u * n) (truths n rows) (omega (arith, length-truths n rows, past)) in
     ap (λ l. mask_l (take n l)) none ∙ ap mask_l (take_all n [] (omega arith)) ∙ sym (h.past u more)
 
--- the truth values of the pairs determine the rows
+-- the truth values of the pairs determine the rows: the rows that they give are the rows from which they come
 pub rows_of-truths : (n : ℕ) (rows : List ℕ) → AreRows n rows → rows_of n (truths n rows) ≡ rows
 rows_of-truths n rows h = sym (fill_by_all (λ u. mask_l (chunk (u * n) n (truths n rows))) rows 16 0 h.long
     (λ u inside. ⊎_elim (λ less. sym (row_of_truths n rows h u less)) (λ more. sym (no_row n rows h u more)) (cases_lt u n)))
@@ -82,7 +82,7 @@ nodes_of-square n few =
 pub nodes_of-truths : (n : ℕ) (rows : List ℕ) → AreRows n rows → nodes_of (length (truths n rows)) ≡ n
 nodes_of-truths n rows h = ap nodes_of (length-truths n rows) ∙ nodes_of-square n h.most
 
--- sets with the same number of pairs and equal truth values have equal rows
+-- two sets of pairs with equal truth values have equal rows
 pub same_rows : (n m : ℕ) (rows others : List ℕ) → AreRows n rows → AreRows m others → truths n rows ≡ truths m others → rows ≡ others
 same_rows n m rows others first second same =
     let nodes : n ≡ m = same_roots n m (sym (length-truths n rows) ∙ ap length same ∙ length-truths m others) in

@@ -1,4 +1,4 @@
--- Sets of pairs of nodes: as truth values, pair by pair, and as rows of bits, one row for each first node.
+-- Sets of pairs of nodes in two forms: as truth values, one for each pair, and as rows of bits, one row for each first node.
 use Rattle.std.specs.Prelude.{◌≡◌, ◌==◌, ℕ, ◌*◌, ◌/◌, ◌%◌, ◌^◌, ◌<◌, ◌≤◌, List, Bool, false, map, length, Some, ◌↔◌, slice_index, slice_index_or, IsBitSet, IsTrue, count_by, nat_lt}
 use Rattle.std.specs.Simd.Lanes.{mask_l, chunk}
 use Rattle.std.specs.Int.{bit_at}
@@ -9,23 +9,23 @@ use Rattle.word_image.specs.declared.side.Side.{Side}
 use Rattle.word_image.specs.Edges.{ends_at}
 use Rattle.word_image.specs.Ends.{label_at, end_at}
 
--- whether a pair is in a set
+-- the pair p is in the set
 abbrev pub holds : List Bool → ℕ → Bool
 holds set p = slice_index_or set p false
 
--- whether bit v of row u is 1, for each pair of n nodes
+-- the truth values of rows: for each pair (u, v) of n nodes, whether bit v of row u is 1
 abbrev pub truths : ℕ → List ℕ → List Bool
 truths n rows = map (λ p. bit_at (slice_index rows (p / n)) (p % n) == 1) (range_with_len 0 (n * n))
 
--- the number of nodes that have this many pairs
+-- the number of nodes that have this number of pairs
 abbrev pub nodes_of : ℕ → ℕ
 nodes_of count = count_by (λ i. nat_lt (i * i) count) (range_with_len 0 most_nodes)
 
--- the rows of truth values of the pairs of n nodes
+-- the rows of bits of a set that is given by truth values, one for each pair of n nodes
 abbrev pub rows_of : ℕ → List Bool → List ℕ
 rows_of n set = map (λ u. mask_l (chunk (u * n) n set)) (range_with_len 0 most_nodes)
 
--- 16 rows: the rows of n nodes, followed by zeros
+-- 16 rows: for each of n nodes a set of nodes, followed by zeros
 pub record AreRows (n : ℕ) (rows : List ℕ) : Type 0 where
   pub least : 1 ≤ n
   pub most : n ≤ most_nodes
@@ -33,7 +33,7 @@ pub record AreRows (n : ℕ) (rows : List ℕ) : Type 0 where
   pub within : (u : ℕ) → u < n → slice_index rows u < 2 ^ n
   pub past : (u : ℕ) → n ≤ u → slice_index rows u ≡ 0
 
--- a step with first letter a leads from the pair into the set
+-- a step with first letter a leads on this side from the pair p to a pair of the set
 pub record LeadsIntoBy (side : Side) (r : LocalRule) (set : List Bool) (p a : ℕ) : Type 0 where
   pub second : ℕ
   pub letter : second < r.states
@@ -41,16 +41,16 @@ pub record LeadsIntoBy (side : Side) (r : LocalRule) (set : List Bool) (p a : �
   pub leads : follow_on side r p a second ≡ Some pair
   pub there : IsTrue (holds set pair)
 
--- some step leads from the pair into the set
+-- some step leads on this side from the pair p to a pair of the set
 abbrev pub LeadsInto : Side → LocalRule → List Bool → ℕ → Type 0
 LeadsInto side r set p = (a : ℕ) × (a < r.states) × LeadsIntoBy side r set p a
 
--- exactly the pairs of the set from which some step leads into it are kept
+-- the kept pairs are exactly the pairs of the set from which some step leads to a pair of the set
 pub record IsTrimmedSet (side : Side) (r : LocalRule) (set kept : List Bool) : Type 0 where
   pub count : length kept ≡ pair_count r
   pub pairs : (p : ℕ) → p < pair_count r → (IsTrue (holds kept p) ↔ (IsTrue (holds set p) × LeadsInto side r set p))
 
--- the edge of letter a at node u and an edge with the same label at node v lead to nodes whose pair is in the rows
+-- the edge of letter a at node u, and an edge with the same label from node v to node t, lead to a pair of nodes that is in the rows
 pub record GoesOnBy (side : Side) (r : LocalRule) (ends : List (List ℕ)) (rows : List ℕ) (u v a t : ℕ) : Type 0 where
   pub node : t < most_nodes
   pub second : IsBitSet (ends_at ends (label_at side r u a) v) t
@@ -60,7 +60,7 @@ pub record GoesOnBy (side : Side) (r : LocalRule) (ends : List (List ℕ)) (rows
 abbrev pub GoesOn : Side → LocalRule → List (List ℕ) → List ℕ → ℕ → ℕ → Type 0
 GoesOn side r ends rows u v = (a : ℕ) × (t : ℕ) × (a < r.states) × GoesOnBy side r ends rows u v a t
 
--- the first n rows keep exactly the nodes from which something goes on
+-- in the kept rows, row u below n has exactly the nodes v of the old row u for which Goes u v holds, and the rows from n on are 0
 pub record AreNodesKept (Goes : ℕ → ℕ → Type 0) (rows : List ℕ) (n : ℕ) (kept : List ℕ) : Type 0 where
   pub long : length kept ≡ most_nodes
   pub done : (u v : ℕ) → u < n → v < most_nodes → (IsBitSet (slice_index kept u) v ↔ (IsBitSet (slice_index rows u) v × Goes u v))

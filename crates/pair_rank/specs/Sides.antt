@@ -1,4 +1,4 @@
--- Ranks and endless pairs, forward and backward.
+-- The rank of a pair of nodes is the greatest length of two walks with equal labels that begin at its nodes, or end at them. The pair is endless if there are such walks of any length.
 use Rattle.std.specs.Prelude.{◌≡◌, ℕ, ◌+◌, ◌-◌, ◌*◌, ◌/◌, ◌<◌, ◌↔◌, List, Bool, Option, None, IsTrue, MatchOption, length, slice_index_or}
 use Rattle.word_image.specs.LocalRules.{LocalRule, node_count, most_nodes}
 use Rattle.word_image.specs.Graphs.{pair_count, most_pairs}
@@ -11,7 +11,7 @@ use Rattle.pair_graph.specs.PairSets.{holds}
 abbrev pub IsRankOf : Side → LocalRule → ℕ → Option ℕ → Type 0
 IsRankOf side r p rank = MatchOption rank (IsEndless (PairGoes side r p)) (IsRank (PairGoes side r p))
 
--- the set has exactly the pairs that are endless
+-- the set has exactly the endless pairs
 pub record AreEndless (side : Side) (r : LocalRule) (set : List Bool) : Type 0 where
   pub count : length set ≡ pair_count r
   pub pairs : (p : ℕ) → p < pair_count r → (IsTrue (holds set p) ↔ IsEndless (PairGoes side r p))
@@ -20,16 +20,16 @@ pub record AreEndless (side : Side) (r : LocalRule) (set : List Bool) : Type 0 w
 abbrev pub most_rank : ℕ
 most_rank = (most_pairs - most_nodes) / 2 - 1
 
--- the rank of u and v in a table in which it is at 16 * u + v
+-- the rank of the nodes u and v in a table, in which it is at the place 16 * u + v
 abbrev pub rank_at : List (Option ℕ) → ℕ → ℕ → Option ℕ
 rank_at ranks u v = slice_index_or ranks (most_nodes * u + v) None
 
--- each rank is exact, and None stands for two endless nodes
+-- the table has the exact rank of each pair of nodes, or None if the pair is endless
 abbrev pub AreRanks : Side → LocalRule → List (Option ℕ) → Type 0
 AreRanks side r ranks =
     (u v : ℕ) → u < node_count r → v < node_count r → MatchOption (rank_at ranks u v) (IsEndless (Together side r u v)) (IsRank (Together side r u v))
 
--- the pair (u, v) is in the set and not in the set after it
+-- the pair (u, v) is in the set `set` and isn't in the set `after`
 pub record HasFallen (n : ℕ) (set after : List Bool) (u v : ℕ) : Type 0 where
   pub node : v < n
   pub before : IsTrue (holds set (u * n + v))

@@ -1,18 +1,18 @@
--- The preimages of two configurations, worked by hand. The check computes a part of them.
+-- The preimages of two configurations, worked by hand. The prover computes a part of them.
 use Rattle.std.specs.Prelude.{◌≡◌, ℕ, [], ◌∷◌, slice_index, ◌%◌, pos, negsuc, refl}
 use Rattle.word_image.specs.LocalRules.{LocalRule}
 use Rattle.tail_config.specs.Configs.{Config, zeros, run, image_of}
 
--- the sum of the two neighbours: the text 2:3:-1:t01011010
+-- rule 90, the sum of both neighbours modulo 2: the text 2:3:-1:t01011010
 abbrev rule_90 : LocalRule
 rule_90 = record { states = 2; width = 3; offset = negsuc 0; table = 0 ∷ 1 ∷ 0 ∷ 1 ∷ 1 ∷ 0 ∷ 1 ∷ 0 ∷ [] }
 
--- a and b alternate, with a at place 0
+-- the configuration in which a and b alternate, with a at place 0
 abbrev in_turn : ℕ → ℕ → Config
 in_turn a b (pos i) = slice_index (a ∷ b ∷ []) (i % 2)
 in_turn a b (negsuc i) = slice_index (b ∷ a ∷ []) (i % 2)
 
--- all four have the image of zeros, and differ in any two adjacent letters
+-- these four configurations have the image of zeros, and differ in any two adjacent letters
 
 image_of-zeros : run (image_of rule_90 zeros) (negsuc 1) 5 ≡ 0 ∷ 0 ∷ 0 ∷ 0 ∷ 0 ∷ []
 image_of-zeros = refl

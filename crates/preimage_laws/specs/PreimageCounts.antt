@@ -1,10 +1,10 @@
--- The number of preimages of a configuration, and separated preimages.
+-- The number of preimages of a configuration under a rule of width m, and separated preimages.
 use Rattle.std.specs.Prelude.{◌≡◌, ℕ, ◌-◌, ◌<◌, ℤ}
 use Rattle.word_image.specs.LocalRules.{LocalRule}
 use Rattle.tail_config.specs.Configs.{Config, IsConfig, run, image_of}
 use Rattle.config_laws.specs.Maps.{Differ}
 
--- y has n preimages: the numbers from 0 to n - 1 name each of them once
+-- the configurations xs 0 to xs (n - 1) are the preimages of y, each once
 pub record ArePreimages (r : LocalRule) (y : Config) (n : ℕ) (xs : ℕ → Config) : Type 0 where
   pub configs : (i : ℕ) → i < n → IsConfig r.states (xs i)
   pub maps : (i : ℕ) → i < n → image_of r (xs i) ≡ y

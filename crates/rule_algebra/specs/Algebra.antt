@@ -8,35 +8,35 @@ use Rattle.tail_config.specs.Tails.{TailConfig, IsTail, image_cell}
 abbrev pub KeepsImages : LocalRule → LocalRule → Type 0
 KeepsImages r g = (t : TailConfig) (i : ℤ) → IsTail r.states t → image_cell g t i ≡ image_cell r t i
 
--- the rule with the same table and its window moved to the right
+-- the rule with the same table and its window moved to the right by this number of cells
 abbrev pub shifted : LocalRule → ℤ → LocalRule
 shifted r by = record { states = r.states; width = r.width; offset = r.offset +ℤ by; table = r.table }
 
--- a permutation of the k letters
+-- the list is a permutation of the k letters
 pub record IsRecolouring (k : ℕ) (colours : List ℕ) : Type 0 where
   pub word : IsWord k colours
   pub long : length colours ≡ k
   pub different : (a b : ℕ) → a < k → b < k → slice_index colours a ≡ slice_index colours b → a ≡ b
 
--- the word with its letters renamed
+-- the word with its letters renamed: each letter is replaced by its colour
 abbrev pub recoloured : List ℕ → List ℕ → List ℕ
 recoloured colours w = map (slice_index colours) w
 
--- for each renamed window g gives the new name of the letter that f gives for the window
+-- g is f with renamed letters: for each renamed window g gives the new name of the letter that f gives for the window
 pub record IsRecoloured (colours : List ℕ) (f g : LocalRule) : Type 0 where
   pub states : g.states ≡ f.states
   pub width : g.width ≡ f.width
   pub entries : length g.table ≡ f.states ^ f.width
   pub letters : (w : List ℕ) → IsWord f.states w → length w ≡ f.width → local_map g (recoloured colours w) ≡ slice_index colours (local_map f w)
 
--- the image under g is the second rule's image of the first rule's image
+-- g is the composition: the image of a word under g is the second rule's image of the first rule's image of the word
 pub record IsComposed (first second g : LocalRule) : Type 0 where
   pub states : g.states ≡ first.states
   pub width : g.width ≡ first.width + second.width - 1
   pub offset : g.offset ≡ first.offset +ℤ second.offset
   pub images : (x : List ℕ) → IsWord first.states x → g.width ≤ length x + 1 → image g x ≡ image second (image first x)
 
--- the rule at width m, with ignored cells on the right
+-- g is r at width m: it has the same offset and the same images, so it ignores its last cells
 pub record IsWidened (r : LocalRule) (m : ℕ) (g : LocalRule) : Type 0 where
   pub states : g.states ≡ r.states
   pub width : g.width ≡ m
@@ -48,7 +48,7 @@ abbrev pub Ignores : LocalRule → ℕ → ℕ → Type 0
 Ignores r d e = (v w : List ℕ) → IsWord r.states v → IsWord r.states w → length v ≡ r.width → length w ≡ r.width
     → drop d (take (r.width - e) v) ≡ drop d (take (r.width - e) w) → local_map r v ≡ local_map r w
 
--- all ignored first cells are dropped, and then all ignored last cells, down to a width of 2
+-- g is r without ignored cells: all ignored first cells are dropped, and then all ignored last cells, down to a width of 2
 pub record IsTrimmed (r g : LocalRule) : Type 0 where
   pub first : ℕ
   pub last : ℕ

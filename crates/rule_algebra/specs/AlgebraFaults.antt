@@ -1,30 +1,30 @@
--- The first condition that is broken when a rule is made of rules.
+-- The first reason why a rule can't be made of another rule or of two other rules.
 use Rattle.std.specs.Prelude.{ℕ, ◌+◌, ◌-◌, ◌^◌, Option, Some, None, nat_lt, ◌==◌, ◌||◌, not, if◌then◌else◌, ℤ, pos, negsuc, ◌+ℤ◌, int_lt}
 use Rattle.word_image.specs.LocalRules.{LocalRule, most_width, most_nodes}
 use Rattle.rule_algebra.specs.declared.fault.AlgebraFault.{AlgebraFault}
 use Rattle.rule_algebra.specs.declared.fault.AlgebraFault.TheVariants.{States, Width, Nodes, Offset}
 
--- the fault of a window of m cells at offset o
+-- the fault of a window of m cells at offset o, if it reaches further than 16 cells to the left or to the right
 abbrev pub offset_fault : ℕ → ℤ → Option AlgebraFault
 offset_fault m o = if int_lt o (negsuc 15) || int_lt (pos 16) (o +ℤ pos (m - 1)) then Some Offset else None
 
--- the fault of a rule with k states, width m and this offset, where k is accepted
+-- the first limit that a rule with k states, which are accepted, width m and this offset breaks, if there is one
 abbrev pub limit_fault : ℕ → ℕ → ℤ → Option AlgebraFault
 limit_fault k m o =
     if nat_lt most_width m then Some Width
     else (if nat_lt most_nodes (k ^ (m - 1)) then Some Nodes
     else offset_fault m o)
 
--- the fault of a rule that is shifted, if there is one
+-- the fault of shifting a rule by this number of cells, if there is one
 abbrev pub shift_fault : LocalRule → ℤ → Option AlgebraFault
 shift_fault r by = offset_fault r.width (r.offset +ℤ by)
 
--- the fault of a composition of two rules, if there is one
+-- the fault of composing two rules, if there is one
 abbrev pub compose_fault : LocalRule → LocalRule → Option AlgebraFault
 compose_fault first second =
     if not (first.states == second.states) then Some States
     else limit_fault first.states (first.width + second.width - 1) (first.offset +ℤ second.offset)
 
--- the fault of a rule that is widened to m cells, if there is one
+-- the fault of widening a rule to m cells, if there is one
 abbrev pub widen_fault : LocalRule → ℕ → Option AlgebraFault
 widen_fault r m = if nat_lt m r.width then Some Width else limit_fault r.states m r.offset

@@ -1,4 +1,4 @@
--- Worked examples that compute.
+-- Worked examples of rules that are made of rules, which the prover computes.
 use Rattle.std.specs.Prelude.{◌≡◌, refl, Some, None, ◌∷◌, [], pos, negsuc}
 use Rattle.word_image.specs.LocalRules.{LocalRule}
 use Rattle.word_image.specs.Words.{image}
@@ -8,35 +8,35 @@ use Rattle.rule_algebra.specs.AlgebraFaults.{shift_fault, compose_fault, widen_f
 use Rattle.rule_algebra.specs.Tables.{composed, widened, without_first}
 use Rattle.rule_algebra.specs.declared.fault.AlgebraFault.TheVariants.{Width, Nodes, Offset}
 
--- rule 204 copies the cell
+-- rule 204, which copies the cell
 abbrev pub rule204 : LocalRule
 rule204 = record { states = 2; width = 3; offset = negsuc 0; table = 0 ∷ 0 ∷ 1 ∷ 1 ∷ 0 ∷ 0 ∷ 1 ∷ 1 ∷ [] }
 
--- shifted by one, rule 204 copies the right cell
+-- shifted by one, rule 204 copies the cell to the right
 shifted-204 : shifted rule204 (pos 1) ≡ record { states = 2; width = 3; offset = pos 0; table = 0 ∷ 0 ∷ 1 ∷ 1 ∷ 0 ∷ 0 ∷ 1 ∷ 1 ∷ [] }
 shifted-204 = refl
 
--- the sum of products
+-- the sum of two products, as the composition of the product of two cells and the sum of two cells
 sum_of_products : composed both sum_mod_two ≡ record { states = 2; width = 3; offset = pos 0; table = 0 ∷ 0 ∷ 0 ∷ 1 ∷ 0 ∷ 0 ∷ 1 ∷ 0 ∷ [] }
 sum_of_products = refl
 
--- the product of sums isn't the sum of products
+-- the product of two sums, which isn't the sum of two products
 product_of_sums : composed sum_mod_two both ≡ record { states = 2; width = 3; offset = pos 0; table = 0 ∷ 0 ∷ 1 ∷ 0 ∷ 0 ∷ 1 ∷ 0 ∷ 0 ∷ [] }
 product_of_sums = refl
 
--- the image of a word under the composition is the image of its image
+-- the image of a word under the composition is the second rule's image of the first rule's image of the word
 sum_of_products-image : image (composed both sum_mod_two) (1 ∷ 1 ∷ 0 ∷ 1 ∷ []) ≡ image sum_mod_two (image both (1 ∷ 1 ∷ 0 ∷ 1 ∷ []))
 sum_of_products-image = refl
 
--- the sum, with a third cell that it ignores
+-- the sum of two cells at width 3, which ignores its third cell
 widened-sum : widened sum_mod_two 3 ≡ record { states = 2; width = 3; offset = pos 0; table = 0 ∷ 0 ∷ 1 ∷ 1 ∷ 1 ∷ 1 ∷ 0 ∷ 0 ∷ [] }
 widened-sum = refl
 
--- rule 204 without its first cell
+-- rule 204 without the first cell of its window
 without_first-204 : without_first rule204 ≡ record { states = 2; width = 2; offset = pos 0; table = 0 ∷ 0 ∷ 1 ∷ 1 ∷ [] }
 without_first-204 = refl
 
--- each letter in its new colour
+-- the word with each letter replaced by its colour
 recoloured-word : recoloured (1 ∷ 2 ∷ 0 ∷ []) (0 ∷ 0 ∷ 2 ∷ 1 ∷ []) ≡ 1 ∷ 1 ∷ 0 ∷ 2 ∷ []
 recoloured-word = refl
 
@@ -47,7 +47,7 @@ shift_fault-204 = refl
 shift_fault-204_far : shift_fault rule204 (pos 16) ≡ Some Offset
 shift_fault-204_far = refl
 
--- a rule of three states and width 3 has 9 words of two letters, and its composition with itself 81 words of four
+-- a rule of three states and width 3 has 9 nodes, the words of two letters, and its composition with itself has 81 nodes, the words of four letters
 composed_nodes : compose_fault (record { states = 3; width = 3; offset = pos 0; table = [] }) (record { states = 3; width = 3; offset = pos 0; table = [] }) ≡ Some Nodes
 composed_nodes = refl
 

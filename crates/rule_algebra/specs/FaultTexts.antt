@@ -1,9 +1,9 @@
--- The words for the faults of made rules.
+-- The words for the faults of rules that are made of other rules.
 use Rattle.std.specs.Prelude.{ℕ, List, codes}
 use Rattle.rule_algebra.specs.declared.fault.AlgebraFault.{AlgebraFault}
 use Rattle.rule_algebra.specs.declared.fault.AlgebraFault.TheVariants as algebra
 
--- a word for each fault
+-- the word for a fault
 abbrev pub algebra_text : AlgebraFault → List ℕ
 algebra_text algebra.States = codes "states"
 algebra_text algebra.NotPermutation = codes "permutation"

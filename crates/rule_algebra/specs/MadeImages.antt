@@ -6,7 +6,7 @@ use Rattle.word_image.specs.Words.{image}
 use Rattle.tail_config.specs.Tails.{TailConfig, IsTail, image_cell}
 use Rattle.rule_algebra.specs.Algebra.{recoloured}
 
--- image cell i is the old image cell i + by
+-- image cell i under g is image cell i + by under r
 abbrev pub ShiftsImages : LocalRule → ℤ → LocalRule → Type 0
 ShiftsImages r by g = (t : TailConfig) (i : ℤ) → image_cell g t i ≡ image_cell r t (i +ℤ by)
 

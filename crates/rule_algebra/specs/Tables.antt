@@ -5,7 +5,7 @@ use Rattle.word_image.specs.Words.{image}
 use Rattle.rule_algebra.specs.Algebra.{Ignores}
 use Rattle.rule_algebra.specs.Tabulated.{table_by}
 
--- the composition of two rules
+-- the composition of two rules, by its table
 abbrev pub composed : LocalRule → LocalRule → LocalRule
 composed first second = record {
   states = first.states;
@@ -32,7 +32,7 @@ without_first r = record {
   table = take (node_count r) r.table;
 }
 
--- at the colours of the letters below n these letters, and letters below k elsewhere
+-- the list has each letter below n at the place of its colour, and any letters below k at the other places
 pub record AreOldLetters (k : ℕ) (colours : List ℕ) (n : ℕ) (letters : List ℕ) : Type 0 where
   pub long : length letters ≡ most_states
   pub word : IsWord k letters

@@ -1,4 +1,4 @@
--- The table of a function of windows.
+-- The table of a rule that gives the letters of a function of windows.
 use Rattle.std.specs.Prelude.{ℕ, ◌^◌, List, map}
 use Rattle.std.specs.List.{range_with_len}
 use Rattle.word_image.specs.LocalRules.{word_of}

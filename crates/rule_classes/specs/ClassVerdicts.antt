@@ -1,10 +1,10 @@
--- Verdicts that rules of the same class share.
+-- The verdicts that rules of the same class share.
 use Rattle.std.specs.Prelude.{◌↔◌, Bool, IsTrue, IsFalse}
 use Rattle.word_image.specs.LocalRules.{LocalRule}
 use Rattle.word_image.specs.Words.{IsSurjective}
 use Rattle.tail_config.specs.Tails.{IsInjective, IsRightClosing, IsLeftClosing}
 
--- r and g have the same verdicts, with right and left exchanged by a mirror
+-- r and g have the same verdicts; if `mirror` is true, right-closing for r is left-closing for g, and left-closing for r is right-closing for g
 pub record HaveOneVerdict (r : LocalRule) (mirror : Bool) (g : LocalRule) : Type 0 where
   pub surjective : IsSurjective r ↔ IsSurjective g
   pub injective : IsInjective r ↔ IsInjective g

@@ -1,4 +1,4 @@
--- Colourings of the letters, the rules that they make, and the search for the least of these.
+-- Colourings, which give each letter a new letter, its colour; the rules that colourings make; and the search for the least of these rules.
 use Rattle.std.specs.Prelude.{◌≡◌, ◌⊎◌, ℕ, ◌^◌, ◌<◌, ◌≤◌, List, length, reverse, slice_index, Bool, if◌then◌else◌, pos}
 use Rattle.word_image.specs.LocalRules.{LocalRule, value, word_of, local_map, wolfram_number}
 use Rattle.word_image.specs.declared.side.Side.{Side}
@@ -8,7 +8,7 @@ use Rattle.rule_algebra.specs.Tabulated.{table_by}
 use Rattle.rule_classes.specs.Classes.{turned}
 use Rattle.rule_classes.specs.declared.colourings.Colouring.{Colouring}
 
--- the colours of the letters below k, and the letter of each colour
+-- the first list has the colour of each letter below k, and the second list the letter of each colour
 pub record AreInverse (k : ℕ) (colours letters : List ℕ) : Type 0 where
   pub colours_long : k ≤ length colours
   pub letters_long : k ≤ length letters
@@ -25,15 +25,15 @@ IsColouring k c = AreInverse k c.colours c.letters
 abbrev pub last_side : Bool → Side
 last_side mirror = if mirror then Left else Right
 
--- the window in the old letters
+-- the window with the value v in the old letters: each colour is replaced by its letter
 abbrev pub old_word : LocalRule → Colouring → ℕ → List ℕ
 old_word r c v = recoloured c.letters (word_of r.states r.width v)
 
--- the word from right to left if the rule is mirrored
+-- the word itself, or the word from right to left if the rule is mirrored
 abbrev pub read_as : Bool → List ℕ → List ℕ
 read_as mirror w = if mirror then reverse w else w
 
--- the value of the window that the rule reads instead of this one
+-- the value of the window that the old rule reads if the new rule reads the window with the value v
 abbrev pub old_value : LocalRule → Colouring → ℕ → ℕ
 old_value r c v = value r.states (read_as c.mirrored (old_word r c v))
 
@@ -45,30 +45,30 @@ new_letter r c w = slice_index c.colours (local_map (turned r c.mirrored) (recol
 abbrev pub entry : LocalRule → Colouring → ℕ → ℕ
 entry r c v = new_letter r c (word_of r.states r.width v)
 
--- the renamed rule, mirrored or not, at offset 0
+-- the renamed rule, mirrored or not, at offset 0: the rule that a colouring makes
 abbrev pub in_colours : LocalRule → Colouring → LocalRule
 in_colours r c = record { states = r.states; width = r.width; offset = pos 0; table = table_by r.states r.width (new_letter r c) }
 
--- the Wolfram number of the renamed rule
+-- the Wolfram number of the rule that a colouring makes
 abbrev pub recoloured_number : LocalRule → Colouring → ℕ
 recoloured_number r c = wolfram_number (in_colours r c)
 
--- a chosen colour is below low or at least high; the others are free
+-- the colour is chosen: it is below low, or at least high; the other colours are free
 abbrev pub IsChosen : ℕ → ℕ → ℕ → Type 0
 IsChosen low high colour = (colour < low) ⊎ (high ≤ colour)
 
--- a colouring d with the letters of c at the chosen colours
+-- d is a colouring that completes c: at the chosen colours it has the letters of c
 pub record Completes (k : ℕ) (c : Colouring) (low high : ℕ) (d : Colouring) : Type 0 where
   pub colouring : IsColouring k d
   pub mirrored : d.mirrored ≡ c.mirrored
   pub letters : (a : ℕ) → a < k → IsChosen low high a → slice_index d.letters a ≡ slice_index c.letters a
 
--- the least of a colouring and of those that complete c, or the colouring itself if none of these is less
+-- the found colouring makes the least rule among `before` and the colourings that complete c, and it is `before` if none of them makes a lesser rule
 pub record IsLeastColouring (r : LocalRule) (c : Colouring) (low high : ℕ) (before found : Colouring) : Type 0 where
   pub colouring : IsColouring r.states found
   pub one : (found ≡ before) ⊎ (Completes r.states c low high found × (recoloured_number r found < recoloured_number r before))
   pub least : (d : Colouring) → Completes r.states c low high d → recoloured_number r found ≤ recoloured_number r d
 
--- every colouring that completes c has the letters of the best rule from this window on
+-- from the window with the value v on, every colouring that completes c makes a rule with the letters of the best rule
 pub record AgreeFrom (r : LocalRule) (c : Colouring) (low high : ℕ) (best : Colouring) (v : ℕ) : Type 0 where
   pub same : (d : Colouring) → Completes r.states c low high d → (u : ℕ) → v ≤ u → u < r.states ^ r.width → entry r d u ≡ entry r best u

@@ -3,7 +3,7 @@ use Rattle.std.specs.Prelude.{ℕ, List, codes}
 use Rattle.rule_classes.specs.declared.lifts.LiftFault.{LiftFault}
 use Rattle.rule_classes.specs.declared.lifts.LiftFault.TheVariants as lift
 
--- a word for each fault
+-- the word for the reason why a rule has no lift
 abbrev pub lift_text : LiftFault → List ℕ
 lift_text lift.States = codes "states"
 lift_text lift.Nodes = codes "nodes"

@@ -1,21 +1,21 @@
--- The rules that calls return one after another.
+-- The rules that calls of a search return one after another. A rule is listed if it has the shape, the property and the fixed letters of the search, and the listed rules come by ascending rank of their tables.
 use Rattle.std.specs.Prelude.{◌≡◌, ℕ, ◌<◌, ◌↔◌, List, [], ◌∷◌, Contains, Option, Some, None, ⊤}
 use Rattle.word_image.specs.LocalRules.{LocalRule}
 use Rattle.rule_lists.specs.Ranks.{rank}
 use Rattle.rule_lists.specs.Listed.{IsListed, IsFirst, NoneIs}
 use Rattle.rule_lists.specs.declared.properties.Property.{Property}
 
--- the rule has a greater rank than the last one; at the beginning each rule is allowed
+-- the rule q has a greater rank than the last rule r; if there is no last rule, q may be any rule
 abbrev pub IsAfter : ℕ → List ℕ → Option LocalRule → LocalRule → Type 0
 IsAfter k order None q = ⊤
 IsAfter k order (Some r) q = rank k order r.table < rank k order q.table
 
--- each rule is the first listed one after the rule before it, and no listed rule is after the last of them
+-- each rule of the list is the first listed one after the rule before it, and no listed rule comes after the last rule of the list
 abbrev pub AreAll : Property → ℕ → ℕ → List ℕ → List ℕ → Option LocalRule → List LocalRule → Type 0
 AreAll property k m begin order last [] = NoneIs property k m begin (IsAfter k order last)
 AreAll property k m begin order last (r ∷ rs) = IsFirst property k m begin order (IsAfter k order last) r × AreAll property k m begin order (Some r) rs
 
--- each rule is the first listed one after the rule before it, and this is the last of them
+-- each rule of the list is the first listed one after the rule before it, and `last` is the last of these rules
 abbrev pub AreSoFar : Property → ℕ → ℕ → List ℕ → List ℕ → Option LocalRule → List LocalRule → Option LocalRule → Type 0
 AreSoFar property k m begin order first [] last = first ≡ last
 AreSoFar property k m begin order first (r ∷ rs) last = IsFirst property k m begin order (IsAfter k order first) r × AreSoFar property k m begin order (Some r) rs last

@@ -1,4 +1,4 @@
--- Tables with some fixed letters, and the rules that have these letters.
+-- Tables with some fixed letters, and the rules that have these letters. The list `letters` has a number for each window, and the number fixes a letter if it is below k, the number of states.
 use Rattle.std.specs.Prelude.{◌≡◌, ℕ, ◌^◌, List}
 use Rattle.word_image.specs.LocalRules.{LocalRule, IsRule}
 use Rattle.word_image.specs.Words.{IsSurjective}

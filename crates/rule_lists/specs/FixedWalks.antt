@@ -1,4 +1,4 @@
--- Walks of pairs of nodes by fixed letters.
+-- Walks from pair to pair of nodes, in which each step follows two windows with equal fixed letters.
 use Rattle.std.specs.Prelude.{◌≡◌, ◌≢◌, ℕ, ◌<◌, List}
 use Rattle.word_image.specs.LocalRules.{LocalRule}
 use Rattle.word_image.specs.Graphs.{first_of, second_of, pair_count}
@@ -10,14 +10,14 @@ pub data IsFixedWalk (side : Side) (r : LocalRule) (letters : List ℕ) : ℕ �
   Here : (p : ℕ) → p < pair_count r → IsFixedWalk side r letters p p
   Step : (p q z : ℕ) → p < pair_count r → FixedLeadsOn side r letters p q → IsFixedWalk side r letters q z → IsFixedWalk side r letters p z
 
--- fixed letters lead from a pair back to it
+-- fixed letters lead from a pair back to it, in one or more steps
 pub record IsFixedRound (side : Side) (r : LocalRule) (letters : List ℕ) (p : ℕ) : Type 0 where
   pub next : ℕ
   pub inside : p < pair_count r
   pub on : FixedLeadsOn side r letters p next
   pub back : IsFixedWalk side r letters next p
 
--- fixed letters lead to a pair from a node with itself, first to two different nodes
+-- fixed letters lead to the pair p from a pair of two equal nodes, and the first step leads to two different nodes
 pub record IsFixedTail (side : Side) (r : LocalRule) (letters : List ℕ) (p : ℕ) : Type 0 where
   pub from : ℕ
   pub first : ℕ

@@ -1,4 +1,4 @@
--- The rules that are listed.
+-- The rules that a search lists: they have a given shape, a property and some fixed letters. The fixed letters are the numbers below k in the list `begin`, which has a number for each window.
 use Rattle.std.specs.Prelude.{◌≡◌, ℕ, ◌^◌, ◌<◌, ◌≤◌, ◌↔◌, ◌⊎◌, List, slice_index, ℤ, pos, Option, Some, IfSome}
 use Rattle.word_image.specs.LocalRules.{LocalRule, IsRule}
 use Rattle.rule_lists.specs.Properties.{Has}
@@ -23,13 +23,13 @@ pub record IsListed (property : Property) (k m : ℕ) (begin : List ℕ) (r : Lo
   pub has : Has property r
   pub begins : HasLetters k (k ^ m) begin r.table
 
--- the first listed rule with a property From
+-- the listed rule with the least rank among the listed rules for which From holds
 pub record IsFirst (property : Property) (k m : ℕ) (begin order : List ℕ) (From : LocalRule → Type 0) (r : LocalRule) : Type 0 where
   pub listed : IsListed property k m begin r
   pub from : From r
   pub least : (q : LocalRule) → IsListed property k m begin q → From q → rank k order r.table ≤ rank k order q.table
 
--- no listed rule has this property
+-- From holds for no listed rule
 abbrev pub NoneIs : Property → ℕ → ℕ → List ℕ → (LocalRule → Type 0) → Type 0
 NoneIs property k m begin From = (q : LocalRule) → IsListed property k m begin q → ¬ From q
 
@@ -37,17 +37,17 @@ NoneIs property k m begin From = (q : LocalRule) → IsListed property k m begin
 abbrev pub Forbids : Property → ℕ → ℕ → List ℕ → List ℕ → List ℕ → ℕ → Type 0
 Forbids property k m begin order table n = (q : LocalRule) → IsOfShape k m q → HasLetters k (k ^ m) begin q.table → ((i : ℕ) → i < n → slice_index q.table (slice_index order i) ≡ slice_index table (slice_index order i)) → ¬ Has property q
 
--- the letter at window v is known: it is the table's at one of the first n windows, or fixed
+-- the letter at window v is known to be a: the table has it there and v is one of the first n windows of the order, or it is the fixed letter
 abbrev pub IsStanding : List ℕ → List ℕ → List ℕ → ℕ → ℕ → ℕ → Type 0
 IsStanding begin order table n v a = ((i : ℕ) × (i < n) × (slice_index order i ≡ v) × (a ≡ slice_index table v)) ⊎ (a ≡ slice_index begin v)
 
--- all letters are known, and their rule has the property
+-- the letters of the table are known at all windows, and r is the rule with these letters and is listed
 pub record IsFilled (property : Property) (k m : ℕ) (begin table : List ℕ) (n : ℕ) (r : LocalRule) : Type 0 where
   pub full : n ≡ k ^ m
   pub listed : IsListed property k m begin r
   pub letters : (v : ℕ) → v < k ^ m → slice_index r.table v ≡ slice_index table v
 
--- the search continued from n known letters: the same rules are still to come
+-- the search went on from n known letters of the old table to the known letters of the new one, and the same listed rules are still to come
 pub record IsOn (property : Property) (k m : ℕ) (begin order old : List ℕ) (n : ℕ) (new : List ℕ) (next : Option ℕ) : Type 0 where
   pub table : IsTable k (k ^ m) new
   pub within : IfSome next (λ i. i ≤ k ^ m)

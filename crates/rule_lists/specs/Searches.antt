@@ -1,4 +1,4 @@
--- The rules that a search returns, call by call.
+-- The rules that a search returns, call by call. A search has a question: a shape, a property, an order of the windows and fixed letters.
 use Rattle.std.specs.Prelude.{◌≡◌, ℕ, ◌+◌, ◌-◌, ◌^◌, List, Option, Some, None, IfSome, MatchOption}
 use Rattle.word_image.specs.LocalRules.{LocalRule}
 use Rattle.rule_lists.specs.Ranks.{IsOrder, rank}
@@ -12,7 +12,7 @@ use Rattle.rule_lists.specs.declared.search.Search.{Search}
 abbrev pub size_of : Asked → ℕ
 size_of a = a.shape.now.states ^ a.shape.now.width
 
--- the list is an order of the shape's windows
+-- the order in the question has each window of the shape once
 abbrev pub IsOrdered : Asked → Type 0
 IsOrdered a = IsOrder (size_of a) a.order.now
 
@@ -24,27 +24,27 @@ AreEntries a entries = IsTable a.shape.now.states (size_of a) entries
 abbrev pub AreForbidden : Asked → List ℕ → ℕ → Type 0
 AreForbidden a entries n = Forbids a.property a.shape.now.states a.shape.now.width a.begin.now a.order.now entries n
 
--- the first listed rule with a property From, or None if there is none
+-- the result is the first listed rule for which From holds, or None if there is none
 abbrev pub IsFirstListed : Asked → (LocalRule → Type 0) → Option LocalRule → Type 0
 IsFirstListed a From next =
     MatchOption next
     (NoneIs a.property a.shape.now.states a.shape.now.width a.begin.now From)
     (IsFirst a.property a.shape.now.states a.shape.now.width a.begin.now a.order.now From)
 
--- the first listed rule after the last one, or None if there is none
+-- the result is the first listed rule after the last one, or None if there is none
 abbrev pub IsNextListed : Asked → Option LocalRule → Option LocalRule → Type 0
 IsNextListed a last next = IsFirstListed a (IsAfter a.shape.now.states a.order.now last) next
 
--- the rule has the asked number of states and the asked width
+-- the rule has the number of states and the width of the question
 pub record HasShape (a : Asked) (r : LocalRule) : Type 0 where
   pub states : r.states ≡ a.shape.now.states
   pub width : r.width ≡ a.shape.now.width
 
--- the search answers this question, and continues after this rule, or is at its beginning
+-- the search has this question, and continues after this rule, or is at its beginning if there is no rule
 abbrev pub IsBehind : Asked → Option LocalRule → Search → Type 0
 IsBehind a last s = (s.asked ≡ a) × (s.last ≡ last)
 
--- the windows are in an order, and the rule after which the search continues has the shape
+-- the search can go on: its windows are in an order, and the rule after which it continues has the shape of the question
 pub record CanGoOn (s : Search) : Type 0 where
   pub ordered : IsOrdered s.asked
   pub fits : IfSome s.last (HasShape s.asked)
@@ -55,7 +55,7 @@ pub record GivesNext (s : Search) (next : Option LocalRule) (t : Search) : Type 
   pub listed : IsNextListed s.asked s.last next
   pub last : MatchOption next (t.last ≡ s.last) (λ r. t.last ≡ Some r)
 
--- the number of ranks that are greater than the rank of the last rule
+-- how many ranks are greater than the rank of the last rule: all of them if there is no last rule
 abbrev pub ranks_left : Asked → Option LocalRule → ℕ
 ranks_left a None = a.shape.now.states ^ size_of a
 ranks_left a (Some r) = a.shape.now.states ^ size_of a - (rank a.shape.now.states a.order.now r.table + 1)

@@ -1,24 +1,24 @@
--- Tables whose letters at the first windows of an order are known.
+-- Tables whose letters at the first windows of an order are known. A search goes through them by ascending rank.
 use Rattle.std.specs.Prelude.{◌≡◌, ℕ, ◌-◌, ◌*◌, ◌^◌, ◌<◌, ◌≤◌, ◌⊎◌, List, slice_index, Option, Some, None}
 use Rattle.rule_lists.specs.Ranks.{rank_of_first}
 
--- the first size numbers are letters
+-- the first `size` numbers of the table are letters below k
 abbrev pub IsTable : ℕ → ℕ → List ℕ → Type 0
 IsTable k size table = (v : ℕ) → v < size → slice_index table v < k
 
--- the table has each fixed letter; at the other windows is a number that isn't a letter
+-- the table has each fixed letter; at a window without a fixed letter the list `letters` has a number that isn't below k
 abbrev pub HasLetters : ℕ → ℕ → List ℕ → List ℕ → Type 0
 HasLetters k size letters table = (v : ℕ) → v < size → slice_index letters v < k → slice_index table v ≡ slice_index letters v
 
--- the letters of t at the first n windows are the known ones, or come later; if there are none, nothing comes later
+-- t is still to come: the letters of t at the first n windows have at least the rank of the letters of the table there; if there is no n, no t is still to come
 abbrev pub IsPast : ℕ → List ℕ → List ℕ → Option ℕ → List ℕ → Type 0
 IsPast k order table None t = ⊥
 IsPast k order table (Some n) t = rank_of_first k order table n ≤ rank_of_first k order t n
 
--- the least rank of all tables with these first n letters
+-- the least rank of all tables that have this table's letters at the first n windows
 abbrev pub least_rank : ℕ → ℕ → List ℕ → List ℕ → ℕ → ℕ
 least_rank k size order table n = rank_of_first k order table n * k ^ (size - n)
 
--- i letters of the new table are further on than n letters of the old one: the least rank is greater, or it is the same and more letters are known
+-- the search is further on with i letters of the new table than with n letters of the old one: the least rank is greater, or it is the same and more letters are known
 abbrev pub IsFurther : ℕ → ℕ → List ℕ → List ℕ → ℕ → List ℕ → ℕ → Type 0
 IsFurther k size order old n new i = (least_rank k size order old n < least_rank k size order new i) ⊎ ((least_rank k size order old n ≡ least_rank k size order new i) × (n < i))

@@ -1,4 +1,4 @@
--- The beginning of a rule's table text: its meaning, and its first fault.
+-- A beginning is the text of a rule in table form that may end after some letters of the table. This file defines its meaning and its first fault.
 use Rattle.std.specs.Prelude.{◌≡◌, ℕ, ◌-◌, ◌^◌, List, [], ◌++◌, length, replicate, Option, Some, None, Result, Ok, Err}
 use Rattle.std.specs.Option.{option_map, option_or}
 use Rattle.word_image.specs.LocalRules.{LocalRule}
@@ -13,7 +13,7 @@ use Rattle.rule_text.specs.declared.beginnings.Beginning.{Beginning}
 abbrev pub filled : ℕ → List ℕ → List ℕ
 filled size letters = letters ++ replicate (size - length letters) 0
 
--- the given letters of the table
+-- the given letters of the table, or no letters if a number is given
 abbrev pub letters_of : Entries → List ℕ
 letters_of (Entries.Table letters) = letters
 letters_of (Entries.Number n) = []
@@ -31,12 +31,12 @@ beginning_fault s = option_or (option_map (in_text s.place) (shape_fault s.state
 abbrev pub beginning_rule : Said → LocalRule
 beginning_rule s = record { states = s.states; width = s.width; offset = s.offset; table = filled (s.states ^ s.width) (letters_of s.entries) }
 
--- the result of reading a beginning
+-- the result of reading a beginning is right: its rule and the number of its letters, or its first fault
 abbrev pub IsBeginningOf : Said → Result Beginning TextFault → Type 0
 IsBeginningOf s (Ok b) = (beginning_fault s ≡ None) × (b.rule ≡ beginning_rule s) × (b.given ≡ length (letters_of s.entries))
 IsBeginningOf s (Err f) = beginning_fault s ≡ Some f
 
--- the text is a beginning with this rule and this number of letters
+-- the text is a beginning, which gives this rule and this number of letters
 pub record IsBeginning (text : List ℕ) (b : Beginning) : Type 0 where
   pub said : Said
   pub says : Says text said
@@ -44,7 +44,7 @@ pub record IsBeginning (text : List ℕ) (b : Beginning) : Type 0 where
   pub rule : b.rule ≡ beginning_rule said
   pub given : b.given ≡ length (letters_of said.entries)
 
--- the first fault of the text as a beginning
+-- the first fault of a text that should be a beginning: the text isn't in the grammar, or its meaning has a fault
 pub data IsBeginningFault (text : List ℕ) : TextFault → Type 0 where
   NoForm : (place : ℕ) → IsFormFault IsSaid text place → IsBeginningFault text (fault.Form place)
   Refused : (said : Said) (f : TextFault) → Says text said → beginning_fault said ≡ Some f → IsBeginningFault text f

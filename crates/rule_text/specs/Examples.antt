@@ -1,4 +1,4 @@
--- Texts and their meanings, which the check computes.
+-- Texts and their meanings, which the prover computes.
 use Rattle.std.specs.Prelude.{◌≡◌, refl, [], ◌∷◌, pos, negsuc, Some, None, map, codes}
 use Rattle.std.specs.Fmt.{digits}
 use Rattle.rule_text.specs.declared.text_fault.TextFault.TheVariants as fault
@@ -6,16 +6,16 @@ use Rattle.word_image.specs.Digits.{letter_at}
 use Rattle.rule_text.specs.RuleTexts.{Table, Number, bare, by_number, decimal_value, fault_of, rule_of}
 use Rattle.rule_text.specs.PrintedRules.{printed_rule}
 
--- the digits 110 have the value 110
+-- the decimal digits 110 stand for the number 110
 value_110 : decimal_value (codes "110") ≡ 110
 value_110 = refl
 
--- the rule of the text 110, printed
+-- the printed text of the rule of the text 110
 printed_110 : printed_rule (rule_of (bare 110)) ≡ codes "2:3:-1:t01110110"
 unfolding digits
 printed_110 = refl
 
--- the rule of the text 30, printed
+-- the printed text of the rule of the text 30
 printed_30 : printed_rule (rule_of (bare 30)) ≡ codes "2:3:-1:t01111000"
 unfolding digits
 printed_30 = refl
@@ -36,7 +36,7 @@ beyond_128_bits = refl
 greatest_of_128_bits : fault_of (record { states = 4; width = 3; offset = negsuc 0; entries = Number 340282366920938463463374607431768211455; place = 8 }) ≡ None
 greatest_of_128_bits = refl
 
--- the text 7:2:0:w5 has a fault in its kind
+-- the text 7:2:0:w5 has a fault in its kind, since a rule of more than six states isn't given by a number
 first_fault_kind : fault_of (record { states = 7; width = 2; offset = pos 0; entries = Number 5; place = 7 }) ≡ Some fault.Kind
 first_fault_kind = refl
 
@@ -64,7 +64,7 @@ first_fault_states = refl
 first_fault_width : fault_of (record { states = 2; width = 6; offset = pos 0; entries = Table (0 ∷ []); place = 7 }) ≡ Some fault.Width
 first_fault_width = refl
 
--- the rule of number 6 of two states and width 2, printed
+-- the printed text of the rule of two states and width 2 with the number 6
 numbered_6 : printed_rule (rule_of (by_number 2 2 (pos 0) 6)) ≡ codes "2:2:0:t0110"
 unfolding digits
 numbered_6 = refl

@@ -22,7 +22,7 @@ fault_place (fault.Form place) = Some place
 fault_place (fault.Letter place) = Some place
 fault_place _ = None
 
--- a blank and the place, if there is one
+-- a blank and the place of a fault, or nothing if the fault has no place
 abbrev pub place_text : Option ℕ → List ℕ
 place_text None = []
 place_text (Some place) = codes " " ++ decimal place

@@ -17,11 +17,11 @@ colon = 58
 abbrev pub minus_sign : ℕ
 minus_sign = 45
 
--- the text has this part between the two places
+-- the text has this part between the places `from` and `to`
 abbrev pub GoesOver : List ℕ → ℕ → ℕ → List ℕ → Type 0
 GoesOver text from to part = take to text ≡ take from text ++ part
 
--- two digits, or one if there aren't two
+-- the text has between the two places a number of two digits, or of one digit if no other digit follows
 pub record GoesOverSmall (text : List ℕ) (from to number : ℕ) : Type 0 where
   pub digits : List ℕ
   pub over : GoesOver text from to digits
@@ -29,14 +29,14 @@ pub record GoesOverSmall (text : List ℕ) (from to number : ℕ) : Type 0 where
   pub value : number ≡ decimal_value digits
   pub longest : (length digits ≡ 2) ⊎ ¬ IsDigit (slice_index text to)
 
--- one or two digits and a colon
+-- the text has between the two places a number of one or two digits, and a colon
 pub record GoesOverField (text : List ℕ) (from to number : ℕ) : Type 0 where
   pub digits : List ℕ
   pub over : take to text ≡ take from text ++ digits ++ codes ":"
   pub decimal : IsDecimal 1 2 digits
   pub value : number ≡ decimal_value digits
 
--- one or two digits and a colon are missing: there are too few digits, or no colon after all of them
+-- the text lacks a number of one or two digits and a colon at the place `from`: there are too few digits, or no colon after all of them
 pub record LacksField (text : List ℕ) (from place : ℕ) : Type 0 where
   pub digits : List ℕ
   pub over : GoesOver text from place digits
@@ -45,17 +45,17 @@ pub record LacksField (text : List ℕ) (from place : ℕ) : Type 0 where
   pub no_colon : 1 ≤ length digits → slice_index text place ≢ colon
   pub stays : length digits ≡ 0 → place ≡ from
 
--- a minus sign, or nothing
+-- the text of a sign: a minus sign, or nothing
 abbrev pub sign : Bool → List ℕ
 sign true = codes "-"
 sign false = []
 
--- a number with this sign
+-- the integer with this sign and this absolute value
 abbrev pub signed : Bool → ℕ → ℤ
 signed true n = neg_ℤ (pos n)
 signed false n = pos n
 
--- an offset and a colon
+-- the text has between the two places an offset and a colon
 pub record GoesOverOffset (text : List ℕ) (from to : ℕ) (offset : ℤ) : Type 0 where
   pub minus : Bool
   pub digits : List ℕ
@@ -63,7 +63,7 @@ pub record GoesOverOffset (text : List ℕ) (from to : ℕ) (offset : ℤ) : Typ
   pub decimal : IsDecimal 1 2 digits
   pub value : offset ≡ signed minus (decimal_value digits)
 
--- an offset is missing: there is no field after the sign, or neither a sign nor a field
+-- the text lacks an offset and a colon at the place `from`: no number and colon follow the sign, or there is neither a sign nor a number
 pub record LacksOffset (text : List ℕ) (from place : ℕ) : Type 0 where
   pub minus : Bool
   pub start : ℕ
@@ -71,7 +71,7 @@ pub record LacksOffset (text : List ℕ) (from place : ℕ) : Type 0 where
   pub field : LacksField text start place
   pub no_sign : minus ≡ false → slice_index text start ≢ minus_sign
 
--- the letter of a kind
+-- the letter for a kind of entries: t for a table, w for a number
 abbrev pub kind_text : Kind → List ℕ
 kind_text kind.Table = codes "t"
 kind_text kind.Number = codes "w"
@@ -80,46 +80,46 @@ kind_text kind.Number = codes "w"
 abbrev pub IsNoKind : ℕ → Type 0
 IsNoKind b = (b ≢ 116) × (b ≢ 119)
 
--- the fault is a fault of form at a place of the text with this property
+-- the fault is a fault of form, and its place in the text has the property P
 abbrev pub IsRuleFormAt : List ℕ → TextFault → (ℕ → Type 0) → Type 0
 IsRuleFormAt text f P = (place : ℕ) × (f ≡ fault.Form place) × (place ≤ length text) × P place
 
--- a fault is a fault of form
+-- the fault is a fault of form
 abbrev pub IsForm : TextFault → Type 0
 IsForm f = (place : ℕ) × (f ≡ fault.Form place)
 
--- the entries for digits of this kind
+-- the entries that digits of this kind give
 abbrev pub entries_of : Kind → List ℕ → Entries
 entries_of kind.Table digits = Table (map letter_at digits)
 entries_of kind.Number digits = Number (decimal_value digits)
 
--- digits that can be the entries of this kind
+-- the digits can be the entries of this kind
 abbrev pub IsEntries : Kind → List ℕ → Type 0
 IsEntries kind.Table digits = All IsHexDigit digits
 IsEntries kind.Number digits = IsDecimal 1 39 digits
 
--- the meaning of a head with these entries
+-- the meaning of a text with this head and these entries
 abbrev pub said_with : Head → Entries → Said
 said_with f entries = record { states = f.k; width = f.m; offset = f.o; entries = entries; place = f.place }
 
--- the meaning of a head with digits of its kind
+-- the meaning of a text with this head and these digits
 abbrev pub said_of : Head → List ℕ → Said
 said_of f digits = said_with f (entries_of f.kind digits)
 
--- the digits of a number end too early at this place, or another byte is there
+-- the digits of a number go wrong at this place: there are no digits at all, or the byte here isn't a digit or is the fortieth
 pub record IsDecimalStop (digits : List ℕ) (place : ℕ) : Type 0 where
   pub before : All IsDigit (take place digits)
   pub within : place ≤ length digits
   pub few : place ≤ 39
   pub stop : (length digits ≡ 0) ⊎ ((place < length digits) × ((place ≡ 39) ⊎ ¬ IsDigit (slice_index digits place)))
 
--- a byte at this place isn't a hexadecimal digit
+-- the byte at this place is the first that isn't a hexadecimal digit
 pub record IsHexStop (digits : List ℕ) (place : ℕ) : Type 0 where
   pub before : All IsHexDigit (take place digits)
   pub within : place < length digits
   pub stop : ¬ IsHexDigit (slice_index digits place)
 
--- the head of a text and the place at which the entries begin: the meaning of the text if it has entries of its kind, and its fault of form otherwise
+-- the text has this head, and the entries begin at its place: the text has the head's meaning if it has entries of its kind, and its fault of form is that of the entries otherwise
 pub record IsHead (text : List ℕ) (h : Head) : Type 0 where
   pub within : h.place ≤ length text
   pub says : IsEntries h.kind (drop h.place text) → Says text (said_of h (drop h.place text))

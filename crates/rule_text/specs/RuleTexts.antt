@@ -11,31 +11,31 @@ use Rattle.rule_text.specs.PrintedRules.{head}
 use Rattle.rule_text.specs.declared.text_fault.TextFault.{TextFault}
 use Rattle.rule_text.specs.declared.text_fault.TextFault.TheVariants as fault
 
--- a decimal digit
+-- the byte is a decimal digit
 abbrev pub IsDigit : ℕ → Type 0
 IsDigit b = (48 ≤ b) × (b ≤ 57)
 
--- from low to high decimal digits
+-- the text has from low to high decimal digits
 pub record IsDecimal (low high : ℕ) (text : List ℕ) : Type 0 where
   pub digits : All IsDigit text
   pub least : low ≤ length text
   pub most : length text ≤ high
 
--- the number of a row of decimal digits
+-- the number that decimal digits stand for
 abbrev pub decimal_value : List ℕ → ℕ
 decimal_value text = value 10 (map (λ b. b - 48) text)
 
--- one or two decimal digits, which may have a minus sign, and the offset that they name
+-- the text is this offset: one or two decimal digits, with or without a minus sign before them
 pub data IsOffset : List ℕ → ℤ → Type 0 where
   Plain : (digits : List ℕ) → IsDecimal 1 2 digits → IsOffset digits (pos (decimal_value digits))
   Minus : (digits : List ℕ) → IsDecimal 1 2 digits → IsOffset (codes "-" ++ digits) (neg_ℤ (pos (decimal_value digits)))
 
--- the part after the kind: the table's letters, or the number
+-- the entries are the part of a text after the kind: the letters of the table, or the number
 pub data Entries : Type 0 where
   Table : (letters : List ℕ) → Entries
   Number : (number : ℕ) → Entries
 
--- the meaning of a text of the grammar, accepted or not; its entries begin at place
+-- the meaning of a text of the grammar, accepted or not; its entries begin at the place `place` of the text
 pub record Said : Type 0 where
   pub states : ℕ
   pub width : ℕ
@@ -43,15 +43,15 @@ pub record Said : Type 0 where
   pub entries : Entries
   pub place : ℕ
 
--- the meaning of a shape, an offset and a number, without a text
+-- the meaning that a text with k states, width m, offset o and the number n would have, if its entries began at place 0
 abbrev pub by_number : ℕ → ℕ → ℤ → ℕ → Said
 by_number k m o n = record { states = k; width = m; offset = o; entries = Entries.Number n; place = 0 }
 
--- the rule of two states, width 3 and offset -1 with this number
+-- the meaning of a text that is only a number: the rule of two states, width 3 and offset -1 with this number
 abbrev pub bare : ℕ → Said
 bare n = by_number 2 3 (negsuc 0) n
 
--- the grammar: the bare form, the table form and the number form
+-- the text is in the grammar with this meaning: it has the bare form, the table form or the number form
 pub data Says : List ℕ → Said → Type 0 where
   Bare : (digits : List ℕ) → IsDecimal 1 39 digits → Says digits (bare (decimal_value digits))
   InTable : (k m o digits : List ℕ) (offset : ℤ) → IsDecimal 1 2 k → IsDecimal 1 2 m → IsOffset o offset → All IsHexDigit digits
@@ -65,7 +65,7 @@ pub data Says : List ℕ → Said → Type 0 where
 abbrev pub IsSaid : List ℕ → Type 0
 IsSaid text = (said : Said) × Says text said
 
--- the fault of a rule whose table begins at this place of the text
+-- the fault of a text whose rule has this fault, if the table begins at this place of the text
 abbrev pub in_text : ℕ → RuleFault → TextFault
 in_text place limit.States = fault.States
 in_text place limit.Width = fault.Width
@@ -92,7 +92,7 @@ abbrev pub table_of : Said → Entries → List ℕ
 table_of s (Entries.Table letters) = letters
 table_of s (Entries.Number n) = reverse (word_of s.states (s.states ^ s.width) n)
 
--- the rule of a text
+-- the rule of a text with this meaning
 abbrev pub rule_of : Said → LocalRule
 rule_of s = record { states = s.states; width = s.width; offset = s.offset; table = table_of s s.entries }
 
@@ -100,14 +100,14 @@ rule_of s = record { states = s.states; width = s.width; offset = s.offset; tabl
 abbrev pub rule_of_table : ℕ → ℕ → List ℕ → LocalRule
 rule_of_table k m table = record { states = k; width = m; offset = pos 0; table = table }
 
--- the text is a text of the rule
+-- the text is a text of this rule
 pub record IsRuleText (text : List ℕ) (r : LocalRule) : Type 0 where
   pub said : Said
   pub says : Says text said
   pub accepted : fault_of said ≡ None
   pub rule : r ≡ rule_of said
 
--- the first fault of the text
+-- the first fault of a text that should be the text of a rule: the text isn't in the grammar, or its meaning has a fault
 pub data IsTextFault (text : List ℕ) : TextFault → Type 0 where
   NoForm : (place : ℕ) → IsFormFault IsSaid text place → IsTextFault text (fault.Form place)
   Refused : (said : Said) (f : TextFault) → Says text said → fault_of said ≡ Some f → IsTextFault text f

@@ -1,4 +1,4 @@
--- Rules with consecutive numbers, and a byte for the verdicts of each.
+-- Rules with consecutive numbers, and one byte for the verdicts of each rule.
 use Rattle.std.specs.Prelude.{◌≡◌, ℕ, ◌+◌, ◌-◌, ◌<◌, List, length, slice_index, Option, pos}
 use Rattle.std.specs.Option.{option_map, option_or}
 use Rattle.word_image.specs.LocalRules.{LocalRule}
@@ -12,7 +12,7 @@ use Rattle.rule_verdicts.specs.Truths.{AreTruths, byte_of}
 abbrev pub numbered_rule : ℕ → ℕ → ℕ → LocalRule
 numbered_rule k m n = rule_of (by_number k m (pos 0) n)
 
--- the first fault of this many numbers, at least one: a fault of the shape, then more than six states, then a last number that no table has
+-- the first fault of `count` consecutive numbers of rules, for a count of at least 1: a fault of the shape, then more than six states, then a last number that no table has
 abbrev pub numbers_fault : ℕ → ℕ → ℕ → ℕ → Option TextFault
 numbers_fault k m first count = option_or (option_map (in_text 0) (shape_fault k m (pos 0))) (number_fault k m (first + count - 1))
 
@@ -22,6 +22,6 @@ pub record IsVerdictByte (r : LocalRule) (byte : ℕ) : Type 0 where
   pub are : AreTruths r truths
   pub is : byte ≡ byte_of truths
 
--- each byte stands for the verdicts of the rule whose turn it is
+-- byte i stands for the verdicts of the rule with the number first + i
 abbrev pub AreVerdictBytes : ℕ → ℕ → ℕ → List ℕ → Type 0
 AreVerdictBytes k m first bytes = (i : ℕ) → i < length bytes → IsVerdictByte (numbered_rule k m (first + i)) (slice_index bytes i)

@@ -1,4 +1,4 @@
--- The verdicts of a rule, if each letter weighs its own value, and all of them as one number.
+-- The verdicts of a rule on six properties, if each letter weighs its own value, and all these verdicts as one number.
 use Rattle.std.specs.Prelude.{ℕ, ◌+◌, ◌*◌, ◌&&◌}
 use Rattle.std.specs.Int.{from_bool}
 use Rattle.word_image.specs.LocalRules.{LocalRule}
@@ -7,7 +7,7 @@ use Rattle.cert_conditions.specs.declared.verdicts.Verdicts.{Verdicts}
 use Rattle.cert_conditions.specs.Accepted.{AreTrue}
 use Rattle.rule_verdicts.specs.declared.truths.Truths.{Truths}
 
--- the verdicts in the form of a certificate's verdicts
+-- the verdicts on a rule in the form in which a certificate gives them
 abbrev pub said_of : LocalRule → Truths → Verdicts
 said_of r t = record {
   rule = r;
@@ -19,11 +19,11 @@ said_of r t = record {
   conserving = t.conserving;
 }
 
--- all verdicts are true
+-- each verdict is true of the rule
 abbrev pub AreTruths : LocalRule → Truths → Type 0
 AreTruths r t = AreTrue (said_of r t)
 
--- the sum of one power of two for each of the six verdicts that is yes
+-- the byte of the verdicts: the sum of 1 if the rule is surjective, 2 if injective, 4 if right-closing, 8 if left-closing, 16 if open, and 32 if conserving
 abbrev pub byte_of : Truths → ℕ
 byte_of t =
     from_bool t.surjective + 2 * from_bool t.injective + 4 * from_bool t.right + 8 * from_bool t.left + 16 * from_bool (t.right && t.left) + 32 * from_bool t.conserving

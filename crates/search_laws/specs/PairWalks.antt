@@ -1,4 +1,4 @@
--- Walks by pairs of letters, and the least of them.
+-- Walks from state to state by pairs of letters, and the least of these walks. The function `follow` gives the state that two letters reach from a state, if they reach one.
 use Rattle.std.specs.Prelude.{◌≡◌, ◌≢◌, ℕ, ◌/◌, ◌%◌, ◌<◌, List, length, Option, Some}
 use Rattle.std.specs.List.{All}
 use Rattle.std.specs.declared.cmp.Ordering.TheVariants.{Greater}
@@ -9,7 +9,7 @@ use Rattle.search_laws.specs.Walks.{Walk}
 abbrev pub LetterPairStep : (ℕ → ℕ → ℕ → Option ℕ) → ℕ → ℕ × ℕ → ℕ → Type 0
 LetterPairStep follow s p t = follow s p.0 p.1 ≡ Some t
 
--- both letters of each pair are below n
+-- both letters of each pair in the list are below n
 abbrev pub ArePairs : ℕ → List (ℕ × ℕ) → Type 0
 ArePairs n = All (λ p. (p.0 < n) × (p.1 < n))
 
@@ -29,11 +29,11 @@ pub record IsLeastWalkTo (follow : ℕ → ℕ → ℕ → Option ℕ) (k start 
   pub walk : PairWalk follow k start w t
   pub least : (v : List (ℕ × ℕ)) → PairWalk follow k start v t → pairs_cmp w v ≢ Greater
 
--- the pair of letters with this number
+-- the pair of letters (a, b) with the number a * n + b
 abbrev pub uncode : ℕ → ℕ → ℕ × ℕ
 uncode n c = (c / n, c % n)
 
--- a step on the number of a pair of letters below k
+-- a step from the state s to the state t on the letters c / n and c % n, which are both below k
 pub record CodeStep (follow : ℕ → ℕ → ℕ → Option ℕ) (k n s c t : ℕ) : Type 0 where
   pub first : c / n < k
   pub second : c % n < k

@@ -1,4 +1,4 @@
--- Walks along a step relation with letters.
+-- Walks from state to state along a relation, in which each step has a letter.
 use Rattle.std.specs.Prelude.{◌≡◌, ℕ, List, [], ◌∷◌}
 use Rattle.word_image.specs.LocalRules.{IsWord}
 

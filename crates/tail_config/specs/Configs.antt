@@ -3,27 +3,27 @@ use Rattle.std.specs.Prelude.{◌≡◌, ℕ, ◌<◌, List, map, ℤ, pos, ◌+
 use Rattle.std.specs.List.{range_with_len}
 use Rattle.word_image.specs.LocalRules.{LocalRule, local_map}
 
--- a letter at each place
+-- a configuration has a letter at each integer place
 abbrev pub Config : Type 0
 Config = ℤ → ℕ
 
--- the letters are below k
+-- the letters of the configuration are below k
 abbrev pub IsConfig : ℕ → Config → Type 0
 IsConfig k x = (i : ℤ) → x i < k
 
--- the letter 0 everywhere
+-- the configuration with the letter 0 everywhere
 abbrev pub zeros : Config
 zeros i = 0
 
--- n letters, starting at place i
+-- n letters of a configuration, starting at place i
 abbrev pub run : Config → ℤ → ℕ → List ℕ
 run x i n = map (λ j. x (i +ℤ pos j)) (range_with_len 0 n)
 
--- the image: at each place the letter that the rule gives for its window
+-- the image of a configuration: at each place the letter that the rule gives for the window of this place
 abbrev pub image_of : LocalRule → Config → Config
 image_of r x i = local_map r (run x (i +ℤ r.offset) r.width)
 
--- the letters are equal at the places from -n to n
+-- two configurations are equal at the places from -n to n
 abbrev pub AgreeWithin : ℕ → Config → Config → Type 0
 AgreeWithin n x y = (i : ℤ) → neg_ℤ (pos n) ≤ℤ i → i ≤ℤ pos n → x i ≡ y i
 

@@ -1,4 +1,4 @@
--- Worked examples: cells, image cells, mirrors, texts and faults done by hand, which the check computes.
+-- Worked examples: cells, image cells, mirrors, texts and faults done by hand, which the prover computes.
 use Rattle.std.specs.Prelude.{◌≡◌, ℕ, List, [], ◌∷◌, map, codes, replicate, refl, pos, negsuc, ◌+ℤ◌, ℤ, ◌==◌, if◌then◌else◌, Some, None}
 use Rattle.std.specs.List.{range_with_len}
 use Rattle.word_image.specs.LocalRules.{LocalRule}
@@ -11,15 +11,15 @@ use Rattle.tail_config.specs.TailFaults.{tail_fault}
 use Rattle.tail_config.specs.declared.faults.Part.TheVariants as part
 use Rattle.tail_config.specs.declared.faults.TailFault.TheVariants as fault
 
--- the text 2:3:-1:t01111000
+-- rule 30: the text 2:3:-1:t01111000
 abbrev rule30 : LocalRule
 rule30 = record { states = 2; width = 3; offset = negsuc 0; table = 0 ∷ 1 ∷ 1 ∷ 1 ∷ 1 ∷ 0 ∷ 0 ∷ 0 ∷ [] }
 
--- the sum of both neighbours modulo 2: the text 2:3:-1:t01011010
+-- rule 90, the sum of both neighbours modulo 2: the text 2:3:-1:t01011010
 abbrev rule90 : LocalRule
 rule90 = record { states = 2; width = 3; offset = negsuc 0; table = 0 ∷ 1 ∷ 0 ∷ 1 ∷ 1 ∷ 0 ∷ 1 ∷ 0 ∷ [] }
 
--- each cell takes the letter to its right: the text 2:2:0:t0101
+-- the shift to the left, by which each cell takes the letter to its right: the text 2:2:0:t0101
 abbrev left_shift : LocalRule
 left_shift = record { states = 2; width = 2; offset = pos 0; table = 0 ∷ 1 ∷ 0 ∷ 1 ∷ [] }
 
@@ -28,7 +28,7 @@ left_shift = record { states = 2; width = 2; offset = pos 0; table = 0 ∷ 1 ∷
 cells-row : cells (config_of (0 ∷ 1 ∷ 1 ∷ []) (0 ∷ 1 ∷ []) (0 ∷ [])) (negsuc 2) 6 ≡ 0 ∷ 1 ∷ 1 ∷ 0 ∷ 1 ∷ 0 ∷ []
 cells-row = refl
 
--- a configuration with periodic tails as a function: its cells are the letters of runs, and its image is the function's
+-- a configuration with periodic tails is a function from places to letters too: its cells are the letters of this function, and its image cells are the letters of the function's image
 
 cells-run : (t : TailConfig) (i : ℤ) (n : ℕ) → cells t i n ≡ run (cell t) i n
 cells-run t i n = refl
@@ -48,13 +48,12 @@ run-one = refl
 image_of-one : run (image_of rule90 one_in_zeros) (negsuc 1) 5 ≡ 0 ∷ 1 ∷ 0 ∷ 1 ∷ 0 ∷ []
 image_of-one = refl
 
--- the shift to the right by one place undoes the shift to the left: it maps the image of that configuration back to it
+-- the shift to the right by one place undoes the shift to the left: it maps the shifted configuration of all zeros and one 1 back to the configuration itself
 
 mapped-one : run (mapped (record { states = 2; width = 1; offset = negsuc 0; table = 0 ∷ 1 ∷ [] }) (image_of left_shift one_in_zeros)) (negsuc 1) 5 ≡ 0 ∷ 0 ∷ 1 ∷ 0 ∷ 0 ∷ []
 mapped-one = refl
 
--- 0|1011|1 and 0|1100|0, the least normal right split of rule 30: their cells differ at place 1 first, and under rule 90
--- the image cells at place 0 do
+-- 0|1011|1 and 0|1100|0 are the least normal right split of rule 30: the first place at which their cells differ is 1, and under rule 90 their images differ at place 0
 
 abbrev a : TailConfig
 a = config_of (0 ∷ []) (1 ∷ 0 ∷ 1 ∷ 1 ∷ []) (1 ∷ [])
@@ -71,7 +70,7 @@ cell-a = refl
 cell-b : cell b (pos 1) ≡ 1
 cell-b = refl
 
--- the image cells at the places -6 to 7
+-- the image cells of a configuration at the places -6 to 7
 abbrev image_row : LocalRule → TailConfig → List ℕ
 image_row r t = map (λ j. image_cell r t (negsuc 5 +ℤ pos j)) (range_with_len 0 14)
 
@@ -92,7 +91,7 @@ printed-a = refl
 mirror_of-row : mirror_of (config_of (0 ∷ []) (1 ∷ 0 ∷ 0 ∷ []) (1 ∷ [])) ≡ config_of (1 ∷ []) (0 ∷ 0 ∷ 1 ∷ []) (0 ∷ [])
 mirror_of-row = refl
 
--- First faults: |0|1, 0|2|1, a part of 1,025 letters before a letter that is none, and a part of 1,024
+-- First faults: |0|1 has an empty period, 0|2|1 has a number that isn't a letter, and the third has a middle of 1,025 letters, which counts before the wrong letter in its left period; a middle of 1,024 letters is no fault
 
 tail_fault-empty : tail_fault 2 (config_of [] (0 ∷ []) (1 ∷ [])) ≡ Some fault.LeftEmpty
 tail_fault-empty = refl

@@ -1,4 +1,4 @@
--- Splits on the left.
+-- Splits on the left: different configurations with the same image that agree far to the right.
 use Rattle.word_image.specs.LocalRules.{LocalRule}
 use Rattle.tail_config.specs.Tails.{TailConfig, IsTail, Different, ShareImage, AgreeRight}
 

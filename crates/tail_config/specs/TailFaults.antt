@@ -1,4 +1,4 @@
--- The texts that have the form of a configuration and are accepted, and the first fault of three parts.
+-- The texts that describe an accepted configuration, and the first fault of the three parts of a configuration.
 use Rattle.std.specs.Prelude.{ℕ, List, [], ◌∷◌, ◌++◌, length, Option, Some, None, nat_lt, nat_le, ◌==◌, if◌then◌else◌, position}
 use Rattle.std.specs.Option.{option_map, option_or}
 use Rattle.tail_config.specs.Tails.{TailConfig}
@@ -13,37 +13,37 @@ abbrev pub first_fault : List (Option TailFault) → Option TailFault
 first_fault [] = None
 first_fault (f ∷ fs) = option_or f (first_fault fs)
 
--- a period without a letter
+-- the given fault if the period has no letter
 abbrev pub empty_fault : TailFault → List ℕ → Option TailFault
 empty_fault f w = if length w == 0 then Some f else None
 
--- a part of more than 1,024 letters
+-- the fault of a part that has more than 1,024 letters, if this part has
 abbrev pub long_fault : Part → List ℕ → Option TailFault
 long_fault p w = if nat_lt 1024 (length w) then Some (fault.Long p) else None
 
--- the first letter of a part that is not below k
+-- the fault of the first letter in a part that isn't below k, if there is one
 abbrev pub letter_fault : ℕ → Part → List ℕ → Option TailFault
 letter_fault k p w = option_map (fault.Letter p) (position (λ a. nat_le k a) w)
 
--- the possible faults of length: an empty period, then a part that is too long, each from left to right
+-- the possible faults of length: first an empty period, then a part of more than 1,024 letters, each from left to right
 abbrev pub length_faults : List ℕ → List ℕ → List ℕ → List (Option TailFault)
 length_faults left middle right =
     empty_fault fault.LeftEmpty left ∷ empty_fault fault.RightEmpty right
     ∷ long_fault part.Left left ∷ long_fault part.Middle middle ∷ long_fault part.Right right ∷ []
 
--- the possible faults of letters: the first letter that isn't below k, with the parts from left to right
+-- the possible faults of letters: for each part from left to right its first letter that isn't below k
 abbrev pub letter_faults : ℕ → TailConfig → List (Option TailFault)
 letter_faults k t = letter_fault k part.Left t.left ∷ letter_fault k part.Middle t.middle ∷ letter_fault k part.Right t.right ∷ []
 
--- the first fault of three parts over the letters below k, if there is one
+-- the first fault of the three parts of a configuration over the letters below k, if there is one
 abbrev pub tail_fault : ℕ → TailConfig → Option TailFault
 tail_fault k t = first_fault (length_faults t.left t.middle t.right ++ letter_faults k t)
 
--- the grammar: the text describes some configuration, accepted or not
+-- the text is in the grammar: it describes some configuration, accepted or not
 abbrev pub HasForm : List ℕ → Type 0
 HasForm text = (t : TailConfig) × HasParts text t
 
--- the text describes this configuration over k letters, which is accepted
+-- the text describes this configuration, which is accepted over k letters
 pub record IsTailText (k : ℕ) (text : List ℕ) (t : TailConfig) : Type 0 where
   pub parts : HasParts text t
   pub accepted : IsShortTail k t

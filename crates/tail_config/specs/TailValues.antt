@@ -1,4 +1,4 @@
--- The value that represents a Tail in contracts: a configuration and the number of its letters.
+-- The value that stands for a `Tail` of the source in contracts: a configuration and the number of its states.
 use Rattle.std.specs.Prelude.{ℕ, ◌≤◌, List}
 use Rattle.word_image.specs.LocalRules.{most_states}
 use Rattle.tail_config.specs.Tails.{TailConfig}
@@ -9,7 +9,7 @@ pub record TailOver : Type 0 where
   pub states : ℕ
   pub config : TailConfig
 
--- there are 2 to 16 letters, and each part has at most 1,024
+-- there are 2 to 16 states, and each part of the configuration has at most 1,024 letters
 pub record IsAcceptedTail (t : TailOver) : Type 0 where
   pub least_states : 2 ≤ t.states
   pub most_states : t.states ≤ most_states

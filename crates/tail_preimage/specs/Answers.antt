@@ -1,4 +1,4 @@
--- The meaning of an answer.
+-- The meaning of an answer to the question whether a configuration has a preimage.
 use Rattle.std.specs.Prelude.{Bool, true, false}
 use Rattle.word_image.specs.LocalRules.{LocalRule}
 use Rattle.tail_config.specs.Tails.{TailConfig}
@@ -12,7 +12,7 @@ use Rattle.tail_preimage.specs.declared.answer.Pre.TheVariants.{From, Gap}
 abbrev pub placed_config : Placed → PlacedConfig
 placed_config p = record { at = p.at; config = config_of p.left p.middle p.right }
 
--- the answer is right
+-- the answer is right for the rule and the configuration
 abbrev pub IsPreimageAnswer : LocalRule → TailConfig → Pre → Type 0
 IsPreimageAnswer r t (From p) = IsFrom r t (placed_config p)
 IsPreimageAnswer r t (Gap before after w) = IsGap r t before after w

@@ -1,4 +1,4 @@
--- Worked examples: cells of placed configurations, words of periods and shapes done by hand, which the check computes.
+-- Worked examples: cells of placed configurations, words of periods and shapes done by hand, which the prover computes.
 use Rattle.std.specs.Prelude.{◌≡◌, [], ◌∷◌, refl, negsuc}
 use Rattle.std.specs.declared.cmp.Ordering.TheVariants.{Less, Greater}
 use Rattle.tail_config.specs.Tails.{TailConfig}
@@ -20,7 +20,7 @@ letters-placed = refl
 abbrev mixed : TailConfig
 mixed = record { left = 0 ∷ 1 ∷ []; middle = 1 ∷ []; right = 1 ∷ 0 ∷ 0 ∷ [] }
 
--- two left periods, the middle and one right period
+-- two left periods, the middle and one right period of this configuration, as one word
 stretch-mixed : stretch mixed 2 1 ≡ 0 ∷ 1 ∷ 0 ∷ 1 ∷ 1 ∷ 1 ∷ 0 ∷ 0 ∷ []
 stretch-mixed = refl
 

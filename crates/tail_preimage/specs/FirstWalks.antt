@@ -1,4 +1,4 @@
--- The walks that form a placed configuration, and the first of them.
+-- Walks in the de Bruijn graph whose letters form a placed configuration, and the first of these walks.
 use Rattle.std.specs.Prelude.{◌≡◌, ℕ, ◌+◌, ◌-◌, ◌*◌, ◌^◌, ◌≤◌, List, length, drop, slice_index, pos, ◌-ℤ◌}
 use Rattle.std.specs.List.{repeat}
 use Rattle.word_image.specs.LocalRules.{LocalRule}
@@ -8,7 +8,7 @@ use Rattle.tail_config.specs.TailValues.{config_of}
 use Rattle.tail_preimage.specs.Walks.{IsWalk, HasWalk, Reaches, IsLeastWalkInto, before_last}
 use Rattle.tail_preimage.specs.Preimages.{PlacedConfig, Shape, stretch}
 
--- three walks: one along left periods from node v back to v, one along the middle with some periods from v to w, and one along right periods from w back to w
+-- x is a walk along left periods from node v back to v, y a walk along the middle with some periods from v to w, and z a walk along right periods from w back to w
 pub record AreLoopWalks (r : LocalRule) (t : TailConfig) (s : Shape) (v w : ℕ) (x y z : List ℕ) : Type 0 where
   pub back_some : 1 ≤ s.back
   pub on_some : 1 ≤ s.on
@@ -31,7 +31,7 @@ pub record AreFirstWalks (r : LocalRule) (t : TailConfig) (s : Shape) (v w : ℕ
   pub middle : IsLeastWalkInto r (stretch t s.before s.after) v turns w y
   pub right : IsLeastWalkInto r (repeat s.on t.right) w (2 ^ w) w z
 
--- the sets of the last n + 1 places of a word, starting at its end
+-- set j of the list, for j up to n, has the nodes from which the last j letters of the word lead into the goal
 pub record AreOpen (r : LocalRule) (w : List ℕ) (goal n : ℕ) (sets : List ℕ) : Type 0 where
   pub long : length sets ≡ n + 1
   pub each : (j : ℕ) → j ≤ n → IsNodeSet r (Reaches r (drop (length w - j) w) goal) (slice_index sets j)

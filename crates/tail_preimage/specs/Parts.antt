@@ -1,4 +1,4 @@
--- The parts of a configuration as relations: the shapes that are possible, and the numbers of periods that have no walk.
+-- The parts of a configuration as relations between nodes: a part relates two nodes if a walk whose labels spell the part leads from one to the other. This file also defines which shapes of walks are possible, and along how many periods no walk leads.
 use Rattle.std.specs.Prelude.{◌≢◌, ℕ, ◌<◌, ◌≤◌, [], get_or}
 use Rattle.std.specs.declared.cmp.Ordering.TheVariants.{Greater}
 use Rattle.word_image.specs.LocalRules.{LocalRule, IsRule, node_count, most_nodes}
@@ -11,12 +11,12 @@ use Rattle.tail_preimage.specs.declared.periods.Periods.{Periods}
 use Rattle.tail_preimage.specs.declared.shapes.Parts.{Parts}
 use Rattle.tail_preimage.specs.declared.shapes.Spans.{Spans}
 
--- the relations of 0 to 16 periods are the relations of 0 to 16 steps by one period
+-- the stored relations of 0 to 16 periods are right: n periods relate the nodes between which n steps of the relation of one period lead
 pub record ArePeriods (r : LocalRule) (periods : Periods) : Type 0 where
   pub period : AreSets r periods.period
   pub powers : (n : ℕ) → n ≤ most_nodes → IsRelation r (Steps (HasBit periods.period) n) (get_or periods.powers n [])
 
--- a left period leads from its end to its start, and the other parts lead from start to end
+-- each part has the right relation: the left period relates the node at its end to the node at its start, and the middle and the right period relate the node at their start to the node at their end
 pub record AreTailParts (r : LocalRule) (t : TailConfig) (parts : Parts) : Type 0 where
   pub rule : IsRule r
   pub left_periods : ArePeriods r parts.left
@@ -25,11 +25,11 @@ pub record AreTailParts (r : LocalRule) (t : TailConfig) (parts : Parts) : Type 
   pub middle : IsRelation r (HasWalk r t.middle) parts.middle
   pub right : IsRelation r (HasWalk r t.right) parts.right.period
 
--- the relations belong to the parts of some configuration
+-- the relations are those of the parts of some configuration
 abbrev pub HaveParts : LocalRule → Parts → Type 0
 HaveParts r parts = (t : TailConfig) × AreTailParts r t parts
 
--- the middle leads from a node with the one property to a node with the other
+-- the middle leads from a node with the property `Before` to a node with the property `Behind`
 abbrev pub Through : LocalRule → Parts → (ℕ → Type 0) → (ℕ → Type 0) → Type 0
 Through r parts Before Behind = (v : ℕ) × (w : ℕ) × (v < node_count r) × (w < node_count r) × Before v × HasBit parts.middle v w × Behind w
 
@@ -37,7 +37,7 @@ Through r parts Before Behind = (v : ℕ) × (w : ℕ) × (v < node_count r) × 
 abbrev pub PassesThrough : LocalRule → Parts → ℕ → ℕ → Type 0
 PassesThrough r parts b a = Through r parts (Open (HasBit parts.left.period) b) (Open (HasBit parts.right.period) a)
 
--- the numbers of periods as a shape
+-- the shape with these numbers of periods
 abbrev pub shape_of : Spans → Shape
 shape_of s = record { before = s.before; back = s.back; after = s.after; on = s.on }
 
@@ -48,7 +48,7 @@ Starts r parts s v =
     × ((u : ℕ) × (u < node_count r) × Steps (HasBit parts.left.period) s.before u v
     × ((w : ℕ) × (w < node_count r) × HasBit parts.middle u w × Rounds (HasBit parts.right.period) s.after s.on w))
 
--- walks of the shape start at some node
+-- the shape is possible: walks of this shape start at some node
 pub record IsPossible (r : LocalRule) (parts : Parts) (s : Shape) : Type 0 where
   pub back_some : 1 ≤ s.back
   pub on_some : 1 ≤ s.on
@@ -56,13 +56,13 @@ pub record IsPossible (r : LocalRule) (parts : Parts) (s : Shape) : Type 0 where
   pub below : node < node_count r
   pub starts : Starts r parts s node
 
--- the least of all possible shapes, with at most 16 periods on each side
+-- the shape is the least of all possible shapes, and it has at most 16 periods on each side
 pub record IsFirstShape (r : LocalRule) (parts : Parts) (s : Shape) : Type 0 where
   pub possible : IsPossible r parts s
   pub small : IsSmall s
   pub least : (u : Shape) → IsPossible r parts u → shape_cmp s u ≢ Greater
 
--- the least numbers of periods, at most 16, that have no walk: first of left periods before 16 right ones, then of right periods after these
+-- b and a are the least numbers of periods, at most 16, along which no walk leads: first b left periods before 16 right ones, then a right periods after b left ones
 pub record IsFirstGap (r : LocalRule) (parts : Parts) (b a : ℕ) : Type 0 where
   pub before_few : b ≤ most_nodes
   pub after_few : a ≤ most_nodes

@@ -1,4 +1,4 @@
--- Placed configurations that a rule maps to a given one: their shapes and their order, the words that show that there is none, and the right answer.
+-- Placed configurations that a rule of width m maps to a given one: their shapes and their order, the words that show that there is none, and the right answer.
 use Rattle.std.specs.Prelude.{◌≡◌, ◌≢◌, ℕ, ◌+◌, ◌*◌, ◌-◌, ◌≤◌, List, ◌++◌, length, map, ℤ, pos, ◌+ℤ◌, ◌-ℤ◌}
 use Rattle.std.specs.List.{range_with_len, repeat}
 use Rattle.std.specs.Ordering.{ordering_then, nat_cmp}
@@ -9,7 +9,7 @@ use Rattle.word_image.specs.LocalRules.{LocalRule, local_map, most_nodes}
 use Rattle.word_image.specs.Words.{IsOrphan}
 use Rattle.tail_config.specs.Tails.{TailConfig, IsTail, cell}
 
--- a configuration whose middle begins at a place
+-- a placed configuration is a configuration whose middle begins at a given place
 pub record PlacedConfig : Type 0 where
   pub at : ℤ
   pub config : TailConfig
@@ -22,19 +22,19 @@ placed_cell p i = cell p.config (i -ℤ p.at)
 abbrev pub placed_cells : PlacedConfig → ℤ → ℕ → List ℕ
 placed_cells p i n = map (λ j. placed_cell p (i +ℤ pos j)) (range_with_len 0 n)
 
--- at every place the rule gives the letter of t for the window there
+-- p maps to t: at every place the rule gives the letter of t for the window of p there
 pub record MapsTo (r : LocalRule) (p : PlacedConfig) (t : TailConfig) : Type 0 where
   pub config : IsTail r.states p.config
   pub cells : (i : ℤ) → local_map r (placed_cells p (i +ℤ r.offset) r.width) ≡ cell t i
 
--- how many left and right periods of t the parts of a placed configuration span: its middle, besides the middle of t, and its own two periods
+-- how many left and right periods of t the parts of a placed configuration span: `before` and `after` are those of its middle, `back` and `on` those of its own periods
 pub record Shape : Type 0 where
   pub before : ℕ
   pub back : ℕ
   pub after : ℕ
   pub on : ℕ
 
--- the parts of a placed configuration are as long as these periods of t, its middle is where they are, and its m - 1 cells from there on are equal to those one of its left periods earlier
+-- the placed configuration has this shape: its parts are as long as these periods of t, its middle begins where the first of them begins, moved by the offset of the rule, and its left period leads back to the m - 1 cells at the beginning of the middle
 pub record HasShape (r : LocalRule) (t : TailConfig) (s : Shape) (p : PlacedConfig) : Type 0 where
   pub back_some : 1 ≤ s.back
   pub on_some : 1 ≤ s.on
@@ -42,10 +42,10 @@ pub record HasShape (r : LocalRule) (t : TailConfig) (s : Shape) (p : PlacedConf
   pub middle : length p.config.middle ≡ s.before * length t.left + length t.middle + s.after * length t.right
   pub right : length p.config.right ≡ s.on * length t.right
   pub at : p.at ≡ r.offset -ℤ pos (s.before * length t.left)
-  -- the m - 1 cells at the beginning of the middle are equal to those one left period earlier
+  -- the m - 1 cells at the beginning of the middle are equal to the cells one left period earlier
   pub node : placed_cells p p.at (r.width - 1) ≡ placed_cells p (p.at -ℤ pos (s.back * length t.left)) (r.width - 1)
 
--- the order of shapes: by the left periods of left period and middle together, then the right ones, then the left and the right ones of the middle
+-- the order of shapes: by the left periods in left period and middle together, then by the right periods in middle and right period together, then by the left periods in the middle, then by the right periods in the middle
 abbrev pub shape_cmp : Shape → Shape → Ordering
 shape_cmp s u =
     ordering_then (nat_cmp (s.back + s.before) (u.back + u.before))
@@ -56,12 +56,12 @@ shape_cmp s u =
 abbrev pub letters : PlacedConfig → List ℕ
 letters p = p.config.left ++ p.config.middle ++ p.config.right
 
--- a placed configuration of this shape that maps to t
+-- p is a placed configuration of this shape that maps to t
 pub record IsShapedPreimage (r : LocalRule) (t : TailConfig) (s : Shape) (p : PlacedConfig) : Type 0 where
   pub maps : MapsTo r p t
   pub shape : HasShape r t s p
 
--- the least placed configuration that maps to t: by its shape, then in dictionary order
+-- p is the least placed configuration that maps to t: by its shape, then in dictionary order
 pub record IsLeastPreimage (r : LocalRule) (t : TailConfig) (p : PlacedConfig) : Type 0 where
   pub shape : Shape
   pub preimage : IsShapedPreimage r t shape p
@@ -71,24 +71,24 @@ pub record IsLeastPreimage (r : LocalRule) (t : TailConfig) (p : PlacedConfig) :
 abbrev pub stretch : TailConfig → ℕ → ℕ → List ℕ
 stretch t before after = repeat before t.left ++ t.middle ++ repeat after t.right
 
--- the first stretch that is an orphan: with the fewest left periods, and then the fewest right ones
+-- w is the first stretch of t that is an orphan: it has the fewest left periods, and then the fewest right ones
 pub record IsLeastGap (r : LocalRule) (t : TailConfig) (before after : ℕ) (w : List ℕ) : Type 0 where
   pub word : w ≡ stretch t before after
   pub orphan : IsOrphan r w
   pub before_least : (b a : ℕ) → IsOrphan r (stretch t b a) → before ≤ b
   pub after_least : (a : ℕ) → IsOrphan r (stretch t before a) → after ≤ a
 
--- at most 16 periods on each side
+-- the shape has at most 16 periods on each side
 pub record IsSmall (s : Shape) : Type 0 where
   pub left : s.back + s.before ≤ most_nodes
   pub right : s.on + s.after ≤ most_nodes
 
--- the first placed configuration that maps to t
+-- p is the least placed configuration that maps to t, and its shape has at most 16 periods on each side
 pub record IsFrom (r : LocalRule) (t : TailConfig) (p : PlacedConfig) : Type 0 where
   pub least : IsLeastPreimage r t p
   pub small : IsSmall least.shape
 
--- the first gap, if no placed configuration maps to t
+-- w is the first stretch of t that is an orphan, it has at most 16 periods on each side, and no placed configuration maps to t
 pub record IsGap (r : LocalRule) (t : TailConfig) (before after : ℕ) (w : List ℕ) : Type 0 where
   pub least : IsLeastGap r t before after w
   pub before_few : before ≤ most_nodes

@@ -1,4 +1,4 @@
--- Relations between nodes, and steps along them.
+-- Relations between nodes, and walks whose steps lead along a relation.
 use Rattle.std.specs.Prelude.{◌≡◌, ℕ, ◌+◌, ◌<◌, ◌≤◌, List, replicate, slice_index, IsBitSet}
 use Rattle.word_image.specs.LocalRules.{LocalRule, node_count}
 use Rattle.word_image.specs.Graphs.{IsNodeSet}
@@ -8,7 +8,7 @@ use Rattle.search_laws.specs.Walks.{Walk}
 pub record IsRelation (r : LocalRule) (Related : ℕ → ℕ → Type 0) (table : List ℕ) : Type 0 where
   pub rows : (u : ℕ) → u < node_count r → IsNodeSet r (Related u) (slice_index table u)
 
--- a relation as steps whose letters have no meaning
+-- a relation as a step relation, whose letters have no meaning
 abbrev pub Unlettered : (ℕ → ℕ → Type 0) → ℕ → Unit {0} → ℕ → Type 0
 Unlettered E s a t = E s t
 
@@ -16,19 +16,19 @@ Unlettered E s a t = E s t
 pub record Steps (E : ℕ → ℕ → Type 0) (n u v : ℕ) : Type 0 where
   pub walk : Walk (Unlettered E) u (replicate n tt) v
 
--- some walk of n steps begins at u
+-- some walk of n steps of the relation begins at u
 abbrev pub Open : (ℕ → ℕ → Type 0) → ℕ → ℕ → Type 0
 Open E n u = (v : ℕ) × Steps E n u v
 
--- n steps lead from u to a node that has a loop of `on` steps
+-- n steps of the relation lead from u to a node that has a loop of `on` steps
 abbrev pub Rounds : (ℕ → ℕ → Type 0) → ℕ → ℕ → ℕ → Type 0
 Rounds E n on u = (v : ℕ) × Steps E n u v × Steps E on v v
 
--- some steps lead from u to a node that has a loop of one or more steps, and both numbers have this sum
+-- n steps lead from u to a node with a loop of `on` steps, `on` is at least 1, and n + on is this sum
 abbrev pub SomeRounds : (ℕ → ℕ → Type 0) → ℕ → ℕ → Type 0
 SomeRounds E sum u = (n : ℕ) × (on : ℕ) × (n + on ≡ sum) × (1 ≤ on) × Rounds E n on u
 
--- some node of the set has the property
+-- some node with the property is in the set
 abbrev pub Meets : LocalRule → (ℕ → Type 0) → ℕ → Type 0
 Meets r Holds set = (u : ℕ) × (u < node_count r) × Holds u × IsBitSet set u
 

@@ -1,4 +1,4 @@
--- Preimages of a word as walks in the de Bruijn graph, from the node of their first m - 1 letters to the node of their last ones, along edges whose labels spell the word.
+-- Preimages of a word under a rule of width m, as walks in the de Bruijn graph along edges whose labels spell the word. A walk leads from the node of the first m - 1 letters of the preimage to the node of its last m - 1 letters.
 use Rattle.std.specs.Prelude.{◌≡◌, ◌≢◌, ℕ, ◌-◌, List, length, take, drop, IsBitSet}
 use Rattle.std.specs.declared.cmp.Ordering.TheVariants.{Greater}
 use Rattle.std.specs.Ordering.{nat_cmp}
@@ -6,7 +6,7 @@ use Rattle.std.specs.Cmp.Lexicographic.{slice_cmp}
 use Rattle.word_image.specs.LocalRules.{LocalRule, value}
 use Rattle.word_image.specs.Words.{IsPreimage}
 
--- a preimage x of w that begins with node u and ends with node v
+-- x is a preimage of w that begins with node u and ends with node v
 pub record IsWalk (r : LocalRule) (w : List ℕ) (u v : ℕ) (x : List ℕ) : Type 0 where
   pub preimage : IsPreimage r w x
   pub first : value r.states (take (r.width - 1) x) ≡ u
@@ -16,11 +16,11 @@ pub record IsWalk (r : LocalRule) (w : List ℕ) (u v : ℕ) (x : List ℕ) : Ty
 abbrev pub before_last : LocalRule → List ℕ → List ℕ
 before_last r x = take (length x - (r.width - 1)) x
 
--- w leads from node u to node v
+-- some preimage of w begins with node u and ends with node v
 abbrev pub HasWalk : LocalRule → List ℕ → ℕ → ℕ → Type 0
 HasWalk r w u v = (x : List ℕ) × IsWalk r w u v x
 
--- w leads from node u into a set of nodes
+-- some preimage of w begins with node u and ends with a node of the set `goal`
 abbrev pub Reaches : LocalRule → List ℕ → ℕ → ℕ → Type 0
 Reaches r w goal u = (v : ℕ) × IsBitSet goal v × HasWalk r w u v
 

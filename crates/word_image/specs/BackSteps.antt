@@ -1,4 +1,4 @@
--- Steps of pairs of nodes, followed backward.
+-- Steps from pair to pair of nodes in the de Bruijn graph, followed backward.
 use Rattle.std.specs.Prelude.{◌≡◌, ℕ, ◌<◌, Some}
 use Rattle.word_image.specs.LocalRules.{LocalRule}
 use Rattle.word_image.specs.Graphs.{node_letter, first_of, second_of, pair_count, follow}

@@ -1,4 +1,4 @@
--- The ends of a window: its node and letter on either side, and the window of a node and a letter.
+-- The ends of a window: the node and the letter at its end on the right or on the left, and the window that consists of a node and a letter. Windows and nodes are given by their values, and the rule has width m.
 use Rattle.std.specs.Prelude.{ℕ, ◌+◌, ◌*◌, ◌/◌, ◌%◌, slice_index}
 use Rattle.word_image.specs.LocalRules.{LocalRule, node_count}
 use Rattle.word_image.specs.declared.side.Side.{Side}

@@ -1,5 +1,4 @@
--- Worked examples: rules, numbers, words, images, rings and pairs done by hand, which the check computes.
--- What needs a proof, as twins and windows, stands in proofs/Examples.antt.
+-- Worked examples: rules, numbers, words, images, rings and pairs done by hand, which the prover computes. Examples that need a proof, such as twins and windows, are in proofs/Examples.antt.
 use Rattle.std.specs.Prelude.{◌≡◌, true, false, [], ◌∷◌, length, map, sum_by, codes, refl, pos, negsuc, Some, None}
 use Rattle.std.specs.List.{range_with_len, zip}
 use Rattle.std.specs.declared.cmp.Ordering.TheVariants.{Less, Equal, Greater}
@@ -16,7 +15,7 @@ use Rattle.word_image.specs.Storage.{padded}
 use Rattle.word_image.specs.declared.local_rule.RuleFault.TheVariants as fault
 use Rattle.word_image.specs.declared.images.ImageFault.TheVariants as refusal
 
--- the text 2:3:-1:t01110110
+-- rule 110: the text 2:3:-1:t01110110
 abbrev pub rule110 : LocalRule
 rule110 = record { states = 2; width = 3; offset = negsuc 0; table = 0 ∷ 1 ∷ 1 ∷ 1 ∷ 0 ∷ 1 ∷ 1 ∷ 0 ∷ [] }
 
@@ -28,27 +27,27 @@ sum_mod_three = record { states = 3; width = 2; offset = pos 0; table = 0 ∷ 1 
 abbrev pub sum_mod_two : LocalRule
 sum_mod_two = record { states = 2; width = 2; offset = pos 0; table = 0 ∷ 1 ∷ 1 ∷ 0 ∷ [] }
 
--- the shift: each cell takes the letter to its right: the text 2:2:0:t0101
+-- the shift, by which each cell takes the letter to its right: the text 2:2:0:t0101
 abbrev pub shift : LocalRule
 shift = record { states = 2; width = 2; offset = pos 0; table = 0 ∷ 1 ∷ 0 ∷ 1 ∷ [] }
 
--- each cell keeps its letter, and ignores the one to its right: the text 2:2:0:t0011
+-- each cell keeps its letter and ignores the letter to its right: the text 2:2:0:t0011
 abbrev pub stay : LocalRule
 stay = record { states = 2; width = 2; offset = pos 0; table = 0 ∷ 0 ∷ 1 ∷ 1 ∷ [] }
 
--- 1 where both cells are 1: the text 2:2:0:t0001
+-- the rule that gives 1 if both cells are 1, and 0 if not: the text 2:2:0:t0001
 abbrev pub both : LocalRule
 both = record { states = 2; width = 2; offset = pos 0; table = 0 ∷ 0 ∷ 0 ∷ 1 ∷ [] }
 
--- 0 everywhere: the text 2:2:0:t0000
+-- the rule that gives 0 for each window: the text 2:2:0:t0000
 abbrev pub zero_rule : LocalRule
 zero_rule = record { states = 2; width = 2; offset = pos 0; table = 0 ∷ 0 ∷ 0 ∷ 0 ∷ [] }
 
--- each 1 moves one cell to the right where a 0 stands there: the text 2:3:-1:t00011101
+-- rule 184, by which each 1 moves one cell to the right if this cell is 0: the text 2:3:-1:t00011101
 abbrev pub rule184 : LocalRule
 rule184 = record { states = 2; width = 3; offset = negsuc 0; table = 0 ∷ 0 ∷ 0 ∷ 1 ∷ 1 ∷ 1 ∷ 0 ∷ 1 ∷ [] }
 
--- the rings of one and two letters of this rule keep their sum, and the ring 012 does not: the text 3:2:0:t002111022
+-- a rule whose rings of one and two letters keep their sum, and whose ring 012 doesn't: the text 3:2:0:t002111022
 abbrev pub lossy_at_three : LocalRule
 lossy_at_three = record { states = 3; width = 2; offset = pos 0; table = 0 ∷ 0 ∷ 2 ∷ 1 ∷ 1 ∷ 1 ∷ 0 ∷ 2 ∷ 2 ∷ [] }
 
@@ -63,7 +62,7 @@ word_of-6 = refl
 word_of-7 : word_of 3 2 7 ≡ 2 ∷ 1 ∷ []
 word_of-7 = refl
 
--- What a rule gives on a window, and its number
+-- What a rule gives on a window, and the Wolfram number of a rule
 
 local_map-011 : local_map rule110 (0 ∷ 1 ∷ 1 ∷ []) ≡ 1
 local_map-011 = refl
@@ -77,7 +76,7 @@ wolfram_number-110 = refl
 wolfram_number-sum_mod_three : wolfram_number sum_mod_three ≡ 8229
 wolfram_number-sum_mod_three = refl
 
--- Two rules are the same where all four parts are
+-- Two rules are the same if their states, widths, offsets and tables are
 
 same_rule-110 : same_rule rule110 rule110 ≡ true
 same_rule-110 = refl
@@ -129,7 +128,7 @@ ring_letter-before_0 = refl
 ring_letters-round : ring_letters (0 ∷ 1 ∷ 2 ∷ []) (negsuc 1) 6 ≡ 1 ∷ 2 ∷ 0 ∷ 1 ∷ 2 ∷ 0 ∷ []
 ring_letters-round = refl
 
--- twins of rule 184: the rings 0011 and 0101 have one image
+-- the rings 0011 and 0101 are twins of rule 184: they have the same image
 
 ring_image-0011 : ring_image rule184 (0 ∷ 0 ∷ 1 ∷ 1 ∷ []) ≡ 1 ∷ 0 ∷ 1 ∷ 0 ∷ []
 ring_image-0011 = refl
@@ -137,7 +136,7 @@ ring_image-0011 = refl
 ring_image-0101 : ring_image rule184 (0 ∷ 1 ∷ 0 ∷ 1 ∷ []) ≡ 1 ∷ 0 ∷ 1 ∷ 0 ∷ []
 ring_image-0101 = refl
 
--- a ring that doesn't keep its sum: 0 + 1 + 2 becomes 0 + 1 + 0
+-- the ring 012 doesn't keep its sum: 0 + 1 + 2 becomes 0 + 1 + 0
 
 ring_image-012 : ring_image lossy_at_three (0 ∷ 1 ∷ 2 ∷ []) ≡ 0 ∷ 1 ∷ 0 ∷ []
 ring_image-012 = refl
@@ -231,7 +230,7 @@ letter_at-digits = refl
 word_text-letters : word_text (0 ∷ 7 ∷ 10 ∷ 15 ∷ []) ≡ codes "07af"
 word_text-letters = refl
 
--- First faults
+-- The first fault of a shape, of a table, of a rule, of a word and of a ring
 
 shape_fault-order : shape_fault 17 6 (negsuc 16) ≡ Some fault.States
 shape_fault-order = refl
@@ -263,7 +262,7 @@ image_fault-short = refl
 image_fault-none : image_fault rule110 (0 ∷ 1 ∷ []) ≡ None
 image_fault-none = refl
 
--- How a table lies in memory
+-- A table is stored as 256 numbers: its letters, followed by zeros
 
 padded-length : length (padded rule110.table) ≡ 256
 padded-length = refl

@@ -1,4 +1,4 @@
--- The pairs of nodes that two walks reach when they part, on the right and on the left.
+-- First pairs: the pairs of nodes at which two walks with equal labels have just parted, after one step forward from a common node on the right, or one step backward on the left.
 use Rattle.std.specs.Prelude.{◌≡◌, ◌≢◌, ℕ, ◌-◌, ◌<◌, drop}
 use Rattle.word_image.specs.LocalRules.{LocalRule, node_count, word_of}
 use Rattle.word_image.specs.Graphs.{next, label, node_letter, pair_count, pair_of, first_of, second_of}
@@ -17,7 +17,7 @@ pub record IsFirstOfRight (r : LocalRule) (p : ℕ) : Type 0 where
   pub one_label : label r node a ≡ label r node b
   pub pair : p ≡ pair_of r (next r node a) (next r node b)
 
--- a pair of nodes that differ only in their first letter, and from which one letter leads along edges with equal labels
+-- a pair of nodes that differ only in their first letter, and from which the same letter leads along edges with equal labels
 pub record IsFirstOfLeft (r : LocalRule) (p : ℕ) : Type 0 where
   pub letter : ℕ
   pub in_pairs : p < pair_count r
@@ -26,7 +26,7 @@ pub record IsFirstOfLeft (r : LocalRule) (p : ℕ) : Type 0 where
   pub same_rest : drop 1 (word_of r.states (r.width - 1) (first_of r p)) ≡ drop 1 (word_of r.states (r.width - 1) (second_of r p))
   pub one_label : label r (first_of r p) letter ≡ label r (second_of r p) letter
 
--- the first pairs of this side
+-- the pair is a first pair on this side
 abbrev pub IsFirstOf : Side → LocalRule → ℕ → Type 0
 IsFirstOf Right = IsFirstOfRight
 IsFirstOf Left = IsFirstOfLeft

@@ -1,4 +1,4 @@
--- The place at which a text leaves a grammar, for any grammar.
+-- The place at which a text leaves a grammar. A grammar is any property of texts, and a text is a list of bytes.
 use Rattle.std.specs.Prelude.{ℕ, ◌<◌, ◌≤◌, List, ◌++◌, length, take}
 
 -- some text of the grammar begins with this text

@@ -1,4 +1,4 @@
--- The de Bruijn graph of a rule (Sutner 1991). A node is the value of a word of m - 1 letters, and an edge is the value of a window. Pairs of nodes, and steps between pairs.
+-- The de Bruijn graph of a rule of width m (Sutner 1991). A node is the value of a word of m - 1 letters, and an edge is the value of a window. A pair of nodes has a number, and a step leads from pair to pair along two edges with equal labels.
 use Rattle.std.specs.Prelude.{◌≡◌, ℕ, List, ◌+◌, ◌-◌, ◌*◌, ◌/◌, ◌%◌, ◌^◌, ◌<◌, Option, Some, None, ◌==◌, if◌then◌else◌, slice_index, ◌↔◌, IsBitSet}
 use Rattle.word_image.specs.LocalRules.{LocalRule, node_count, most_nodes, word_of}
 use Rattle.word_image.specs.Ends.{label_at, end_at}
@@ -18,15 +18,15 @@ pub record IsSetOf (n : ℕ) (Holds : ℕ → Type 0) (set : ℕ) : Type 0 where
   pub within : set < 2 ^ n
   pub nodes : (u : ℕ) → u < n → (IsBitSet set u ↔ Holds u)
 
--- the set of the nodes for which something holds
+-- the number is the set of the nodes for which a property holds
 abbrev pub IsNodeSet : LocalRule → (ℕ → Type 0) → ℕ → Type 0
 IsNodeSet r = IsSetOf (node_count r)
 
--- row u has bit v
+-- bit v of row u is 1
 abbrev pub HasBit : List ℕ → ℕ → ℕ → Type 0
 HasBit rows u v = IsBitSet (slice_index rows u) v
 
--- the rows are sets of nodes
+-- the row of each node is a set of nodes
 abbrev pub AreSets : LocalRule → List ℕ → Type 0
 AreSets r rows = (u : ℕ) → u < node_count r → slice_index rows u < 2 ^ node_count r
 
@@ -34,7 +34,7 @@ AreSets r rows = (u : ℕ) → u < node_count r → slice_index rows u < 2 ^ nod
 abbrev pub full_set : LocalRule → ℕ
 full_set r = 2 ^ node_count r - 1
 
--- a letter of a node, by its place
+-- the letter at place i of node u
 abbrev pub node_letter : LocalRule → ℕ → ℕ → ℕ
 node_letter r u i = slice_index (word_of r.states (r.width - 1) u) i
 
@@ -50,14 +50,14 @@ first_of r p = p / node_count r
 abbrev pub second_of : LocalRule → ℕ → ℕ
 second_of r p = p % node_count r
 
--- the pair that the letters a and b reach from the nodes of pair p, if the labels of the two edges are equal
+-- the pair that the letters a and b reach on this side from the nodes of pair p, if the labels of the two edges are equal
 abbrev pub follow_on : Side → LocalRule → ℕ → ℕ → ℕ → Option ℕ
 follow_on side r p a b =
     if label_at side r (first_of r p) a == label_at side r (second_of r p) b
     then Some (pair_of r (end_at side r (first_of r p) a) (end_at side r (second_of r p) b))
     else None
 
--- the pair that the letters a and b reach from pair p, read to the right
+-- the pair that the letters a and b reach on the right from the nodes of pair p, if the labels of the two edges are equal
 abbrev pub follow : LocalRule → ℕ → ℕ → ℕ → Option ℕ
 follow = follow_on Right
 

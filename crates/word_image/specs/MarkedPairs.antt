@@ -1,9 +1,9 @@
--- The marked graph: a walk of pairs of nodes with a mark that says whether its two letters have differed so far.
+-- The marked graph. Its nodes are marked pairs: pairs of nodes of the de Bruijn graph with a mark, which says whether the two walks to the pair have had different letters so far.
 use Rattle.std.specs.Prelude.{ℕ, ◌+◌, ◌*◌, ◌%◌, Option, Some, None, ◌==◌, ◌||◌, not, if◌then◌else◌, nat_le}
 use Rattle.word_image.specs.LocalRules.{LocalRule}
 use Rattle.word_image.specs.Graphs.{next, label, pair_of, first_of, second_of, pair_count, most_pairs}
 
--- One step in the marked graph. The pair p with mark 0 has the number p, and with mark 1 it has p plus the number of pairs. The mark becomes 1 when two letters differ, and stays 1.
+-- One step in the marked graph: the marked pair that the letters a and b reach from t. The pair p with mark 0 has the number p, and with mark 1 it has p plus the number of pairs. The mark becomes 1 when two letters differ, and stays 1.
 abbrev pub marked : LocalRule → ℕ → ℕ → ℕ → Option ℕ
 marked r t a b =
     if label r (first_of r (t % pair_count r)) a == label r (second_of r (t % pair_count r)) b

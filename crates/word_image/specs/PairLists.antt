@@ -4,7 +4,7 @@ use Rattle.word_image.specs.LocalRules.{LocalRule}
 use Rattle.word_image.specs.Graphs.{pair_count, follow, first_of, second_of}
 use Rattle.word_image.specs.FirstPairs.{IsFirstOfRight}
 
--- a list of pairs of nodes that proves a rule surjective
+-- the list proves that the rule is surjective: it has the first pairs on the right and each pair that a step reaches from its pairs, and no pair of it has two equal nodes
 pub record IsPairList (r : LocalRule) (pairs : List ℕ) : Type 0 where
   pub below : (p : ℕ) → Contains pairs p → p < pair_count r
   pub firsts : (p : ℕ) → IsFirstOfRight r p → Contains pairs p

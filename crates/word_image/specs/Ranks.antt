@@ -1,4 +1,4 @@
--- How long walks from two nodes, or to two nodes, can have equal labels, and the last nodes of the preimages of a word, both in terms of words (Sutner 1991).
+-- How long two walks from two nodes, or to two nodes, can have equal labels (Sutner 1991), and the last nodes of the preimages of a word. Walks are given by their words, and the rule has width m.
 use Rattle.std.specs.Prelude.{◌≡◌, ℕ, ◌+◌, ◌-◌, List, length, take, drop}
 use Rattle.word_image.specs.LocalRules.{LocalRule, IsWord, value}
 use Rattle.word_image.specs.Graphs.{IsNodeSet}
@@ -21,12 +21,12 @@ pub record EndTogether (r : LocalRule) (u v n : ℕ) : Type 0 where
   pub first : value r.states (drop n x) ≡ u
   pub second : value r.states (drop n y) ≡ v
 
--- n is the last length for which it holds: it doesn't hold for n + 1
+-- n is the rank: the property holds for n, and it doesn't hold for n + 1
 pub record IsRank (Holds : ℕ → Type 0) (n : ℕ) : Type 0 where
   pub holds : Holds n
   pub no_more : ¬ Holds (n + 1)
 
--- it holds for every length
+-- the property holds for every length
 abbrev pub IsEndless : (ℕ → Type 0) → Type 0
 IsEndless Holds = (n : ℕ) → Holds n
 
@@ -36,7 +36,7 @@ pub record IsLastNode (r : LocalRule) (w : List ℕ) (u : ℕ) : Type 0 where
   pub preimage : IsPreimage r w x
   pub last : value r.states (drop (length w) x) ≡ u
 
--- the set of the last nodes of all preimages of a word
+-- the number is the set of the last nodes of all preimages of the word w
 pub record IsLastSet (r : LocalRule) (w : List ℕ) (set : ℕ) : Type 0 where
   pub word : IsWord r.states w
   pub last : IsNodeSet r (IsLastNode r w) set

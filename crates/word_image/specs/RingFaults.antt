@@ -1,4 +1,4 @@
--- Why a ring has no image.
+-- The faults for which a ring has no image under a rule of k states.
 use Rattle.std.specs.Prelude.{ℕ, List, length, Option, Some, None, nat_le, ◌==◌, if◌then◌else◌, position}
 use Rattle.std.specs.Option.{option_map, option_or}
 use Rattle.word_image.specs.LocalRules.{LocalRule}

@@ -1,11 +1,11 @@
--- The first limit of an accepted rule that is broken.
+-- The limits of accepted rules, and the first one that a number of states, a width, an offset or a table breaks.
 use Rattle.std.specs.Prelude.{ℕ, ◌-◌, ◌^◌, List, length, Option, Some, None, nat_lt, nat_le, ◌==◌, ◌||◌, not, if◌then◌else◌, ℤ, pos, negsuc, ◌+ℤ◌, int_lt, position}
 use Rattle.std.specs.Option.{option_map, option_or}
 use Rattle.word_image.specs.LocalRules.{most_states, most_width, most_nodes}
 use Rattle.word_image.specs.declared.local_rule.RuleFault.{RuleFault}
 use Rattle.word_image.specs.declared.local_rule.RuleFault.TheVariants.{States, Width, Nodes, Offset, Length, Letter}
 
--- the fault of k states, width m and offset o, if there is one
+-- the first limit that k states, width m and offset o break, if there is one
 abbrev pub shape_fault : ℕ → ℕ → ℤ → Option RuleFault
 shape_fault k m o =
     if nat_lt k 2 || nat_lt most_states k then Some States
@@ -14,11 +14,11 @@ shape_fault k m o =
     else (if int_lt o (negsuc 15) || int_lt (pos 16) (o +ℤ pos (m - 1)) then Some Offset
     else None)))
 
--- the fault of a table whose k states and width m are accepted, if there is one
+-- the fault of a table for k states and width m, which are accepted: a wrong length, or else a letter that isn't below k
 abbrev pub table_fault : ℕ → ℕ → List ℕ → Option RuleFault
 table_fault k m table =
     if not (length table == k ^ m) then Some Length else option_map Letter (position (λ a. nat_le k a) table)
 
--- the first fault of states, width, offset and table, if there is one: the table is tested last
+-- the first fault of k states, width m, offset o and a table, if there is one: the table is tested last
 abbrev pub rule_fault : ℕ → ℕ → ℤ → List ℕ → Option RuleFault
 rule_fault k m o table = option_or (shape_fault k m o) (table_fault k m table)

@@ -1,8 +1,8 @@
--- Rules that are given by the letter at each value of a window.
+-- Rules that are given by a relation between the value of a window and the letter for this window.
 use Rattle.std.specs.Prelude.{◌≡◌, ℕ, ◌^◌, ◌<◌, slice_index, ℤ}
 use Rattle.word_image.specs.LocalRules.{LocalRule, IsRule}
 
--- an accepted rule with k states, width m and offset o, whose table has the given letter at each value of a window
+-- an accepted rule with k states, width m and offset o, whose table has at each value of a window the letter to which the relation `gives` relates this value
 pub record IsRuleBy (k m : ℕ) (o : ℤ) (gives : ℕ → ℕ → Type 0) (r : LocalRule) : Type 0 where
   pub rule : IsRule r
   pub states : r.states ≡ k

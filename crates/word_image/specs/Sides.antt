@@ -1,4 +1,4 @@
--- The two sides of the line. What holds on the right holds on the left of the mirrored rule.
+-- The two sides of the line of cells. What holds on the right holds on the left of the mirrored rule. The rule has width m.
 use Rattle.std.specs.Prelude.{ℕ}
 use Rattle.word_image.specs.LocalRules.{LocalRule, mirrored}
 use Rattle.word_image.specs.Graphs.{first_of, second_of}
@@ -7,7 +7,7 @@ use Rattle.word_image.specs.declared.side.Side.{Side}
 use Rattle.word_image.specs.declared.side.Side.TheVariants.{Right, Left}
 use Rattle.word_image.specs.Windows.{IsRightAhead}
 
--- the other side
+-- the opposite side: left for right, and right for left
 abbrev pub other : Side → Side
 other Right = Left
 other Left = Right
@@ -22,10 +22,10 @@ abbrev pub Together : Side → LocalRule → ℕ → ℕ → ℕ → Type 0
 Together Right = BeginTogether
 Together Left = EndTogether
 
--- the same for the two nodes of a pair
+-- two words of n + m - 1 letters with the same image begin with the two nodes of pair p, on the right, or end with them, on the left
 abbrev pub PairGoes : Side → LocalRule → ℕ → ℕ → Type 0
 PairGoes side r p = Together side r (first_of r p) (second_of r p)
 
--- n letters of the image and the last m - 1 letters of a word determine the letter before these: a right look-ahead of the mirrored rule
+-- n letters of the image and the last m - 1 letters of a word determine the letter before these last letters: n is a right look-ahead of the mirrored rule
 abbrev pub IsLeftAhead : LocalRule → ℕ → Type 0
 IsLeftAhead r n = IsRightAhead (mirrored r) n

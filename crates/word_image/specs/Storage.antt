@@ -3,11 +3,11 @@ use Rattle.std.specs.Prelude.{◌≡◌, ℕ, ◌-◌, List, ◌++◌, length, t
 use Rattle.std.proofs.Common.{ap, ◌∙◌, sym, take-append-drop}
 use Rattle.word_image.specs.LocalRules.{most_windows}
 
--- numbers, followed by zeros up to this size
+-- the numbers, followed by zeros up to this size
 abbrev pub in_row : ℕ → List ℕ → List ℕ
 in_row size numbers = numbers ++ replicate (size - length numbers) 0
 
--- a table, followed by zeros
+-- a table, followed by zeros up to 256 numbers
 abbrev pub padded : List ℕ → List ℕ
 padded table = in_row most_windows table
 
