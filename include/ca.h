@@ -2,25 +2,26 @@
  * The decider for one-dimensional cellular automata as a C library.
  *
  * ./library builds libca_c.a and libca_c.so in crates/ca_c/out/library, and prints their paths. ./install PREFIX installs
- * them as libca.a and libca.so, with this header and ca.pc for pkg-config. The functions are those of
- * crates/ca_c/src/exports.rt, whose contracts say what is proved about them. The structs are RuleVerdicts of
- * crates/c_structs/src/table_verdicts.rt, RuleReport of rule_reports.rt, the structs of letter_rows.rt, and KeptSums of
- * crates/kept_sums/src/kept.rt. It is tested, not proved, that this header agrees with these sources.
+ * them as libca.a and libca.so, with this header and ca.pc for pkg-config. crates/ca_c/src/exports.rt has the functions,
+ * and their contracts say what is proved about them. The structs have these names in the sources: RuleVerdicts in
+ * crates/c_structs/src/table_verdicts.rt, RuleReport in rule_reports.rt and the structs of letter_rows.rt of the same
+ * folder, and KeptSums in crates/kept_sums/src/kept.rt. Tests compare this header with these sources, but no proof does.
  *
- * Pointers. A pointer that is passed with a length points to as many bytes as the length says. It may be NULL if the length is
- * 0. Any other pointer points to a whole object of its type, and isn't NULL. A call keeps no pointer, and the caller has
- * nothing to free. A call doesn't write to const arguments. The buffer and *length, to which it writes, must not overlap
- * another argument.
+ * Pointers. If you pass a pointer with a length, the pointer must point to as many bytes as the length says. The pointer
+ * may be NULL if the length is 0. Any other pointer must point to a whole object of its type, and must not be NULL. A call
+ * keeps no pointer, and the caller has nothing to free. A call doesn't write to const arguments. It writes to the buffer
+ * and to *length, and these must not overlap another argument.
  *
  * Numbers. An argument is converted to its type without a warning: if you pass 258 as a uint8_t, it becomes 2. Check the range
  * of an int before you pass it.
  *
  * Stack. A call takes up to 128 KiB of stack. Give 256 KiB to a thread that calls the library.
  *
- * Threads. A call keeps no state. So several threads may call at once, each with a buffer and a length of its own; they may
- * share arguments that are only read. A call waits for nothing and starts no thread. It takes memory by malloc, realloc and
- * free of your program, which must be safe for threads, and frees all of it before it returns. Don't call from a signal
- * handler, or in the child of a fork of a process with several threads.
+ * Threads. A call keeps no state. So several threads may call the library at once, if each thread has its own buffer and
+ * its own length. Threads may share arguments that calls only read. A call waits for nothing and starts no thread. It takes
+ * memory by malloc, realloc and free of your program, which must be safe for threads. It frees all of this memory before it
+ * returns. Don't call the library from a signal handler. If a process with several threads forks, don't call the library in
+ * the child.
  */
 #ifndef CA_H
 #define CA_H
@@ -36,16 +37,16 @@ extern "C" {
 /* The version of this interface. ca_version returns the version of the linked library. */
 #define CA_VERSION 2
 
-/* The greatest numbers, for the sizes of arrays. */
+/* How many of these things there are at most. Use these numbers as the sizes of arrays. */
 #define CA_MOST_WINDOWS 256         /* letters of a table, and windows of an order */
-#define CA_MOST_NODES 16            /* words of width - 1 letters, and numbers of the flux of a report */
+#define CA_MOST_NODES 16            /* words of width - 1 letters, and numbers in the flux of a report */
 #define CA_MOST_REPORT_LETTERS 72712 /* letters of all words of a report together */
 #define CA_MOST_WORDS 16            /* words of range letters, and their weights */
 #define CA_MOST_FLUX 128            /* words of width + range - 2 letters, and numbers of their flux */
 #define CA_MOST_RING_LETTERS 15     /* letters of a ring that shows that a rule doesn't keep a sum */
 
-/* The codes that ca_run and ca_run_json return. With codes up to CA_CODE_TOO_LONG there is an output. ca_report returns
- * CA_CODE_DONE, CA_CODE_MEMORY or CA_CODE_SHORT. */
+/* The codes that ca_run and ca_run_json return. If the code is at most CA_CODE_TOO_LONG, there is an output. ca_report returns
+ * only CA_CODE_DONE, CA_CODE_MEMORY or CA_CODE_SHORT. */
 enum ca_code {
     CA_CODE_DONE = 0,       /* the command was carried out */
     CA_CODE_REFUSED = 1,    /* check refused the input */
@@ -82,12 +83,12 @@ enum ca_fault {
     CA_FAULT_NUMBER = 8, /* a number isn't the number of a rule */
     CA_FAULT_FORM = 9,   /* a text isn't the text of a rule; only ca_read_rule returns this */
 
-    CA_FAULT_PROPERTY = 10, /* the property isn't one of enum ca_bit */
+    CA_FAULT_PROPERTY = 10, /* the property isn't a value of enum ca_bit */
     CA_FAULT_ORDER = 11,    /* the order doesn't have each window once */
     CA_FAULT_BEGIN = 12,    /* more letters are fixed than there are windows */
     CA_FAULT_NO_RULE = 13,  /* there is no further rule */
 
-    CA_FAULT_RANGE = 14,  /* the words have no letter */
+    CA_FAULT_RANGE = 14,  /* range is 0, so words would have no letter */
     CA_FAULT_WORDS = 15,  /* there are more than 16 words of range letters */
     CA_FAULT_WEIGHT = 16, /* a weight isn't from -2^56 to 2^56 */
     CA_FAULT_LOST = 17,   /* the rule doesn't keep the sum */
@@ -129,8 +130,8 @@ static inline const char *ca_fault_text(uint8_t fault)
     }
 }
 
-/* The byte of a rule is the sum of the bits of its verdicts; struct ca_rule_verdicts explains the verdicts. For ca_window_order
- * and ca_next_rule each bit is a property. */
+/* ca_verdict_bytes gives a rule a byte: the sum of the bits of the verdicts that are yes. struct ca_rule_verdicts explains the
+ * verdicts. ca_window_order and ca_next_rule take one of these bits as a property. */
 enum ca_bit {
     CA_BIT_SURJECTIVE = 1,
     CA_BIT_INJECTIVE = 2,
@@ -151,7 +152,8 @@ struct ca_rule_verdicts {
     bool conserving; /* every ring has the same sum of letters as its image */
 };
 
-/* A word: length letters of the buffer, beginning at begin. If there is no word, both numbers are 0. */
+/* A word of a report. Its letters are length bytes of the buffer for letters, beginning at place begin. If there is no word,
+ * both numbers are 0. */
 struct ca_row {
     size_t begin;
     size_t length;
@@ -164,7 +166,7 @@ struct ca_tail {
     struct ca_row right;
 };
 
-/* Two words, closed to rings. */
+/* Two words, each of which is closed to a ring. */
 struct ca_twins {
     struct ca_row x;
     struct ca_row y;
@@ -177,28 +179,30 @@ struct ca_split {
 };
 
 /*
- * The verdicts of a rule, each with its least evidence. A verdict is 1 for yes and 0 for no. The fields with evidence for the
- * opposite verdict are 0. In C++ the function ca_report is ca::ca_report.
+ * The verdicts of a rule, each with its least evidence. A verdict is 1 for yes and 0 for no. A yes and a no have different
+ * fields for their evidence, and the fields of the other verdict are 0. In C++ the function ca_report is called
+ * ca::ca_report.
  */
 struct ca_report {
     uint8_t fault;      /* an enum ca_fault; if it isn't CA_FAULT_NONE, there is no report, and all other fields are 0 */
-    uint8_t surjective; /* every word has a preimage; otherwise orphan is the first word without a preimage */
-    uint8_t injective;  /* no two different configurations have the same image. Then window letters of an image determine the
-                           letter at place, counted from 0, of the window + width - 1 letters whose image they are.
-                           Otherwise the rings of the two twins have the same image */
-    uint8_t right;      /* no two different configurations that agree on the left have the same image. Then width - 1 letters
-                           and right_ahead letters of the image determine the next letter. Otherwise right_split has two
-                           such configurations */
-    uint8_t left;       /* no two different configurations that agree on the right have the same image. Then left_ahead is the
-                           right_ahead of the mirrored rule. Otherwise left_split has two such configurations */
+    uint8_t surjective; /* every word has a preimage. If not, orphan is the least word without a preimage */
+    uint8_t injective;  /* no two different configurations have the same image. If so, let a word have an image of as many
+                           letters as the field window says. This image determines the letter of the word at place, counted
+                           from 0. If not, the rings of the two words in twins have the same image */
+    uint8_t right;      /* no two different configurations that agree on the left have the same image. If so, the
+                           first width - 1 letters of a word and the first right_ahead letters of its image determine the
+                           next letter of the word. If not, right_split has two such configurations */
+    uint8_t left;       /* no two different configurations that agree on the right have the same image. If so, left_ahead is
+                           the right_ahead of the mirrored rule. If not, left_split has two such configurations */
     uint8_t is_open;    /* right and left are 1 */
-    uint8_t conserving; /* every ring has the same sum of weights as its image, which flux shows; otherwise ring doesn't */
-    uint8_t nodes;      /* the number of entries of flux: one for each word of width - 1 letters, by its value */
+    uint8_t conserving; /* every ring has the same sum of weights as its image. If so, flux shows this. If not, ring is the
+                           least ring whose image has another sum */
+    uint8_t nodes;      /* the number of words of width - 1 letters. flux has an entry for each, at the place of its value */
     uint32_t window;
     uint32_t place;
     uint32_t right_ahead;
     uint32_t left_ahead;
-    int32_t flux[CA_MOST_NODES]; /* zeros after the last entry */
+    int32_t flux[CA_MOST_NODES]; /* the entries, and zeros after the last entry */
     struct ca_row orphan;
     struct ca_twins twins;
     struct ca_row ring;
@@ -211,18 +215,19 @@ struct ca_report {
  * The sums that a rule keeps, for weights of words of range letters (docs/SUMS.md).
  *
  * The place of a word is its value: the number that its letters form in base states, with the leftmost letter as the most
- * significant digit. If a word doesn't begin with 0, its place has either a row or a ring; it has a ring if its entry of counts
- * isn't 0. All other places have neither. In C++ the function ca_kept_sums is ca::ca_kept_sums.
+ * significant digit. If a word doesn't begin with 0, its place has either a row or a ring. The place has a ring if its
+ * entry in counts isn't 0. All other places have neither a row nor a ring. In C++ the function ca_kept_sums is called
+ * ca::ca_kept_sums.
  */
 struct ca_kept_sums {
-    int64_t rows[CA_MOST_WORDS][CA_MOST_WORDS]; /* the weights of the words, if the place has a row; otherwise zeros. The
-                                                   first number of a row that isn't 0 is at the row's own place. It is
-                                                   positive, and all other rows have 0 at this place */
+    int64_t rows[CA_MOST_WORDS][CA_MOST_WORDS]; /* if the place has a row: the weights of the words. Otherwise zeros. The
+                                                   first number of a row that isn't 0 is at the row's own place. This
+                                                   number is positive, and all other rows have 0 at this place */
     uint8_t counts[CA_MOST_WORDS];              /* the number of letters of the ring, or 0 if the place has no ring */
-    uint8_t rings[CA_MOST_WORDS][CA_MOST_RING_LETTERS]; /* the letters of the ring; the letters after them mean nothing */
+    uint8_t rings[CA_MOST_WORDS][CA_MOST_RING_LETTERS]; /* the letters of the ring. The bytes after them mean nothing */
 };
 
-/* A rule, with the arguments that the calls below need. */
+/* A rule. Its fields are the arguments that the calls below need. */
 struct ca_rule {
     uint8_t states;
     uint8_t width;
@@ -231,7 +236,7 @@ struct ca_rule {
     uint8_t table[CA_MOST_WINDOWS]; /* the letter for each window, by the window's value, and then zeros */
 };
 
-/* The number of decimal digits, or of hexadecimal digits, with which a text begins; at most `most`. ca_read_rule uses it. */
+/* Returns how many decimal digits, or hexadecimal digits, a text begins with, but at most `most`. ca_read_rule calls it. */
 static inline size_t ca_count_digits(const char *text, bool decimal, size_t most)
 {
     size_t count = 0;
@@ -242,7 +247,7 @@ static inline size_t ca_count_digits(const char *text, bool decimal, size_t most
     return count;
 }
 
-/* Writes the letters of a table, from its hexadecimal digits. ca_read_rule uses it. */
+/* Writes the letters of a table into *rule, from their hexadecimal digits. ca_read_rule calls it. */
 static inline uint8_t ca_read_table(const char *digits, size_t length, struct ca_rule *rule)
 {
     size_t at;
@@ -257,7 +262,8 @@ static inline uint8_t ca_read_table(const char *digits, size_t length, struct ca
     return CA_FAULT_NONE;
 }
 
-/* Writes the letters of the rule with this number, from its decimal digits, at most 39. ca_read_rule uses it. */
+/* Writes the table of the rule with a given number into *rule. The number has at most 39 decimal digits. ca_read_rule calls
+ * it. */
 static inline uint8_t ca_read_number(const char *digits, size_t length, struct ca_rule *rule)
 {
     uint8_t number[39], rest = 0;
@@ -265,7 +271,7 @@ static inline uint8_t ca_read_number(const char *digits, size_t length, struct c
     for (at = 0; at < length; at++)
         number[at] = (uint8_t)(digits[at] - '0');
     for (window = 0; window < rule->table_length; window++) {
-        unsigned over = 0; /* what is left over when the number is divided by the number of states */
+        unsigned over = 0; /* the remainder of the number, divided by the number of states */
         for (at = 0; at < length; at++) {
             const unsigned part = 10u * over + number[at];
             number[at] = (uint8_t)(part / rule->states);
@@ -278,7 +284,7 @@ static inline uint8_t ca_read_number(const char *digits, size_t length, struct c
     return rest == 0 ? CA_FAULT_NONE : CA_FAULT_NUMBER;
 }
 
-/* Checks states, width and offset, and whether the form, t or w, is allowed. ca_read_rule uses it. */
+/* Checks the number of states, the width and the offset, and whether the form, t or w, is allowed. ca_read_rule calls it. */
 static inline uint8_t ca_read_shape(const int parts[3], char form, struct ca_rule *rule)
 {
     int place, nodes = 1;
@@ -302,11 +308,12 @@ static inline uint8_t ca_read_shape(const int parts[3], char form, struct ca_rul
 }
 
 /*
- * Reads the text of a rule, with a 0 byte after it, as docs/COMMANDS.md describes it: "110", "2:3:-1:w110" and
- * "2:3:-1:t01110110" are the same rule. It needs no library.
+ * Reads the text of a rule, which has a 0 byte after it. docs/COMMANDS.md describes these texts. For example, "110",
+ * "2:3:-1:w110" and "2:3:-1:t01110110" are the same rule. This function needs no library.
  *
- * It returns CA_FAULT_NONE and fills *rule. Otherwise it returns the first of these faults that applies, and leaves *rule as it
- * was: CA_FAULT_FORM, CA_FAULT_STATES to CA_FAULT_OFFSET, CA_FAULT_KIND, CA_FAULT_LENGTH, CA_FAULT_LETTER, CA_FAULT_NUMBER.
+ * If the text is a rule, it returns CA_FAULT_NONE and fills *rule. Otherwise it doesn't change *rule, and returns the first
+ * of these faults that applies: CA_FAULT_FORM, CA_FAULT_STATES to CA_FAULT_OFFSET, CA_FAULT_KIND, CA_FAULT_LENGTH,
+ * CA_FAULT_LETTER, CA_FAULT_NUMBER.
  */
 static inline uint8_t ca_read_rule(const char *text, struct ca_rule *rule)
 {
@@ -341,7 +348,7 @@ static inline uint8_t ca_read_rule(const char *text, struct ca_rule *rule)
     return fault;
 }
 
-/* Returns the version of the interface that was linked. */
+/* Returns the version of the interface of the linked library. */
 uint32_t ca_version(void);
 
 /*
@@ -351,16 +358,14 @@ uint32_t ca_version(void);
  * "orphan\0" "110\0" are 11 bytes. If words_length is 0, there are no words. docs/COMMANDS.md describes the commands and their
  * outputs.
  *
- * input is the certificate for the command check. All other commands leave it unread.
+ * input is the certificate for the command check. All other commands don't read input.
  *
  * It returns an enum ca_code, and always sets *length:
  *
- *   up to CA_CODE_TOO_LONG  The first *length bytes of output have the output, without a 0 byte after it. The other bytes of
- * the
- *                           buffer don't change.
- *   CA_CODE_SHORT           The output has *length bytes, which is more than room. The buffer doesn't change. A second call,
- * with
- *                           enough room, computes the output again.
+ *   up to CA_CODE_TOO_LONG  The first *length bytes of the buffer output have the output of the command, without a 0 byte
+ *                           after it. The other bytes of the buffer don't change.
+ *   CA_CODE_SHORT           The output has *length bytes, which are more than room. The buffer doesn't change. A second call
+ *                           with enough room computes the output again.
  *   CA_CODE_MEMORY and CA_CODE_NO_WORDS
  *                           *length is 0, and the buffer doesn't change.
  */
@@ -368,9 +373,9 @@ uint8_t ca_run(const uint8_t *words, size_t words_length, const uint8_t *input, 
                uint8_t *output, size_t room, size_t *length);
 
 /*
- * Carries out a command as ca_run does, but writes the reply as JSON: one object in ASCII, without blanks and without a line
- * end. docs/ANSWERS.md describes it. Its key "status" is "done", "refused", "usage", "rulefault", "notfit" or "toolong", for
- * the codes 0 to 5. Codes, length and buffer are as for ca_run.
+ * Carries out a command as ca_run does, but writes the reply as JSON: one object in ASCII, without blanks and without a
+ * line end. docs/ANSWERS.md describes it. The value of its key "status" is "done", "refused", "usage", "rulefault",
+ * "notfit" or "toolong", for the codes 0 to 5. The codes, *length and the buffer have the same meaning as for ca_run.
  */
 uint8_t ca_run_json(const uint8_t *words, size_t words_length, const uint8_t *input, size_t input_length,
                     uint8_t *output, size_t room, size_t *length);
@@ -378,33 +383,32 @@ uint8_t ca_run_json(const uint8_t *words, size_t words_length, const uint8_t *in
 /*
  * Decides the verdicts of a rule, and needs no memory. Each letter weighs its own value.
  *
- * The rule has the letters 0 to states - 1. To get cell i of an image, take the window of the cells i to i + width - 1; the
- * table has its letter. table has one byte for each letter, in the order of the values of the windows. The leftmost letter of a
- * window is the most significant digit of its value.
+ * The rule has the letters 0 to states - 1. Cell i of an image has the letter that the table gives for the window of the
+ * cells i to i + width - 1. table has one byte for each window, in the order of the values of the windows. The value of a
+ * window is the number that its letters form in base states. The leftmost letter is the most significant digit.
  */
 struct ca_rule_verdicts ca_verdicts(uint8_t states, uint8_t width, const uint8_t *table,
                                     size_t table_length);
 
 /*
- * Returns the report of a rule as numbers and letters. It is the report that `decide` of docs/COMMANDS.md prints.
+ * Returns the report of a rule as numbers and letters. The command `decide` of docs/COMMANDS.md prints the same report.
  *
- * The rule is given as for ca_verdicts, but the window of cell i begins at cell i + offset. offset is at least -16, and
- * offset + width - 1 is at most 16. weights has the weight of each letter, beginning with the letter 0. If weights_length is 0,
- * each letter weighs its own value.
+ * The rule is given as for ca_verdicts, but the window of cell i begins at cell i + offset. offset must be at least -16, and
+ * offset + width - 1 must be at most 16. weights has the weight of each letter, beginning with the letter 0. If
+ * weights_length is 0, each letter weighs its own value.
  *
  * It returns CA_CODE_DONE, CA_CODE_SHORT or CA_CODE_MEMORY, and always sets *length:
  *
- *   CA_CODE_DONE    *report is filled. The first *length bytes of letters have the letters of its words, one byte for each
- * letter;
- *                   the other bytes of the buffer don't change. If there is no report, its fault is the first of
- *                   CA_FAULT_STATES to CA_FAULT_LETTER and CA_FAULT_WEIGHTS that applies, and *length is 0.
- *   CA_CODE_SHORT   There are *length letters, which is more than room. *report and the buffer don't change. A second call,
- * with
- *                   enough room, computes the report again. docs/COMMANDS.md says how long each word can be.
- *                   CA_MOST_REPORT_LETTERS letters are enough for every rule.
+ *   CA_CODE_DONE    *report is filled. The first *length bytes of the buffer letters have the letters of the report's words,
+ *                   one byte for each letter. The other bytes of the buffer don't change. If the rule or the weights have a
+ *                   fault, there is no report. Then the field fault of *report is the first of CA_FAULT_STATES to
+ *                   CA_FAULT_LETTER and CA_FAULT_WEIGHTS that applies, and *length is 0.
+ *   CA_CODE_SHORT   The words have *length letters together, which are more than room. *report and the buffer don't change.
+ *                   A second call with enough room computes the report again. docs/COMMANDS.md says how long each word can
+ *                   be. CA_MOST_REPORT_LETTERS letters are enough for every rule.
  *   CA_CODE_MEMORY  *length is 0, and *report and the buffer don't change.
  *
- * Test report->fault too: if the rule is refused, the code is CA_CODE_DONE, and all verdicts of the report are 0.
+ * Test report->fault too: if the rule has a fault, the code is still CA_CODE_DONE, and all verdicts of the report are 0.
  */
 #ifdef __cplusplus
 namespace ca {
@@ -420,22 +424,23 @@ uint8_t ca_report(uint8_t states, uint8_t width, int8_t offset, const uint8_t *t
  * Applies a rule once to a configuration, writes letters of the image, and needs no memory. With this call you can check the
  * evidence of a report by hand. The rule is given as for ca_report.
  *
- * The middle of the configuration begins at cell 0. To its right the letters of right are repeated without end, and to its left
- * the letters of left. The call writes count letters: letter i is the letter of the image at cell first + i. The image of a
- * periodic configuration is periodic too. To get the image as a configuration, ask for one period on each side, and for the
- * cells between them whose windows meet the middle.
+ * The middle of the configuration begins at cell 0. To the right of the middle the letters of right are repeated without
+ * end, and to the left of it the letters of left. The call writes count letters: letter i is the letter of the image at
+ * cell first + i. The image of a periodic configuration is periodic too. To get the image as a configuration, ask for one
+ * period on each side, and for the cells between them whose windows meet the middle.
  *
- * It returns CA_FAULT_NONE. Otherwise it returns the first of CA_FAULT_STATES to CA_FAULT_LETTER, CA_FAULT_PERIOD,
- * CA_FAULT_CELL and CA_FAULT_PLACE that applies, and letters doesn't change. It looks at each letter of the configuration once,
- * and then at one window for each letter of the image.
+ * If there is no fault, it returns CA_FAULT_NONE. Otherwise it returns the first of CA_FAULT_STATES to CA_FAULT_LETTER,
+ * CA_FAULT_PERIOD, CA_FAULT_CELL and CA_FAULT_PLACE that applies, and letters doesn't change. The call looks at each letter
+ * of the configuration once, and then at one window for each letter of the image.
  */
 uint8_t ca_image(uint8_t states, uint8_t width, int8_t offset, const uint8_t *table, size_t table_length,
                  const uint8_t *left, size_t left_length, const uint8_t *middle, size_t middle_length,
                  const uint8_t *right, size_t right_length, int64_t first, uint8_t *letters, size_t count);
 
 /*
- * Writes the image of a ring by ca_image: ring_length letters. Letter i is the letter for the window of place i, counted around
- * the ring. The ring is passed as a configuration: both periods are the ring, and the middle is empty.
+ * Writes the image of a ring by ca_image. The image has ring_length letters. Letter i is the letter for the window that
+ * begins at place i + offset, counted around the ring. The ring is passed as a configuration: both periods are the ring,
+ * and the middle is empty.
  */
 static inline uint8_t ca_ring_image(uint8_t states, uint8_t width, int8_t offset, const uint8_t *table,
                                     size_t table_length, const uint8_t *ring, size_t ring_length, uint8_t *letters)
@@ -445,8 +450,8 @@ static inline uint8_t ca_ring_image(uint8_t states, uint8_t width, int8_t offset
 }
 
 /*
- * Writes the image of a word by ca_image: one letter for each window of the word, so width - 1 letters fewer than the word has.
- * If the word has fewer than width letters, the image has no letter.
+ * Writes the image of a word by ca_image. The image has one letter for each window of the word, which are width - 1 letters
+ * fewer than the word has. If the word has fewer letters than width, the image has no letter.
  */
 static inline uint8_t ca_word_image(uint8_t states, uint8_t width, const uint8_t *table, size_t table_length,
                                     const uint8_t *word, size_t word_length, uint8_t *letters)
@@ -459,24 +464,28 @@ static inline uint8_t ca_word_image(uint8_t states, uint8_t width, const uint8_t
 /*
  * Decides the verdicts of many rules with consecutive numbers, and needs no memory.
  *
- * The first number is first_high * 2^64 + first_low, and there is one rule for each byte. Byte i gets the verdicts of the rule
- * with the first number plus i, these states, this width and offset 0, as a sum of enum ca_bit. The letter of a rule's table at
- * place v is the digit v of its number in base states; digit 0 is the least significant.
+ * The number of the first rule is first_high * 2^64 + first_low, and there is one rule for each byte. Byte i gets the
+ * verdicts of rule i as a sum of enum ca_bit. The number of rule i is the first number plus i. All rules have the given
+ * states, the given width, and the offset 0. To get the table of a rule, write the number of the rule in base states. The
+ * letter at place v of the table is digit v, and digit 0 is the least significant digit.
  *
- * It returns CA_FAULT_NONE. Otherwise it returns the first of CA_FAULT_STATES, CA_FAULT_WIDTH, CA_FAULT_NODES, CA_FAULT_KIND
- * and CA_FAULT_NUMBER that applies, and the bytes don't change. If bytes_length is 0, it returns CA_FAULT_NONE.
+ * If there is no fault, it returns CA_FAULT_NONE. Otherwise it returns the first of CA_FAULT_STATES, CA_FAULT_WIDTH,
+ * CA_FAULT_NODES, CA_FAULT_KIND and CA_FAULT_NUMBER that applies, and the bytes don't change. If bytes_length is 0, it
+ * returns CA_FAULT_NONE.
  */
 uint8_t ca_verdict_bytes(uint8_t states, uint8_t width, uint64_t first_high, uint64_t first_low,
                          uint8_t *bytes, size_t bytes_length);
 
 /*
- * Writes a good order of the windows for ca_next_rule, in which it finds rules with this property soon. Needs no memory.
+ * Writes an order of the windows, and needs no memory. With this order ca_next_rule finds rules with the given property
+ * soon.
  *
- * The property is an enum ca_bit. order has room for one byte for each window; there are states to the power of width windows.
- * The call writes the values of the windows. The order is the same in every call; docs/LISTS.md describes it.
+ * property is a value of enum ca_bit. order has room for one byte for each window. The number of windows is states to the
+ * power of width. The call writes the values of the windows. The order is the same in every call; docs/LISTS.md describes
+ * it.
  *
- * It returns CA_FAULT_NONE. Otherwise it returns the first of CA_FAULT_STATES, CA_FAULT_WIDTH, CA_FAULT_NODES,
- * CA_FAULT_PROPERTY and CA_FAULT_LENGTH that applies, and the bytes don't change.
+ * If there is no fault, it returns CA_FAULT_NONE. Otherwise it returns the first of CA_FAULT_STATES, CA_FAULT_WIDTH,
+ * CA_FAULT_NODES, CA_FAULT_PROPERTY and CA_FAULT_LENGTH that applies, and order doesn't change.
  */
 uint8_t ca_window_order(uint8_t property, uint8_t states, uint8_t width, uint8_t *order,
                         size_t order_length);
@@ -484,9 +493,10 @@ uint8_t ca_window_order(uint8_t property, uint8_t states, uint8_t width, uint8_t
 /*
  * Finds the next rule of a shape that has a property, and needs no memory.
  *
- * Rules are in dictionary order of their tables, read in the order of the windows that the caller passes: the order of
- * ca_window_order, or any other order that has each window once. If after is 0, the call finds the first rule. Otherwise it
- * finds the first rule after the given table, which needn't have the property. So this loop finds each rule once:
+ * Rules come in dictionary order of their tables. For this, a table is read in the order of the windows that the caller
+ * passes. This may be the order of ca_window_order, or any other order that has each window once. If after is 0, the call
+ * finds the first rule. Otherwise it finds the first rule after the given table. The given table needn't have the property.
+ * So this loop finds each rule once:
  *
  *     uint8_t order[27], table[27] = {0};
  *     ca_window_order(CA_BIT_INJECTIVE, 3, 3, order, 27);
@@ -494,16 +504,16 @@ uint8_t ca_window_order(uint8_t property, uint8_t states, uint8_t width, uint8_t
  *                         == CA_FAULT_NONE; after = 1)
  *         print(table);
  *
- * after is a flag. Don't pass a count: as a uint8_t, 256 becomes 0, and the first rule comes again.
+ * after is a flag. Don't pass a count: the count 256 becomes 0 as a uint8_t, and then the call finds the first rule again.
  *
- * begin fixes the first begin_length letters of the table. Only rules with these letters are found. A byte that isn't below
- * states leaves its letter free. So you can ask for parts of a shape in parallel.
+ * begin fixes the first begin_length letters of the table. The call finds only rules with these letters. If a byte of begin
+ * isn't below states, the letter at its place is free. So you can ask for parts of a shape in parallel.
  *
- * table must have a letter below states for each window before the call too; for the first rule any letters will do. The call
- * returns CA_FAULT_NONE, and then table has the table of the rule. Otherwise it returns the first of CA_FAULT_STATES,
- * CA_FAULT_WIDTH, CA_FAULT_NODES, CA_FAULT_LENGTH, CA_FAULT_LETTER, CA_FAULT_PROPERTY, CA_FAULT_ORDER, CA_FAULT_BEGIN and
- * CA_FAULT_NO_RULE that applies, and table doesn't change. docs/LISTS.md says how long a call takes. For many shapes it takes
- * longer than anyone can wait, and it can't be interrupted.
+ * Before the call, table must have a letter below states for each window. If you ask for the first rule, these may be any
+ * letters. If the call finds a rule, it returns CA_FAULT_NONE, and table has the table of this rule. Otherwise it returns
+ * the first of CA_FAULT_STATES, CA_FAULT_WIDTH, CA_FAULT_NODES, CA_FAULT_LENGTH, CA_FAULT_LETTER, CA_FAULT_PROPERTY,
+ * CA_FAULT_ORDER, CA_FAULT_BEGIN and CA_FAULT_NO_RULE that applies, and table doesn't change. docs/LISTS.md says for which
+ * shapes lists were made. For many other shapes, a call takes longer than anyone can wait, and nothing can interrupt it.
  */
 uint8_t ca_next_rule(uint8_t property, uint8_t states, uint8_t width, const uint8_t *order,
                      size_t order_length, const uint8_t *begin, size_t begin_length, uint8_t after,
@@ -513,14 +523,15 @@ uint8_t ca_next_rule(uint8_t property, uint8_t states, uint8_t width, const uint
  * Finds all sums that a rule keeps, and needs no memory. The rule is given as for ca_verdicts.
  *
  * Each word of range letters has an integer as its weight. The sum on a ring adds up the weights of the words that begin at
- * each place of the ring. A rule keeps the sum if each ring, however long, has the same sum as its image. Every rule keeps the
- * trivial sums: a word weighs c + phi(its first range - 1 letters) - phi(its last range - 1 letters), for a number c and a
- * function phi, so the sum on a ring is c times its number of letters. For each sum that the rule keeps, some multiple is an
- * integer combination of the rows and of a trivial sum. The rings prove that there are no other sums: each sum that all of
- * these rings keep is of this kind.
+ * each place of the ring. A rule keeps the sum if each ring, however long, has the same sum as its image. A sum is trivial
+ * if there are a number c and a function phi such that each word weighs c + phi(its first range - 1 letters) - phi(its last
+ * range - 1 letters). Then the sum on a ring is c times its number of letters, so every rule keeps a trivial sum. For each
+ * sum that the rule keeps, some multiple is an integer combination of the rows, plus a trivial sum. The rings prove that
+ * the rule keeps no other sums: if a sum is the same on each of these rings as on its image, some multiple of this sum is
+ * such a combination too.
  *
- * It returns CA_FAULT_NONE. Otherwise it returns the first of CA_FAULT_STATES to CA_FAULT_NODES, CA_FAULT_LENGTH,
- * CA_FAULT_LETTER, CA_FAULT_RANGE and CA_FAULT_WORDS that applies, and *sums doesn't change.
+ * If there is no fault, it returns CA_FAULT_NONE. Otherwise it returns the first of CA_FAULT_STATES to CA_FAULT_NODES,
+ * CA_FAULT_LENGTH, CA_FAULT_LETTER, CA_FAULT_RANGE and CA_FAULT_WORDS that applies, and *sums doesn't change.
  */
 #ifdef __cplusplus
 namespace ca {
@@ -532,17 +543,18 @@ uint8_t ca_kept_sums(uint8_t states, uint8_t width, const uint8_t *table, size_t
 #endif
 
 /*
- * Finds the flux of a sum, which proves that the rule keeps the sum, and needs no memory. The rule is given as for ca_verdicts.
- * weights has the weight of each word of range letters, at the place of the word's value; for example, pass a row of struct
- * ca_kept_sums. The call doesn't look at weights after the last word.
+ * Finds the flux of a sum, which proves that the rule keeps the sum, and needs no memory. The rule is given as for
+ * ca_verdicts. weights has the weight of each word of range letters, at the place of the word's value. For example, you can
+ * pass a row of struct ca_kept_sums. The call doesn't look at the weights after the weight of the last word.
  *
- * A flux F has a number F(u) for each word u of width + range - 2 letters. It meets one condition for each word w of
- * width + range - 1 letters: the weight of the image of w, minus the weight of the first range letters of w, is
- * F(w without its last letter) - F(w without its first letter). Exactly one flux is 0 for the word of zeros. The call writes this
- * flux into numbers, the number of each word at the place of its value, and then zeros.
+ * A flux F has a number F(u) for each word u of width + range - 2 letters. The flux meets one condition for each word w of
+ * width + range - 1 letters: the weight of the image of w, minus the weight of the first range letters of w, is F(w without
+ * its last letter) - F(w without its first letter). Only one flux is 0 for the word of zeros. The call writes this flux
+ * into numbers: the number of each word at the place of the word's value, and then zeros.
  *
- * It returns CA_FAULT_NONE. Otherwise it returns the first of CA_FAULT_STATES to CA_FAULT_NODES, CA_FAULT_LENGTH,
- * CA_FAULT_LETTER, CA_FAULT_RANGE, CA_FAULT_WORDS, CA_FAULT_WEIGHT and CA_FAULT_LOST that applies, and numbers doesn't change.
+ * If the rule keeps the sum, it returns CA_FAULT_NONE. Otherwise it returns the first of CA_FAULT_STATES to CA_FAULT_NODES,
+ * CA_FAULT_LENGTH, CA_FAULT_LETTER, CA_FAULT_RANGE, CA_FAULT_WORDS, CA_FAULT_WEIGHT and CA_FAULT_LOST that applies, and
+ * numbers doesn't change.
  */
 uint8_t ca_flux(uint8_t states, uint8_t width, const uint8_t *table, size_t table_length, uint8_t range,
                 const int64_t weights[CA_MOST_WORDS], int64_t numbers[CA_MOST_FLUX]);
