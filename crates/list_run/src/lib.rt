@@ -7,7 +7,10 @@
 //! ```text
 //! injective 2:3:-1:t0
 //!
-//! 2:3:-1:t00001111 2:3:-1:t01010101 2:3:-1:t00110011 rules 3
+//! 2:3:-1:t00001111
+//! 2:3:-1:t01010101
+//! 2:3:-1:t00110011
+//! rules 3
 //! ```
 //!
 //! [`run`] writes each line when it finds the rule. So a list of any length only needs memory for one line and for an
