@@ -1,9 +1,9 @@
-//! A caller of each public call of the library and of each public type, with the types that callers
-//! rely on. It compiles only as long as none of them goes, moves to another crate or changes its type, so
-//! it stands in the way of whoever breaks a caller's code by accident. Nothing else uses it.
+//! Calls each public function of the library, and uses each public type, as callers of the library do. If a function
+//! goes away, moves to another crate or changes its types, this crate no longer compiles. So nobody can break the
+//! code of a caller by accident. Nothing else uses this crate.
 //!
-//! Each function asks for what the calls in it require, and no more: a call that asks for more than
-//! before isn't proved here.
+//! A function here has only the preconditions that its calls require. If a public function requires more than before,
+//! its call here can't be proved.
 #![tactic(auto)]
 
 pub mod certificates;
