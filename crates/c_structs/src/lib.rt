@@ -12,9 +12,9 @@
 //! |---|---|---|
 //! | 1 to 6 | a fault of a rule: states, width, nodes, offset, length, letter | [`fault_number`] |
 //! | 1 to 9 | a fault of many rules: those of a rule, or kind, number, form | [`number_of`] |
-//! | 14, 15 | a fault in the length of the words of a sum: they have no letter, or there are more than 16 words | [`range_number`] |
+//! | 14, 15 | no sum has words of this length: they have no letter, or there are more than 16 | [`range_number`] |
 //! | 18 | there isn't one weight for each letter | [`report_of_table`] |
-//! | 19 to 21 | a fault of a configuration or of a place: no period, no letter of the rule, out of reach | [`write_image`] |
+//! | 19 to 21 | a fault of a configuration: a period, a letter, or a place out of reach | [`write_image`] |
 //!
 //! [`next_rule`] finds the rules of a shape that have a property, one rule in each call. The number of a property is
 //! its bit in a byte of verdicts. [`property_of`] returns the property with a number.

@@ -7,7 +7,7 @@
 //! | [`ca_verdicts`] | decides all questions about a rule, without a text |
 //! | [`ca_report`] | decides all questions about a rule, with the least evidence for each answer |
 //! | `ca_image` | writes letters of the image of a configuration |
-//! | [`ca_verdict_bytes`] | decides all questions about many rules with consecutive numbers, with a byte for each rule |
+//! | [`ca_verdict_bytes`] | decides all questions about rules with consecutive numbers, one byte for each rule |
 //! | [`ca_window_order`] | writes the order of windows in which [`ca_next_rule`] can search |
 //! | [`ca_next_rule`] | finds the rules of a shape that have a property, one rule in each call |
 //! | [`ca_kept_sums`] | finds all sums of weights that a rule keeps |
