@@ -43,8 +43,8 @@ pub fn found_or_unfit()
     ensures { (q : questions.Question) (f : Finding) (u : Unfit) → IsFinding q f → ¬ IsUnfitFor q u }
 {}
 
-/// Law: right findings and right causes for accepted rules are writable: each of their letters has a hexadecimal
-/// digit.
+/// Law: right findings and right causes for accepted rules are writable: their letters have hexadecimal digits, and
+/// automata have all their rows.
 pub fn right_findings_are_writable()
     ensures found { (q : questions.Question) (f : Finding) → AreRules q → IsFinding q f → IsWritable f }
     ensures unfit { (q : questions.Question) (u : Unfit) → AreRules q → IsUnfitFor q u → IsWritableUnfit u }

@@ -8,7 +8,7 @@ use word_image::MOST_STATES;
 #[derive(Drop)]
 pub struct ShortList {
     items: [u8; MOST_STATES],
-    // The number of items of the list, which are the first ones.
+    // How many numbers the list has. They are the first ones of `items`.
     count: usize,
 }
 
