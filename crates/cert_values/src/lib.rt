@@ -1,22 +1,31 @@
-//! The certificate of a rule: what it claims, as a type, and which JSON texts say it.
+//! The certificate of a rule as a type: what it claims, and which JSON texts say it.
 //!
-//! A certificate answers for one rule whether it is surjective, injective, right-closing and
-//! left-closing, and whether it conserves the sum of its cells, each with evidence that is tested
-//! without a search. Its text is one JSON object. With k states, width m and N = k^(m - 1) nodes:
+//! A certificate answers for one rule whether it is surjective, injective, right-closing and left-closing, and whether
+//! it conserves the sum of its cells. Each answer comes with *evidence*, which can be tested without a search. The
+//! text of a certificate is one JSON object. Let the rule have k states, width m and N = k^(m - 1) nodes. Then the
+//! answers have these keys:
 //!
-//! | Key | If the answer is yes | If it is no |
+//! | Key | If the answer is yes | If the answer is no |
 //! |---|---|---|
-//! | `surjective` | `{"sets":[..]}`, sets of nodes, each a number below 2^N in which node u is bit u | `{"orphan":WORD}` |
-//! | `injective` | `{"c":C,"n":L}`, a window of L letters from 1 on, with a place C of at most L + m - 2 | `{"twins":[WORD,WORD]}` |
-//! | `right`, `left` | `{"ahead":A}`, a look-ahead from 1 on | `{"split":[TAIL,TAIL]}` |
-//! | `conserving` | `{"flux":[..]}`, a number of at most a million either way for each node | `{"ring":WORD}` |
+//! | `surjective` | `{"sets":[..]}` with sets of nodes | `{"orphan":WORD}` |
+//! | `injective` | `{"c":C,"n":L}` with a window | `{"twins":[WORD,WORD]}` |
+//! | `right`, `left` | `{"ahead":A}` with a look-ahead | `{"split":[TAIL,TAIL]}` |
+//! | `conserving` | `{"flux":[..]}` with a number for each node | `{"ring":WORD}` |
 //!
-//! `version` is 1, 2 or 3, `rule` is a text of the rule, and `ranks` is `{"backward":[..],"forward":[..]}`,
-//! in each a number or `null` for each pair of nodes. From version 2 on `weights` may stand: an array
-//! with a number from 0 to 255 for each letter, by which it counts in a sum; else it counts by its own
-//! value. In version 3 `surjective` may be `{"pairs":[..]}` too, where pair (u, v) is u N + v. All
-//! numbers but those of a flux are below 2^16, a WORD is a string of hexadecimal digits, and a TAIL is the
-//! text of a configuration over the rule's letters.
+//! - A set of nodes is a number below 2^N. Node u is in the set if bit u of the number is 1.
+//! - A window has L letters of an image, at least one, and a place C, which is at most L + m - 2.
+//! - A look-ahead is at least 1.
+//! - A number of a flux is from -1,000,000 to 1,000,000.
+//! - A WORD is a string of hexadecimal digits, and a TAIL is the text of a configuration over the rule's letters.
+//!
+//! A certificate has three other keys. `version` is 1, 2 or 3, and `rule` is a text of the rule. `ranks` is
+//! `{"backward":[..],"forward":[..]}`. Each of the two arrays has a number or `null` for each pair of nodes. This
+//! number is a *claim*: the rank of the pair is at most this number. `null` claims nothing.
+//!
+//! From version 2 on, a certificate may have the key `weights`: an array with a number from 0 to 255 for each letter.
+//! This is the weight of the letter in a sum. Without this key each letter weighs its own value. In version 3
+//! `surjective` may also be `{"pairs":[..]}`, where the pair (u, v) has the number u N + v. All numbers except those
+//! of a flux are below 2^16.
 //!
 //! The shift to the left by one cell has this certificate, here in two lines:
 //!
@@ -25,8 +34,8 @@
 //! "forward":[null,null,null,null]},"right":{"ahead":1},"rule":"2:2:0:t0101","surjective":{"sets":[3,1,2]},"version":1}
 //! ```
 //!
-//! Bytes that are no such text have one first fault, a [`ShapeFault`]. The crate `cert_format` reads and writes these
-//! texts, and the crate `cert_conditions` says which claims a certificate must meet.
+//! Bytes that aren't the text of a certificate have exactly one first fault, a [`ShapeFault`]. The crate `cert_format`
+//! reads and writes these texts. The crate `cert_conditions` says which conditions a certificate must meet.
 #![tactic(auto)]
 
 mod cert;
