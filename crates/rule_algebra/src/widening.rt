@@ -1,4 +1,4 @@
-//! Rules with ignored cells on the right.
+//! The function `widen`: rules with ignored cells on the right.
 ghost use Rattle.std.specs.Prelude.{◌≡◌, ◌≤◌, IfOk};
 ghost use Rattle.std.specs.Result.{result_err};
 ghost use Rattle.word_image.specs.LocalRules.{IsShape};

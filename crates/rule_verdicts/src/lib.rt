@@ -7,20 +7,26 @@
 //! | is it right-closing, is it left-closing | the least look-ahead | the least normal split |
 //! | is it conserving | the flux that is 0 at node 0 | the least ring that doesn't keep its sum |
 //!
-//! Rule 110 isn't surjective: its least orphan is 01010. So it is neither injective nor closing on a side: the rings
-//! 0 and 1 both become the ring 0. It isn't conserving, since this changes the sum of the ring 1.
+//! The *cover list* has the set of all nodes, and each other set of nodes that words lead to and that contains no
+//! other such set. The *reached pairs* are the pairs of nodes that are reached from the first pairs on the right,
+//! which are the pairs to which two different letters lead from the same node.
 //!
-//! [`Truths::of`] decides without evidence and needs no memory. [`verdict_bytes`] does the same for many rules with
-//! consecutive numbers, with a byte for each; [`next_table`] turns a table into the table of the next number. They do
-//! cheap tests first: the letters in the table of a surjective or conserving rule have the mean of all letters, and
-//! for a surjective rule the number of words with the image 0 0 is the number of nodes. [`Evidence::of`] finds the
-//! evidence for a rule and weights of its letters. [`Evidence::certificate`] adds what the judge of certificates
-//! needs besides: the cover list in version 2 or the reached pairs in version 3, and the exact rank of each pair of
-//! nodes. [`keeps_sums`], [`least_orphan`] and [`injectivity`] answer one question each.
+//! For example, rule 110 isn't surjective: its least orphan is 01010. So it is neither injective nor closing on a
+//! side: the rings 0 and 1 both become the ring 0. It isn't conserving, since this changes the sum of the ring 1.
 //!
-//! Each takes the time of its deciders. For a rule with k states, width m and `N = k^(m-1)` nodes, the search for a
-//! least orphan and the cover list look at up to `2^N` sets of nodes. Everything else takes time **O(N^4·k^2)** at
-//! most.
+//! [`Truths::of`] decides without evidence and needs no memory. [`verdict_bytes`] does this for many rules with
+//! consecutive numbers, and writes a byte for each rule. [`next_table`] turns a table into the table of the next
+//! number. These functions do cheap tests first. The letters in the table of a surjective or conserving rule have the
+//! same mean as all letters of the rule. For a surjective rule, the number of words with the image 0 0 is the number
+//! of nodes.
+//!
+//! [`Evidence::of`] finds the evidence for a rule and weights of its letters. [`Evidence::certificate`] adds what the
+//! judge of certificates needs besides: the cover list in version 2 or the reached pairs in version 3, and the exact
+//! rank of each pair of nodes. [`keeps_sums`], [`least_orphan`] and [`injectivity`] answer one question each.
+//!
+//! Each function takes the time of the functions of other crates that decide its questions. Let a rule have k states,
+//! width m and `N = k^(m-1)` nodes. The search for a least orphan and the cover list look at up to `2^N` sets of
+//! nodes. Everything else takes time **O(N^4·k^2)** at most.
 #![tactic(auto)]
 
 mod evidence;
