@@ -57,7 +57,7 @@ fn old_letters(k: u8, colours: &[u8]) -> [u8; MOST_STATES]
     letters
 }
 
-/// Returns the value of the window that has the new names of the letters of this window.
+/// Returns the value of the window that has the letter `colours[a]` in place of each letter a of this window.
 fn recoloured_value(rule: &Rule, colours: &[u8], window: u16) -> u16
     requires colours { IsWord rule.now.states colours.now }
     requires enough { rule.now.states ≤ length colours.now }

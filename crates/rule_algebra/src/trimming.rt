@@ -17,7 +17,7 @@ pub fn trim(rule: &Rule) -> Rule
     without_firsts(&trimmed.reflect()).reflect()
 }
 
-/// Returns the rule without as many first cells as it ignores. The width stays at least 2.
+/// Returns the rule after its first cell was dropped as often as the rule ignores it. The width stays at least 2.
 fn without_firsts(rule: &Rule) -> Rule
     ensures dropped { DropsFirsts rule.now result }
     ensures rules { IsRule rule.now × IsRule result }
