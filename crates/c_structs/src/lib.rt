@@ -6,6 +6,13 @@
 //! [`report_of_table`] makes a report and its buffer. [`RuleVerdicts`] has only the verdicts of a rule, without
 //! evidence.
 //!
+//! The evidence for a verdict has these kinds. An *orphan* is a word without a preimage. A *window* (n, c) says that
+//! n letters of an image determine the letter at place c of each preimage. *Twins* are two different words of the
+//! same length whose rings have the same image. A *look-ahead* says how many letters of the image determine the next
+//! letter of a word on a side. A *split* of a side is two different configurations that share an image and agree on
+//! the other side. A *flux* has a number for each node, and shows that each ring keeps the sum of its weights. A
+//! *ring* is a word that is read on from its end at its start.
+//!
 //! A fault has a number. If there are several faults, the first one counts:
 //!
 //! | Number | Fault | From |
@@ -16,8 +23,10 @@
 //! | 18 | there isn't one weight for each letter | [`report_of_table`] |
 //! | 19 to 21 | a fault of a configuration: a period, a letter, or a place out of reach | [`write_image`] |
 //!
-//! [`next_rule`] finds the rules of a shape that have a property, one rule in each call. The number of a property is
-//! its bit in a byte of verdicts. [`property_of`] returns the property with a number.
+//! A *shape* is a number of states and a width. [`next_rule`] finds the rules of a shape that have a property, one
+//! rule in each call. A *byte of verdicts* has a bit for each property: 1 for surjective, 2 for injective, 4 for
+//! right-closing, 8 for left-closing, 16 for open and 32 for conserving. The number of a property is its bit.
+//! [`property_of`] returns the property with a number.
 //!
 //! For n letters, a report takes the time and the memory of `ca_answering::report`, and **O(n)** more of both.
 //! Nothing else here takes memory. For a rule of width m, [`write_image`] writes n letters in time **O(n m)**, and it

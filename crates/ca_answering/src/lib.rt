@@ -10,6 +10,18 @@
 //! by 16 returns the cause that the offset breaks a limit. [`orphan`] of rule 110 returns 01010, and [`orphan`] of
 //! rule 90 returns None.
 //!
+//! The evidence for a verdict has these kinds. An *orphan* is a word without a preimage. A *window* (n, c) says that
+//! n letters of an image determine the letter at place c of each preimage. *Twins* are two different words of the
+//! same length whose rings have the same image. A *look-ahead* says how many letters of the image determine the next
+//! letter of a word on a side. A *split* of a side is two different configurations that share an image and agree on
+//! the other side. A *flux* has a number for each node, and shows that each ring keeps the sum of its weights. A
+//! *ring* is a word that is read on from its end at its start.
+//!
+//! An *erasable pair* is two different words that can replace each other in any configuration without a change of the
+//! image. The *class* of a rule has the rules at offset 0 with its table or the table of its mirrored rule, with new
+//! names for the letters. The *second-order lift* of a rule is a reversible rule whose letters are pairs of its
+//! letters (crate rule_classes).
+//!
 //! [`survey`] and [`classes`] count the rules with consecutive numbers. [`sample`] counts rules that a seed
 //! determines: a linear congruential generator draws the letters of their tables, by the upper 31 bits of its states
 //! (Knuth 1969).

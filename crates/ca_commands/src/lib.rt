@@ -17,6 +17,11 @@
 //!
 //! The words `110`, `orphan`, `orphan 110 90` and `shift 110 x` are no commands. No words are two commands.
 //!
+//! An *erasable pair* is two different words that can replace each other in any configuration without a change of the
+//! image. The *class* of a rule has the rules at offset 0 with its table or the table of its mirrored rule, with new
+//! names for the letters. The *second-order lift* of a rule is a reversible rule whose letters are pairs of its
+//! letters (crate rule_classes).
+//!
 //! [`question`] reads each operand once, into a value. It first tests the forms of all operands. If the words are no
 //! command, it returns `Usage`. Then it reads the rules, from left to right. For example, `compose 90 x` gives
 //! `RuleFault` with the number of the operand `x`, which is 2, and with the fault of its text. If the parts of a

@@ -21,6 +21,13 @@
 //! {"finding":{"orphan":null},"status":"done"}
 //! ```
 //!
+//! The evidence for a verdict has these kinds. An *orphan* is a word without a preimage. A *window* (n, c) says that
+//! n letters of an image determine the letter at place c of each preimage. *Twins* are two different words of the
+//! same length whose rings have the same image. A *look-ahead* says how many letters of the image determine the next
+//! letter of a word on a side. A *split* of a side is two different configurations that share an image and agree on
+//! the other side. A *flux* has a number for each node, and shows that each ring keeps the sum of its weights. A
+//! *ring* is a word that is read on from its end at its start.
+//!
 //! The definition `json_of` of specs/Replies.antt says which object a reply is, and [`reply_json`] writes it. The
 //! whole object is in memory before its text is made. A text of n bytes takes time O(n log n), since an object is a
 //! map, and memory O(n).

@@ -2,9 +2,22 @@
 //!
 //! A question names its rules and, if needed, weights, numbers, letters or a configuration. A *finding* is a value
 //! that answers a question. For example, findings are verdicts with their evidence, a certificate, a rule, an
-//! automaton, a word, or counts. If a question can have no finding, nothing *fits* it. Then a *cause* says why. For
-//! example, the question for the inverse of rule 170 has a finding: the map 0 1 over the window (1, 2). Nothing fits
-//! the question for the inverse of rule 90. The cause is the twins 0 and 1, whose rings have the same image.
+//! automaton, a word, or counts. The *shape* of a rule is its number of states, its width and its offset. If a
+//! question can have no finding, nothing *fits* it. Then a *cause* says why. For example, the question for the
+//! inverse of rule 170 has a finding: the map 0 1 over the window (1, 2). Nothing fits the question for the inverse
+//! of rule 90. The cause is the twins 0 and 1, whose rings have the same image.
+//!
+//! The evidence for a verdict has these kinds. An *orphan* is a word without a preimage. A *window* (n, c) says that
+//! n letters of an image determine the letter at place c of each preimage. *Twins* are two different words of the
+//! same length whose rings have the same image. A *look-ahead* says how many letters of the image determine the next
+//! letter of a word on a side. A *split* of a side is two different configurations that share an image and agree on
+//! the other side. A *flux* has a number for each node, and shows that each ring keeps the sum of its weights. A
+//! *ring* is a word that is read on from its end at its start.
+//!
+//! An *erasable pair* is two different words that can replace each other in any configuration without a change of the
+//! image. The *class* of a rule has the rules at offset 0 with its table or the table of its mirrored rule, with new
+//! names for the letters. The *second-order lift* of a rule is a reversible rule whose letters are pairs of its
+//! letters (crate rule_classes).
 //!
 //! The definition `IsFinding` of specs/Findings.antt says which finding is right for which question, and the
 //! definition `IsUnfitFor` says which cause is right. [`found_or_unfit`] is a law about both definitions. The

@@ -17,6 +17,13 @@
 //! replies have one line: a cause why nothing fits, an operand with a fault, a refused certificate, an input that is
 //! too long, and words that are no command.
 //!
+//! The evidence for a verdict has these kinds. An *orphan* is a word without a preimage. A *window* (n, c) says that
+//! n letters of an image determine the letter at place c of each preimage. *Twins* are two different words of the
+//! same length whose rings have the same image. A *look-ahead* says how many letters of the image determine the next
+//! letter of a word on a side. A *split* of a side is two different configurations that share an image and agree on
+//! the other side. A *flux* has a number for each node, and shows that each ring keeps the sum of its weights. A
+//! *ring* is a word that is read on from its end at its start.
+//!
 //! A word is written with a hexadecimal digit for each letter, so letters must be below 16. The law
 //! `right_findings_are_writable` of ca_questions says that they are, in each right finding about accepted rules.
 //!

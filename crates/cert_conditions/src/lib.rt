@@ -16,6 +16,13 @@
 //!   letter. A flux has a number for each node. It *balances* at a window if the gain is the number of the first node
 //!   minus the number of the last node.
 //!
+//! The evidence for a verdict has these kinds. An *orphan* is a word without a preimage. A *window* (n, c) says that
+//! n letters of an image determine the letter at place c of each preimage. *Twins* are two different words of the
+//! same length whose rings have the same image. A *look-ahead* says how many letters of the image determine the next
+//! letter of a word on a side. A *split* of a side is two different configurations that share an image and agree on
+//! the other side. A *flux* has a number for each node, and shows that each ring keeps the sum of its weights. A
+//! *ring* is a word that is read on from its end at its start.
+//!
 //! For each question a certificate has the evidence for one answer.
 //!
 //! - Surjective: a list of sets of nodes. It has the set of all nodes, but not the empty set. Each step of a listed

@@ -18,9 +18,24 @@
 //! - A number of a flux is from -1,000,000 to 1,000,000.
 //! - A WORD is a string of hexadecimal digits, and a TAIL is the text of a configuration over the rule's letters.
 //!
+//! The evidence for the verdicts has these kinds:
+//!
+//! - An *orphan* is a word without a preimage.
+//! - A *window* (n, c) is determined if n letters of an image determine the letter at place c of each preimage,
+//!   counted from 0. *Twins* are two different words of the same length whose rings have the same image.
+//! - A number n is a right *look-ahead* if the first m - 1 letters of a word and the first n letters of its image
+//!   determine the next letter of the word. A left look-ahead is a right look-ahead of the mirrored rule. A *split*
+//!   of a side is two different configurations that share an image and agree on the other side.
+//! - A *flux* has a number for each node, which is a word of m - 1 letters. At each window, the weight of the letter
+//!   that the rule gives minus the weight of the window's first letter is the number of its first node minus the
+//!   number of its last node. If there is a flux, each ring keeps its sum. A *ring* is a word that is read on from
+//!   its end at its start.
+//!
 //! A certificate has three other keys. `version` is 1, 2 or 3, and `rule` is a text of the rule. `ranks` is
-//! `{"backward":[..],"forward":[..]}`. Each of the two arrays has a number or `null` for each pair of nodes. This
-//! number is a *claim*: the rank of the pair is at most this number. `null` claims nothing.
+//! `{"backward":[..],"forward":[..]}`. Each of the two arrays has a number or `null` for each pair of nodes. The
+//! *forward rank* of a pair of nodes is the greatest n for which two words of n + m - 1 letters with the same image
+//! begin with these nodes. The *backward rank* is the same number for words that end with these nodes. A number in an
+//! array is a *claim*: the rank of the pair is at most this number. `null` claims nothing.
 //!
 //! From version 2 on, a certificate may have the key `weights`: an array with a number from 0 to 255 for each letter.
 //! This is the weight of the letter in a sum. Without this key each letter weighs its own value. In version 3

@@ -2,6 +2,18 @@
 //! goes away, moves to another crate or changes its types, this crate no longer compiles. So nobody can break the
 //! code of a caller by accident. Nothing else uses this crate.
 //!
+//! The evidence for a verdict has these kinds. An *orphan* is a word without a preimage. A *window* (n, c) says that
+//! n letters of an image determine the letter at place c of each preimage. *Twins* are two different words of the
+//! same length whose rings have the same image. A *look-ahead* says how many letters of the image determine the next
+//! letter of a word on a side. A *split* of a side is two different configurations that share an image and agree on
+//! the other side. A *flux* has a number for each node, and shows that each ring keeps the sum of its weights. A
+//! *ring* is a word that is read on from its end at its start.
+//!
+//! An *erasable pair* is two different words that can replace each other in any configuration without a change of the
+//! image. The *class* of a rule has the rules at offset 0 with its table or the table of its mirrored rule, with new
+//! names for the letters. The *second-order lift* of a rule is a reversible rule whose letters are pairs of its
+//! letters (crate rule_classes).
+//!
 //! A function here has only the preconditions that its calls require. If a public function requires more than before,
 //! its call here can't be proved.
 #![tactic(auto)]

@@ -11,8 +11,23 @@
 //! other such set. The *reached pairs* are the pairs of nodes that are reached from the first pairs on the right,
 //! which are the pairs to which two different letters lead from the same node.
 //!
-//! For example, rule 110 isn't surjective: its least orphan is 01010. So it is neither injective nor closing on a
-//! side: the rings 0 and 1 both become the ring 0. It isn't conserving, since this changes the sum of the ring 1.
+//! The evidence for the verdicts has these kinds:
+//!
+//! - An *orphan* is a word without a preimage.
+//! - A *window* (n, c) is determined if n letters of an image determine the letter at place c of each preimage,
+//!   counted from 0. *Twins* are two different words of the same length whose rings have the same image.
+//! - A number n is a right *look-ahead* if the first m - 1 letters of a word and the first n letters of its image
+//!   determine the next letter of the word. A left look-ahead is a right look-ahead of the mirrored rule. A *split*
+//!   of a side is two different configurations that share an image and agree on the other side.
+//! - A *flux* has a number for each node, which is a word of m - 1 letters. At each window, the weight of the letter
+//!   that the rule gives minus the weight of the window's first letter is the number of its first node minus the
+//!   number of its last node. If there is a flux, each ring keeps its sum. A *ring* is a word that is read on from
+//!   its end at its start.
+//!
+//! A split is *normal* if it has a special form. For example, both configurations have the period 0 on the side on
+//! which they agree (crate closing_test). Rule 110 isn't surjective: its least orphan is 01010. So it is neither
+//! injective nor closing on a side: the rings 0 and 1 both become the ring 0. It isn't conserving, since this changes
+//! the sum of the ring 1.
 //!
 //! [`Truths::of`] decides without evidence and needs no memory. [`verdict_bytes`] does this for many rules with
 //! consecutive numbers, and writes a byte for each rule. [`next_table`] turns a table into the table of the next
@@ -20,6 +35,8 @@
 //! same mean as all letters of the rule. For a surjective rule, the number of words with the image 0 0 is the number
 //! of nodes.
 //!
+//! The *forward rank* of a pair of nodes is the greatest n for which two words of n + m - 1 letters with the same
+//! image begin with these nodes. The *backward rank* is the same number for words that end with these nodes.
 //! [`Evidence::of`] finds the evidence for a rule and weights of its letters. [`Evidence::certificate`] adds what the
 //! judge of certificates needs besides: the cover list in version 2 or the reached pairs in version 3, and the exact
 //! rank of each pair of nodes. [`keeps_sums`], [`least_orphan`] and [`injectivity`] answer one question each.
