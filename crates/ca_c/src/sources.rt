@@ -6,7 +6,7 @@ use ca_io::{Failed, Source};
 /// A source over borrowed bytes, which are read from the first one to the last one. No read fails.
 #[derive(Drop)]
 pub struct SliceSource<'a> {
-    // The bytes that are left.
+    // The bytes that haven't been read yet.
     rest: &'a [u8],
 }
 

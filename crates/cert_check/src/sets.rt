@@ -1,4 +1,5 @@
-//! The checks of listed sets of nodes, which prove that a rule is surjective.
+//! The checks of listed sets of nodes, which prove that a rule is surjective. The condition of the version on a step
+//! of a listed set is that it leads to a listed set, or from version 2 on to a set that contains a listed set.
 
 ghost use Rattle.std.specs.Prelude.{◌≢◌, ◌<◌, ℕ, List, length, slice_index, MatchOption, ◌↔◌, IsTrue};
 ghost use Rattle.word_image.specs.Graphs.{full_set};

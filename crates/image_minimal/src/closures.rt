@@ -9,7 +9,7 @@ use crate::listed::Listed;
 use debruijn::Graph;
 use std::alloc::{AllocError, Global};
 
-/// Returns the closure of each set of nodes.
+/// Returns the closure of each set of nodes, in the order of the numbers of the sets.
 pub fn closures(alloc: Global, graph: &Graph) -> Result<Vec<u16>, AllocError>
     ensures { IfOk result (λ closures. AreClosures graph.now closures.items) }
 {

@@ -6,9 +6,9 @@ pub struct Link {
     // The widest field is first, so a link takes 16 bytes.
     /// The place of the link from which this link was reached, or 0 for the first link.
     pub parent: usize,
-    /// The set under the first rule.
+    /// The set of nodes of the first rule.
     pub first: u16,
-    /// The set under the second rule.
+    /// The set of nodes of the second rule.
     pub second: u16,
     /// The letter on which this link was reached from its parent.
     pub letter: u8,

@@ -1,7 +1,7 @@
 //! Functions that count up to a number and then start again at 0, like the last letters of words in their order.
 ghost use Rattle.std.specs.Prelude.{◌≡◌, ℕ, ◌+◌, ◌*◌, ◌%◌, ◌<◌, ◌≤◌};
 
-/// Returns the number after `i`, or 0 after the last number below `count`.
+/// Returns i + 1, or 0 if i is the last number below `count`.
 pub(crate) fn after(i: usize, count: usize) -> usize
     requires { i < count }
     ensures next { (n : ℕ) → i ≡ n % count → result ≡ (n + 1) % count }

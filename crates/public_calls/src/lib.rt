@@ -14,6 +14,11 @@
 //! names for the letters. The *second-order lift* of a rule is a reversible rule whose letters are pairs of its
 //! letters (crate rule_classes).
 //!
+//! A *node* is a word of m - 1 letters, and a *step* of a pair of nodes follows two edges of the de Bruijn graph with
+//! equal labels. In the *marked graph* each pair of nodes occurs twice, without a mark and with it. A step on two
+//! different letters sets the mark. A *first pair on the right* is a pair to which two different letters lead from
+//! the same node.
+//!
 //! A function here has only the preconditions that its calls require. If a public function requires more than before,
 //! its call here can't be proved.
 #![tactic(auto)]

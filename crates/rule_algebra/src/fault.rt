@@ -51,7 +51,7 @@ pub(crate) fn check_limits(k: u8, m: u8, o: i16) -> Result<i8, AlgebraFault>
     check_offset(m, o)
 }
 
-/// Returns the word for a fault that texts use.
+/// Returns the word that texts use for a fault.
 pub fn algebra_name(fault: AlgebraFault) -> &'static str
     ensures { result.now ≡ algebra_text fault }
 {

@@ -68,7 +68,7 @@ impl Truths {
         decided(&rule_of_table(k, m, table), even)
     }
 
-    /// Returns the verdicts that a byte stands for.
+    /// Returns the verdicts whose byte is this byte.
     pub fn of_byte(byte: u8) -> Truths
         ensures { (t : Truths) → byte ≡ byte_of t → result ≡ t }
     {
@@ -81,7 +81,8 @@ impl Truths {
         }
     }
 
-    /// Returns the verdicts of a rule that isn't surjective: only `conserving` may be true.
+    /// Returns the verdicts of a rule that isn't surjective. All of them are no, except that `conserving` is the
+    /// given verdict.
     pub fn not_surjective(conserving: bool) -> Truths
         ensures { (r : LocalRule) → IsRule r → ¬ IsSurjective r → (IsTrue conserving ↔ IsConserving (slice_index (own_weights r.states)) r) → AreTruths r result }
     {

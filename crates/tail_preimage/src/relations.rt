@@ -36,7 +36,7 @@ pub fn edges(graph: &Graph, label: u8) -> Relation
     graph.edges()[usize::from(label)]
 }
 
-/// Returns the nodes that are related to a node of the set.
+/// Returns the nodes that the relation `rows` relates to some node of the set.
 pub fn before(graph: &Graph, rows: &Relation, set: u16) -> u16
     ensures { IsNodeSet graph.now (λ u. (v : ℕ) × HasBit rows.now u v × IsBitSet set v) result }
 {
@@ -49,7 +49,7 @@ pub fn before(graph: &Graph, rows: &Relation, set: u16) -> u16
     before
 }
 
-/// Returns the nodes that are related to themselves.
+/// Returns the nodes that the relation `rows` relates to themselves.
 pub fn returning(graph: &Graph, rows: &Relation) -> u16
     ensures { IsNodeSet graph.now (λ u. HasBit rows.now u u) result }
 {

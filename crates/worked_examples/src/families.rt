@@ -1,4 +1,4 @@
-//! The family of sets of nodes of rule 106, worked out by hand.
+//! The family of rule 106, worked out by hand. It has the sets of nodes to which words lead.
 
 use crate::known_rules::RULE_106;
 use debruijn::Graph;

@@ -1,4 +1,5 @@
-//! Steps forward and back from every pair of nodes on all letters, and steps of marked pairs.
+//! Steps forward and back from every pair of nodes on all letters, and steps in the marked graph. There each pair of
+//! nodes occurs twice, without a mark and with it. A step on two different letters sets the mark.
 
 use crate::known_rules::{RULE_110, SUM_OF_TWO};
 use pair_graph::Pairs;

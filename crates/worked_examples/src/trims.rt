@@ -1,4 +1,5 @@
-//! Compares the fast trims of sets of pairs with the slow plain trims, round by round.
+//! Compares the fast trims of sets of pairs of nodes with the slow plain trims, round by round. A trim keeps the
+//! pairs from which a step leads into the set.
 
 ghost use Rattle.std.specs.Prelude.{◌≡◌, length};
 ghost use Rattle.word_image.specs.Graphs.{pair_count};
