@@ -17,7 +17,8 @@
 //!
 //! The words `110`, `orphan`, `orphan 110 90` and `shift 110 x` are no commands. No words are two commands.
 //!
-//! An *erasable pair* is two different words that can replace each other in any configuration without a change of the
+//! An *erasable pair* is two different words of the same length with the same image, the same first m - 1 letters and
+//! the same last m - 1 letters. So each of them can replace the other in any configuration without a change of the
 //! image. The *class* of a rule has the rules at offset 0 with its table or the table of its mirrored rule, with new
 //! names for the letters. The *second-order lift* of a rule is a reversible rule whose letters are pairs of its
 //! letters (crate rule_classes).
