@@ -6,7 +6,7 @@ ghost use Rattle.ca_io.specs.Faults.{CountsFaults};
 
 use crate::sources::Failed;
 
-/// Something that takes bytes.
+/// A sink for bytes: something to which bytes can be written.
 pub trait Sink {
     // The bytes taken so far, if the sink tells them.
     ghost taken: { Self → Option (List ℕ) };

@@ -9,7 +9,7 @@ ghost use Rattle.ca_io.specs.Faults.{CountsFaults};
 #[derive(Clone, Copy, Debug, PartialEq, Eq)]
 pub struct Failed;
 
-/// Something that gives bytes.
+/// A source of bytes: something from which bytes can be read.
 pub trait Source {
     // The bytes that are still to come, if the source tells them.
     ghost left: { Self → Option (List ℕ) };

@@ -122,8 +122,8 @@ pub fn cert_faults(fault: ShapeFault) -> [CertFault; 2] {
     [CertFault::Format(fault), CertFault::Memory(AllocError)]
 }
 
-/// Returns a refusal for a fault of the text, and one refusal for each condition on claims of ranks, on listed sets
-/// and on listed pairs.
+/// Returns a refusal for a fault of the text, and one refusal for each kind of condition on claims of ranks, on
+/// listed sets and on listed pairs.
 pub fn list_refusals(
     fault: ShapeFault,
     side: Side,

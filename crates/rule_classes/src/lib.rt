@@ -10,11 +10,11 @@
 //! The least rule is found by branch and bound. The letter for the greatest window counts most in a Wolfram number,
 //! so tables are compared from this window down. The search first chooses the letter of the greatest colour, then of
 //! the least colour, then of the second greatest colour, and so on. A colour is *free* as long as no letter is chosen
-//! for it. The chosen letters determine the first entries of the table. An entry that isn't known yet is at least the
-//! least free colour. The search leaves a branch as soon as no table of the branch can be less than the best table so
-//! far. For example, rule 193 gives 1 for 000 and for 111. If the colours are exchanged, the window 111 is the old
-//! window 000. Its entry is the colour of 1, which is 0. If each letter keeps its name, the entry is 1. So the least
-//! rule has exchanged colours.
+//! for it. The chosen letters determine the entries of the table for some of the greatest windows. An entry that
+//! isn't known yet is at least the least free colour. The search leaves a branch as soon as no table of the branch
+//! can be less than the best table so far. For example, rule 193 gives 1 for 000 and for 111. If the colours are
+//! exchanged, the window 111 is the old window 000. Its entry is the colour of 1, which is 0. If each letter keeps
+//! its name, the entry is 1. So the least rule has exchanged colours.
 //!
 //! The second-order lift of a rule f (Toffoli and Margolus 1990) reads and gives pairs of letters, which have a first
 //! and a second *member*: (a, b) becomes (f(window of the first members) - b, a), modulo the number of states. So the
