@@ -1,4 +1,5 @@
-//! Reads the words of a command line into the question that they ask. It reads each operand once.
+//! The function `question`, which reads the words of a command line into the question that they ask. It reads each
+//! operand once.
 ghost use Rattle.std.specs.Prelude.{◌≡◌, ◌≢◌, ◌∷◌, ◌↔◌, [], ℕ, IsTrue, List, length, map, string_bytes, MatchOption, MatchResult};
 ghost use Rattle.rule_text.specs.RuleTexts.{IsRuleText};
 ghost use Rattle.ca_commands.specs.declared.names.Name.TheVariants as names;

@@ -13,7 +13,7 @@ use cert_values::Cert;
 use word_image::{Rule, Side};
 
 /// Checks that each pair with a claim on this side leads only to pairs with lesser claims. Otherwise returns a
-/// refusal with the first pair that doesn't.
+/// refusal with the first pair that leads to a pair without a lesser claim.
 pub fn side_claims(cert: &Cert, side: Side) -> Result<(), Refusal>
     ensures { IsChecked cert.now (Condition.SideClaims side) result }
 {

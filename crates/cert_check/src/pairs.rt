@@ -14,7 +14,7 @@ use cert_values::{Cert, SurjectivePart};
 use word_image::{Rule, Side};
 
 /// Checks that each first pair on the right is listed. Otherwise returns a refusal with the least first pair that
-/// isn't.
+/// isn't listed.
 pub fn firsts_listed(cert: &Cert) -> Result<(), Refusal>
     ensures { IsChecked cert.now Condition.FirstsListed result }
 {
@@ -27,8 +27,8 @@ pub fn firsts_listed(cert: &Cert) -> Result<(), Refusal>
     }
 }
 
-/// Checks that no listed pair has two equal nodes. Otherwise returns a refusal with the place of the first pair that
-/// has.
+/// Checks that no listed pair has two equal nodes. Otherwise returns a refusal with the place of the first pair with
+/// two equal nodes.
 pub fn off_diagonal(cert: &Cert) -> Result<(), Refusal>
     ensures { IsChecked cert.now Condition.OffDiagonal result }
 {

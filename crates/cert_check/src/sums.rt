@@ -10,7 +10,7 @@ use cert_values::{Cert, SumPart};
 use word_image::{Rule, Side, Weights, keeps_sum};
 
 /// Checks that the flux balances at each window. Otherwise returns a refusal with the least window at which it
-/// doesn't.
+/// doesn't balance.
 pub fn flux_flows(cert: &Cert) -> Result<(), Refusal>
     ensures { IsChecked cert.now Condition.FluxFlows result }
 {

@@ -26,7 +26,7 @@ pub struct Evidence {
     /// look-ahead or the normal split of each side, and the flux that is 0 at node 0 or the least ring that doesn't
     /// keep its sum.
     pub report: Report,
-    // The ranks of the pairs of nodes, from which the evidence was found.
+    // The ranks of the pairs of nodes of the rule, from which the evidence was found.
     ranks: Ranks,
 }
 

@@ -86,7 +86,7 @@ pub fn reversed(graph: &Graph, relation: &Relation) -> Relation
     rows
 }
 
-/// Returns the relation of each node to the nodes that a walk reaches whose labels spell the word.
+/// Returns the relation of each node to the nodes at the ends of those walks from it whose labels spell the word.
 pub fn relation(graph: &Graph, word: &[u8]) -> Relation
     requires { IsWord graph.now.states word.now }
     ensures relation { IsRelation graph.now (HasWalk graph.now word.now) result }
