@@ -1,4 +1,4 @@
-//! The letters of the image of a configuration.
+//! The letters of the image of a configuration, as C asks for them.
 ghost use Rattle.std.specs.Prelude.{◌≡◌, ◌^◌, ◌+◌, ◌-◌, ◌≤◌, ◌<◌, ◌↔◌, IsTrue, List, [], ℕ, length, unsigned_abs, pos, neg_ℤ, ◌+ℤ◌, ◌<ℤ◌};
 ghost use Rattle.word_image.specs.LocalRules.{LocalRule, IsRule, IsWord};
 ghost use Rattle.word_image.specs.Rings.{ring_image};
@@ -11,26 +11,27 @@ ghost use Rattle.c_structs.specs.Images.{AreWithinReach, HavePeriods, IsImageCal
 use std::marker::Model;
 use word_image::{MOST_WIDTH, Rule};
 
-/// The number of the fault that a period has no letter.
+/// The number of the fault that a period of the configuration has no letter.
 const NO_PERIOD: u8 = 19;
 
-/// The number of the fault that a letter is none of the rule's.
+/// The number of the fault that a letter of the configuration isn't below the number of states of the rule.
 const NO_LETTER: u8 = 20;
 
-/// The number of the fault that a place is out of reach.
+/// The number of the fault that the first place is more than 2^61 away from place 0, or that more than 2^61 letters
+/// are asked for.
 const FAR: u8 = 21;
 
-/// How far from place 0 the first letter may be, and how many letters there may be.
+/// The greatest distance of the first letter from place 0, and the greatest number of letters.
 const REACH: u64 = 1 << 61;
 
-/// The parts of a configuration, each of any length.
+/// The three parts of a configuration, each of any length.
 #[derive(Debug, Drop)]
 pub struct TailParts<'a> {
-    /// The left period; its last letter stands at place -1.
+    /// The left period. Its last letter is at place -1.
     pub left: &'a [u8],
-    /// The middle; its first letter stands at place 0.
+    /// The middle. Its first letter is at place 0.
     pub middle: &'a [u8],
-    /// The right period; its first letter stands where the middle ends.
+    /// The right period. Its first letter is at the place after the middle.
     pub right: &'a [u8],
 }
 
@@ -44,14 +45,14 @@ impl<'a> Model for TailParts<'a> {
 }
 
 impl<'a> TailParts<'a> {
-    /// Returns whether both periods have a letter.
+    /// Returns whether each of the two periods has a letter.
     fn have_periods(&self) -> bool
         ensures { IsTrue result ↔ HavePeriods self.now }
     {
         !self.left.is_empty() && !self.right.is_empty()
     }
 
-    /// Returns whether all letters are below k.
+    /// Returns whether all letters of the configuration are below k.
     fn are_over(&self, k: u8) -> bool
         requires { HavePeriods self.now }
         ensures { IsTrue result ↔ IsTail k self.now }
@@ -59,7 +60,7 @@ impl<'a> TailParts<'a> {
         are_letters(k, self.left) && are_letters(k, self.middle) && are_letters(k, self.right)
     }
 
-    /// Returns the letter at a place.
+    /// Returns the letter of the configuration at place `i`.
     fn cell(&self, i: i64) -> u8
         requires periods { HavePeriods self.now }
         ensures { result ≡ cell self.now i }
@@ -75,7 +76,7 @@ impl<'a> TailParts<'a> {
         }
     }
 
-    /// Writes the letters from a place on.
+    /// Writes letters of the configuration to `row`, beginning with the letter at place `start`.
     fn write_cells(&self, start: i64, row: &mut [u8])
         requires periods { HavePeriods self.now }
         requires places { (start +ℤ pos (length row.old)) <ℤ pos (2 ^ 63) }
@@ -86,7 +87,7 @@ impl<'a> TailParts<'a> {
         }
     }
 
-    /// Returns the letter of the image at a place.
+    /// Returns the letter of the image of the configuration at place `i`.
     fn image_cell(&self, rule: &Rule, i: i64) -> u8
         requires config { IsTail rule.now.states self.now }
         requires place { unsigned_abs i ≤ 2 ^ 62 }
@@ -98,7 +99,7 @@ impl<'a> TailParts<'a> {
         rule.apply(window)
     }
 
-    /// Writes the letters of the image from a place on.
+    /// Writes letters of the image of the configuration to `letters`, beginning with the letter at place `first`.
     fn write_letters(&self, rule: &Rule, first: i64, letters: &mut [u8])
         requires config { IsTail rule.now.states self.now }
         requires place { unsigned_abs first ≤ 2 ^ 61 }
@@ -118,15 +119,16 @@ fn are_letters(k: u8, word: &[u8]) -> bool
     word.iter().all(|letter| *letter < k)
 }
 
-/// Returns whether the first place and all that follow are at most 2^61 from place 0.
+/// Returns whether the first place is at most 2^61 away from place 0, and whether there are at most 2^61 letters.
 fn are_within_reach(first: i64, count: usize) -> bool
     ensures { IsTrue result ↔ AreWithinReach first count }
 {
     first.unsigned_abs() <= REACH && count as u64 <= REACH
 }
 
-/// Writes the letters of the image of a configuration from a place on, and returns 0. If a part is faulty it returns
-/// the number of the first fault and leaves the letters as they were. It takes no memory.
+/// Writes letters of the image of a configuration, beginning with the letter at place `first`, and returns 0. If a
+/// part of the configuration or a place is faulty, it returns the number of the first fault and leaves the letters as
+/// they were. It takes no memory.
 pub fn write_image(rule: &Rule, parts: &TailParts, first: i64, letters: &mut [u8]) -> u8
     ensures { IsImageCall rule.now parts.now first letters.old result letters.new }
 {
@@ -144,15 +146,15 @@ pub fn write_image(rule: &Rule, parts: &TailParts, first: i64, letters: &mut [u8
     0
 }
 
-/// Law: the image of a ring is the image of the configuration that repeats the ring on both sides, at the places from
-/// 0 on.
+/// Law: the image of a ring is a part of the image of the configuration that repeats the ring on both sides. This
+/// part begins at place 0 and has as many letters as the ring.
 pub fn image_of_ring()
     ensures { (r : LocalRule) (p : List ℕ)
         → run (image_cell r (config_of p [] p)) (pos 0) (length p) ≡ ring_image r p }
 {}
 
-/// Law: the image of a word is the image of any configuration whose middle is the word, at the places whose windows
-/// lie in it.
+/// Law: the image of a word is a part of the image of each configuration whose middle is the word: the letters at the
+/// places whose windows lie in the middle.
 pub fn image_of_word()
     ensures { (r : LocalRule) (left w right : List ℕ) → IsRule r → r.width ≤ length w + 1
         → run (image_cell r (config_of left w right)) (neg_ℤ r.offset) (length w - (r.width - 1)) ≡ image r w }

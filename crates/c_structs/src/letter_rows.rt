@@ -1,4 +1,4 @@
-//! Words that stand in a buffer, each in a row of it.
+//! The place and the length of each word in a buffer of letters.
 ghost use Rattle.std.specs.Prelude.{◌≡◌, ◌++◌, IfOk, OnOk};
 ghost use Rattle.c_structs.specs.LetterRows.{IsRow, AreTwinRows, AreTailRows, AreSplitRows, tail_letters, split_letters};
 
@@ -6,17 +6,17 @@ use std::alloc::AllocError;
 use tail_config::Tail;
 use word_image::Word;
 
-/// Where a word stands in a buffer.
+/// The row of a word: where the word stands in a buffer.
 #[repr(C)]
 #[derive(Clone, Copy, Debug)]
 pub struct LetterRow {
-    /// The place of its first letter.
+    /// The place of the first letter of the word in the buffer.
     pub begin: usize,
-    /// How many letters it has.
+    /// The number of letters of the word.
     pub length: usize,
 }
 
-/// Where the parts of a configuration stand in a buffer.
+/// The rows of the left period, of the middle and of the right period of a configuration.
 #[repr(C)]
 #[derive(Clone, Copy, Debug)]
 pub struct TailRows {
@@ -25,7 +25,7 @@ pub struct TailRows {
     pub right: LetterRow,
 }
 
-/// Where two words stand in a buffer.
+/// The rows of two words.
 #[repr(C)]
 #[derive(Clone, Copy, Debug)]
 pub struct TwinRows {
@@ -33,7 +33,7 @@ pub struct TwinRows {
     pub y: LetterRow,
 }
 
-/// Where two configurations stand in a buffer.
+/// The rows of the parts of two configurations.
 #[repr(C)]
 #[derive(Clone, Copy, Debug)]
 pub struct SplitRows {
@@ -41,13 +41,13 @@ pub struct SplitRows {
     pub y: TailRows,
 }
 
-/// The row of an empty word.
+/// The row that stands for no word: it has no letters.
 pub const NO_ROW: LetterRow = LetterRow {
     begin: 0,
     length: 0,
 };
 
-/// The rows of two empty words.
+/// The rows that stand for no pair of words.
 pub const NO_TWINS: TwinRows = TwinRows {
     x: NO_ROW,
     y: NO_ROW,
@@ -59,13 +59,13 @@ const NO_TAIL: TailRows = TailRows {
     right: NO_ROW,
 };
 
-/// The rows of no two configurations.
+/// The rows that stand for no pair of configurations.
 pub const NO_SPLIT: SplitRows = SplitRows {
     x: NO_TAIL,
     y: NO_TAIL,
 };
 
-/// Adds a word behind the letters, and returns its row.
+/// Appends a word to the letters, and returns its row.
 pub fn add_word(letters: &mut Vec<u8>, word: &[u8]) -> Result<LetterRow, AllocError>
     ensures letters { OnOk result (letters.new.items ≡ letters.old.items ++ word.now) }
     ensures row { IfOk result (λ row. IsRow letters.new.items row word.now) }
@@ -78,7 +78,7 @@ pub fn add_word(letters: &mut Vec<u8>, word: &[u8]) -> Result<LetterRow, AllocEr
     })
 }
 
-/// Adds two words behind the letters, and returns their rows.
+/// Appends two words to the letters, and returns their rows.
 pub fn add_twins(letters: &mut Vec<u8>, x: &Word, y: &Word) -> Result<TwinRows, AllocError>
     ensures letters { OnOk result (letters.new.items ≡ letters.old.items ++ (x.now ++ y.now)) }
     ensures rows { IfOk result (λ rows. AreTwinRows letters.new.items rows x.now y.now) }
@@ -88,7 +88,7 @@ pub fn add_twins(letters: &mut Vec<u8>, x: &Word, y: &Word) -> Result<TwinRows, 
     Ok(TwinRows { x, y })
 }
 
-/// Adds the parts of a configuration behind the letters, and returns their rows.
+/// Appends the parts of a configuration to the letters, and returns their rows.
 fn add_tail(letters: &mut Vec<u8>, tail: &Tail) -> Result<TailRows, AllocError>
     ensures letters { OnOk result (letters.new.items ≡ letters.old.items ++ tail_letters tail.now.config) }
     ensures rows { IfOk result (λ rows. AreTailRows letters.new.items rows tail.now.config) }
@@ -103,7 +103,7 @@ fn add_tail(letters: &mut Vec<u8>, tail: &Tail) -> Result<TailRows, AllocError>
     })
 }
 
-/// Adds the parts of two configurations behind the letters, and returns their rows.
+/// Appends the parts of two configurations to the letters, and returns their rows.
 pub fn add_split(letters: &mut Vec<u8>, x: &Tail, y: &Tail) -> Result<SplitRows, AllocError>
     ensures letters { OnOk result (letters.new.items ≡ letters.old.items ++ split_letters x.now.config y.now.config) }
     ensures rows { IfOk result (λ rows. AreSplitRows letters.new.items rows x.now.config y.now.config) }

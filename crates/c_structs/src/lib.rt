@@ -1,23 +1,37 @@
-//! What C is handed: verdicts, reports, rules and faults as numbers and letters.
+//! The structs that C gets: verdicts, reports, rules and faults as numbers and letters.
 //!
-//! A struct has C's layout, and no pointer. The words of a report stand one behind the other in one buffer of letters, and
-//! each has a *row*: the place of its first letter, and how many letters it has. [`report_of_table`] makes both.
-//! [`RuleVerdicts`] says what holds of a rule and nothing more.
+//! Each struct has the layout of C and contains no pointer. The words of a report follow each other in one buffer of
+//! letters. Each word has a *row*: the place of its first letter in the buffer, and its number of letters. For
+//! example, if the buffer begins with the orphan 01010, the row of the orphan has the place 0 and the length 5.
+//! [`report_of_table`] makes a report and its buffer. [`RuleVerdicts`] has only the verdicts of a rule, without
+//! evidence.
 //!
-//! A fault has a number, the first that comes counts:
+//! The evidence for a verdict has these kinds. An *orphan* is a word without a preimage. A *window* (n, c) says that
+//! n letters of an image determine the letter at place c of each preimage. *Twins* are two different words of the
+//! same length whose rings have the same image. A *look-ahead* says how many letters of the image determine the next
+//! letter of a word on a side. A *split* of a side is two different configurations that share an image and agree on
+//! the other side. A *flux* has a number for each node, and shows that each ring keeps the sum of its weights. A
+//! *ring* is a word that is read on from its end at its start.
+//!
+//! A fault has a number. If there are several faults, the first one counts:
 //!
 //! | Number | Fault | From |
 //! |---|---|---|
-//! | 1 to 6 | of a rule: states, width, nodes, offset, length, letter | [`fault_number`] |
-//! | 1 to 9 | of many rules: besides these kind, number, form | [`number_of`] |
-//! | 14, 15 | of how many letters the words of a sum have: none, too many | [`range_number`] |
+//! | 1 to 6 | a fault of a rule: states, width, nodes, offset, length, letter | [`fault_number`] |
+//! | 1 to 9 | a fault of many rules: those of a rule, or kind, number, form | [`number_of`] |
+//! | 14, 15 | no sum has words of this length: they have no letter, or there are more than 16 | [`range_number`] |
 //! | 18 | there isn't one weight for each letter | [`report_of_table`] |
-//! | 19 to 21 | of a configuration and of places: no period, no letter, out of reach | [`write_image`] |
+//! | 19 to 21 | a fault of a configuration: a period, a letter, or a place out of reach | [`write_image`] |
 //!
-//! [`next_rule`] finds the rules of a shape, one a call; a property has the number of its bit in a byte of verdicts,
-//! which [`property_of`] reads. A report takes the time and the memory of `ca_answering::report`, and **O(n)** of both for n
-//! letters; nothing else here takes memory. [`write_image`] writes n letters in time **O(n m)** for a rule of width m, and reads
-//! each letter of the configuration once more: a ring and a word are configurations too.
+//! A *shape* is a number of states and a width. [`next_rule`] finds the rules of a shape that have a property, one
+//! rule in each call. A *byte of verdicts* has a bit for each property: 1 for surjective, 2 for injective, 4 for
+//! right-closing, 8 for left-closing, 16 for open and 32 for conserving. The number of a property is its bit.
+//! [`property_of`] returns the property with a number.
+//!
+//! For n letters, a report takes the time and the memory of `ca_answering::report`, and **O(n)** more of both.
+//! Nothing else here takes memory. For a rule of width m, [`write_image`] writes n letters in time **O(n m)**, and it
+//! also reads each letter of the configuration once. A ring and a word can be passed to it as parts of a
+//! configuration.
 #![tactic(auto)]
 
 mod images;

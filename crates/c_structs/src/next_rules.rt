@@ -1,4 +1,4 @@
-//! The rules of a shape that have a property, as C asks for them.
+//! The search for the rules of a shape that have a property, as C asks for it.
 ghost use Rattle.std.specs.Prelude.{◌≡◌, ◌^◌, ◌≤◌, IsNone, IfSome, MatchOption, length, pos};
 ghost use Rattle.word_image.specs.LocalRules.{IsShape};
 ghost use Rattle.rule_lists.specs.Ranks.{IsOrder};
@@ -8,7 +8,7 @@ ghost use Rattle.c_structs.specs.NextRules.{IsNoProperty, IsToCome, fixed_letter
 use rule_lists::{Asked, Letters, Property, Search};
 use word_image::{MOST_ENTRIES, Rule};
 
-/// Returns the property of a number: 1, 2, 4, 8, 16 or 32, its bit in a byte of verdicts. There is none for other
+/// Returns the property whose bit in a byte of verdicts is this number: 1, 2, 4, 8, 16 or 32. Returns None for other
 /// numbers.
 pub fn property_of(number: u8) -> Option<Property>
     ensures some { IfSome result (λ property. number ≡ property_number property) }
@@ -25,7 +25,7 @@ pub fn property_of(number: u8) -> Option<Property>
     }
 }
 
-/// Returns some rule of this shape at offset 0, for callers that need only the shape.
+/// Returns some rule of this shape at offset 0. Callers use only its shape.
 pub fn shape_rule(states: u8, width: u8) -> Rule
     requires { IsShape states width (pos 0) }
     ensures states { result.states ≡ states }
@@ -35,7 +35,7 @@ pub fn shape_rule(states: u8, width: u8) -> Rule
     Rule::by(states, width, 0, |_| 0)
 }
 
-/// Returns the letters that tables begin with; all later letters are free.
+/// Returns the fixed letters of a search for tables that begin with these letters. All later letters are free.
 pub fn letters_of(begin: &[u8]) -> Letters
     requires { length begin.now ≤ 256 }
     ensures { result ≡ fixed_letters begin.now }
@@ -45,8 +45,9 @@ pub fn letters_of(begin: &[u8]) -> Letters
     letters
 }
 
-/// Returns the first rule of the shape of this one that has the property and the fixed letters, or the first that
-/// comes after this one.
+/// Returns the rule of least rank that has the property, the fixed letters and the shape of this rule. If `after` is
+/// true, the rank must also be greater than the rank of this rule. The rank of a rule is the number whose digits are
+/// its letters in this order of windows. Returns None if there is no such rule.
 pub fn next_rule(
     property: Property,
     letters: &Letters,
@@ -73,7 +74,7 @@ pub fn next_rule(
     search.next()
 }
 
-/// Copies the letters of a rule.
+/// Copies the table of a rule to `table`.
 pub fn write_table(rule: &Rule, table: &mut [u8])
     requires { length table.old ≡ length rule.now.table }
     ensures { table.new ≡ rule.now.table }

@@ -1,17 +1,17 @@
-//! What is handed back of rules with consecutive numbers.
+//! Numbers of 128 bits and numbers of faults, for the verdicts of rules with consecutive numbers.
 ghost use Rattle.std.specs.Prelude.{◌≡◌, ◌+◌, ◌*◌, ◌^◌, Some};
 ghost use Rattle.c_structs.specs.NumberedVerdicts.{number_code};
 
 use rule_text::TextFault;
 
-/// Returns the number whose upper and lower 64 bits these are.
+/// Returns the number with these upper and lower 64 bits.
 pub fn joined(high: u64, low: u64) -> u128
     ensures { result ≡ high * 2 ^ 64 + low }
 {
     u128::from(high) * 0x1_0000_0000_0000_0000 + u128::from(low)
 }
 
-/// Returns the number of a fault.
+/// Returns the number of a fault, from 1 to 9.
 pub fn number_of(fault: TextFault) -> u8
     ensures { result ≡ number_code (Some fault) }
 {

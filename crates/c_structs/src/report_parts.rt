@@ -1,4 +1,5 @@
-//! The parts of a report: a verdict, and the least that shows it, with its words behind the letters.
+//! The parts of a report: each part has a verdict and the least evidence for it. The words of the evidence are
+//! appended to the letters of the report.
 ghost use Rattle.std.specs.Prelude.{◌≡◌, ◌≤◌, ◌++◌, length, IfOk, OnOk};
 ghost use Rattle.cert_values.specs.Parts.{injective_of, side_of, sum_of};
 ghost use Rattle.c_structs.specs.ReportParts.{IsShortSum, SaysSurjective, SaysInjective, SaysSide, SaysConserving, orphan_letters, injective_letters, side_letters, sum_letters, flux_row};
@@ -10,17 +11,18 @@ use cert_values::{InjectivePart, SidePart, SumPart};
 use std::alloc::AllocError;
 use word_image::{FluxRow, Word};
 
-/// The most nodes of a rule, and so the most numbers of a flux.
+/// The greatest number of nodes of a rule, and so the greatest number of entries of a flux.
 pub const MOST_NODES: usize = 16;
 
-/// Whether a rule is surjective, and its orphan.
+/// Whether a rule is surjective, and the row of its orphan if it isn't.
 #[derive(Clone, Copy)]
 pub struct Surjective {
     pub holds: u8,
     pub orphan: LetterRow,
 }
 
-/// Whether a rule is injective, its window and the place in it, or its twins.
+/// Whether a rule is injective. If it is, the number of letters and the place of its window. Otherwise the rows of
+/// its twins.
 #[derive(Clone, Copy)]
 pub struct Injective {
     pub holds: u8,
@@ -29,7 +31,7 @@ pub struct Injective {
     pub twins: TwinRows,
 }
 
-/// Whether a rule closes on a side, its look-ahead or its split.
+/// Whether a rule closes on a side. If it does, its look-ahead. Otherwise the rows of its split.
 #[derive(Clone, Copy)]
 pub struct Side {
     pub holds: u8,
@@ -37,7 +39,7 @@ pub struct Side {
     pub split: SplitRows,
 }
 
-/// Whether a rule is conserving, its flux or its ring.
+/// Whether a rule is conserving. If it is, its flux. Otherwise the row of its ring.
 #[derive(Clone, Copy)]
 pub struct Conserving {
     pub holds: u8,
@@ -46,7 +48,8 @@ pub struct Conserving {
     pub ring: LetterRow,
 }
 
-/// Returns what the report says of surjective, and adds the letters of an orphan.
+/// Returns the part of the report that says whether the rule is surjective. If there is an orphan, its letters are
+/// appended to `letters`.
 pub fn add_surjective(
     letters: &mut Vec<u8>,
     orphan: &Option<Word>,
@@ -66,7 +69,8 @@ pub fn add_surjective(
     }
 }
 
-/// Returns what the report says of injective, and adds the letters of twins.
+/// Returns the part of the report that says whether the rule is injective. If there are twins, their letters are
+/// appended to `letters`.
 pub fn add_injective(letters: &mut Vec<u8>, part: &InjectivePart) -> Result<Injective, AllocError>
     ensures letters { OnOk result (letters.new.items ≡ letters.old.items ++ injective_letters (injective_of part.now)) }
     ensures part { IfOk result (λ said. SaysInjective letters.new.items said.holds said.window said.place said.twins (injective_of part.now)) }
@@ -87,7 +91,8 @@ pub fn add_injective(letters: &mut Vec<u8>, part: &InjectivePart) -> Result<Inje
     }
 }
 
-/// Returns what the report says of closing on a side, and adds the letters of a split.
+/// Returns the part of the report that says whether the rule closes on a side. If there is a split, its letters are
+/// appended to `letters`.
 pub fn add_side(letters: &mut Vec<u8>, part: &SidePart) -> Result<Side, AllocError>
     ensures letters { OnOk result (letters.new.items ≡ letters.old.items ++ side_letters (side_of part.now)) }
     ensures part { IfOk result (λ said. SaysSide letters.new.items said.holds said.ahead said.split (side_of part.now)) }
@@ -106,7 +111,8 @@ pub fn add_side(letters: &mut Vec<u8>, part: &SidePart) -> Result<Side, AllocErr
     }
 }
 
-/// Returns what the report says of conserving, and adds the letters of a ring.
+/// Returns the part of the report that says whether the rule is conserving. If there is a ring, its letters are
+/// appended to `letters`.
 pub fn add_conserving(letters: &mut Vec<u8>, part: &SumPart) -> Result<Conserving, AllocError>
     requires { IsShortSum (sum_of part.now) }
     ensures letters { OnOk result (letters.new.items ≡ letters.old.items ++ sum_letters (sum_of part.now)) }
@@ -128,7 +134,7 @@ pub fn add_conserving(letters: &mut Vec<u8>, part: &SumPart) -> Result<Conservin
     }
 }
 
-/// Returns the numbers of a flux, and zeros after them.
+/// Returns the entries of a flux, followed by zeros.
 fn numbers(flux: &FluxRow) -> [i32; MOST_NODES]
     requires { length flux.now ≤ 16 }
     ensures { result ≡ flux_row flux.now }

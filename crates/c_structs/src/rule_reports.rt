@@ -1,4 +1,4 @@
-//! What is handed back of a rule with its evidence.
+//! The report of a rule with its evidence, as a struct of C and a buffer of letters.
 ghost use Rattle.std.specs.Prelude.{◌≡◌, [], option_copied, IfOk};
 ghost use Rattle.cert_values.specs.Parts.{sum_of};
 ghost use Rattle.word_image.specs.LocalRules.{IsRule};
@@ -15,15 +15,15 @@ use rule_verdicts::Evidence;
 use std::alloc::{AllocError, Global};
 use word_image::Rule;
 
-/// The number of the fault that the count of weights differs from the count of letters.
+/// The number of the fault that the list of weights has more or fewer weights than the rule has letters.
 const NO_WEIGHTS: u8 = 18;
 
-/// The verdicts of a rule, each with its least evidence, whose words stand in a buffer. A verdict is 1 if it holds,
-/// and else 0.
+/// The verdicts of a rule, each with its least evidence. A verdict is 1 if it holds, and 0 if it doesn't. The words
+/// of the evidence are in a buffer of letters.
 #[repr(C)]
 #[derive(Clone, Copy, Debug)]
 pub struct RuleReport {
-    /// 0 if there is a report. Otherwise the number of the first fault, and all fields below are 0.
+    /// This is 0 if there is a report. Otherwise it is the number of the first fault, and all fields below are 0.
     pub fault: u8,
     /// Whether every word has a preimage.
     pub surjective: u8,
@@ -37,34 +37,35 @@ pub struct RuleReport {
     pub is_open: u8,
     /// Whether every ring keeps the sum of the weights of its letters.
     pub conserving: u8,
-    /// How many numbers the flux has.
+    /// The number of entries of `flux`: one for each node of the rule, or 0 if the rule isn't conserving.
     pub nodes: u8,
-    /// How many letters of an image determine the letter at `place` behind them, if the rule is injective.
+    /// If the rule is injective, this many letters of an image determine the letter at `place` of their preimages.
     pub window: u32,
-    /// The place of the letter that the window determines.
+    /// If the rule is injective, the place of the letter that the window determines. Places start at 0.
     pub place: u32,
-    /// The look-ahead, if the rule is right-closing.
+    /// The least look-ahead on the right, if the rule is right-closing.
     pub right_ahead: u32,
-    /// The look-ahead of the mirrored rule, if the rule is left-closing.
+    /// The least look-ahead on the left, if the rule is left-closing. It is the right look-ahead of the mirrored
+    /// rule.
     pub left_ahead: u32,
-    /// The flux if the rule is conserving, and zeros after its numbers.
+    /// The flux if the rule is conserving, followed by zeros.
     pub flux: [i32; MOST_NODES],
     /// The least orphan, if the rule isn't surjective.
     pub orphan: LetterRow,
     /// The least twins, if the rule isn't injective.
     pub twins: TwinRows,
-    /// The least ring that doesn't keep its sum, if there is one.
+    /// The least ring whose image has another sum, if the rule isn't conserving.
     pub ring: LetterRow,
     /// The least right split, if the rule isn't right-closing.
     pub right_split: SplitRows,
     /// The least left split, if the rule isn't left-closing.
     pub left_split: SplitRows,
-    /// Zeros.
+    /// Reserved numbers, which are all 0.
     pub reserved: [u32; 8],
 }
 
 impl RuleReport {
-    /// Returns the report of a fault.
+    /// Returns the report that has only this fault.
     fn none(fault: u8) -> RuleReport
         ensures { result ≡ no_report fault }
     {
@@ -92,15 +93,16 @@ impl RuleReport {
     }
 }
 
-/// A report, and the letters of its words.
+/// A report, and the buffer with the letters of its words.
 #[derive(Drop)]
 pub struct Reported {
     pub report: RuleReport,
     pub letters: Vec<u8>,
 }
 
-/// Returns the report of the rule with these states, width, offset and table. The weights are one for each letter;
-/// without any, each letter weighs its own value.
+/// Returns the report of the rule with these states, width, offset and table. The list of weights has one weight for
+/// each letter. If it is empty, each letter weighs its own value. If the rule or the list has a fault, the report has
+/// its number.
 pub fn report_of_table(
     alloc: Global,
     states: u8,
@@ -117,7 +119,7 @@ pub fn report_of_table(
     }
 }
 
-/// Returns the report of a fault, which has no letters.
+/// Returns the report that has only this fault, without letters.
 fn fault_reported(alloc: Global, fault: u8) -> Reported
     ensures report { result.report ≡ no_report fault }
     ensures letters { result.letters.items ≡ [] }
@@ -128,7 +130,7 @@ fn fault_reported(alloc: Global, fault: u8) -> Reported
     }
 }
 
-/// Returns the report of a rule and of weights.
+/// Returns the report of a rule and of weights. If the list of weights is empty, each letter weighs its own value.
 fn report_of_rule(alloc: Global, rule: &Rule, weights: &[u8]) -> Result<Reported, AllocError>
     requires { IsRule rule.now }
     ensures { IfOk result (λ made. IsReported rule.now (named_weights weights.now) made.report made.letters.items) }
@@ -153,7 +155,7 @@ fn named(weights: &[u8]) -> Option<&[u8]>
     }
 }
 
-/// Returns a report with C's layout, and the letters of its words.
+/// Returns the report with the layout of C, and the letters of its words.
 fn written(alloc: Global, found: &Report) -> Result<Reported, AllocError>
     requires { IsShortSum (sum_of found.now.conserving) }
     ensures letters { IfOk result (λ made. made.letters.items ≡ letters_in (evidence_of found.now)) }

@@ -1,10 +1,11 @@
-//! What is handed back of the sums that a rule keeps.
+//! Numbers of the faults of calls about the sums that a rule keeps.
 ghost use Rattle.std.specs.Prelude.{◌≡◌, Some};
 ghost use Rattle.c_structs.specs.RuleSums.{range_code};
 
 use kept_sums::RangeFault;
 
-/// Returns the number of the fault in how many letters the words may have.
+/// Returns the number of a fault in the length of the words: 14 if they have no letter, and 15 if there are more than
+/// 16 words of this length.
 pub fn range_number(fault: RangeFault) -> u8
     ensures { result ≡ range_code (Some fault) }
 {

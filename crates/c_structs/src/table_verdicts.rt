@@ -1,4 +1,4 @@
-//! What is handed back of a rule.
+//! The verdicts of a rule, as a struct of C.
 ghost use Rattle.std.specs.Prelude.{◌≡◌, ◌&&◌, Some};
 ghost use Rattle.rule_verdicts.specs.Truths.{AreTruths};
 ghost use Rattle.c_structs.specs.Verdicts.{AreNone, fault_code, truths_in};
@@ -6,11 +6,11 @@ ghost use Rattle.c_structs.specs.Verdicts.{AreNone, fault_code, truths_in};
 use rule_verdicts::Truths;
 use word_image::{Rule, RuleFault};
 
-/// The verdicts of a rule, or the number of the fault because of which there are none.
+/// The verdicts of a rule, or the number of the fault because of which there is no rule.
 #[repr(C)]
 #[derive(Clone, Copy, Debug, PartialEq, Eq)]
 pub struct RuleVerdicts {
-    /// 0 if there is a rule. Otherwise the number of its first fault, and all fields below are `false`.
+    /// This is 0 if there is a rule. Otherwise it is the number of its first fault, and all fields below are `false`.
     pub fault: u8,
     /// Whether every word has a preimage.
     pub surjective: bool,
@@ -45,7 +45,7 @@ impl RuleVerdicts {
         }
     }
 
-    /// Returns the verdicts of a fault: none holds.
+    /// Returns the struct with this fault, in which all verdicts are `false`.
     pub fn none(fault: RuleFault) -> RuleVerdicts
         ensures fault { result.fault ≡ fault_code (Some fault) }
         ensures none { AreNone result }
@@ -62,7 +62,7 @@ impl RuleVerdicts {
     }
 }
 
-/// Returns the number of a fault.
+/// Returns the number of a fault of a rule, from 1 to 6.
 pub fn fault_number(fault: RuleFault) -> u8
     ensures { result ≡ fault_code (Some fault) }
 {

@@ -1,5 +1,5 @@
-//! The program. It passes the words of the command line, the standard input and the standard output to `ca_cli::run`,
-//! and exits with the code of the status that `run` returns.
+//! The program. It passes the words of the command line, the standard input and the standard output to `ca_cli::run`.
+//! It exits with the code of the status that `run` returns.
 #![tactic(auto)]
 
 use ca_cli::{Status, run};
@@ -9,7 +9,7 @@ use std::process::ExitCode;
 use std::rt::Env;
 use std::{env, io};
 
-/// The exit status if the system can't pass the words, for example if one isn't UTF-8.
+/// The exit code if the system can't pass the words to the program, for example if a word isn't UTF-8.
 const NO_WORDS: u8 = 9;
 
 fn main(rt: HostRuntime) -> ExitCode {
@@ -27,7 +27,7 @@ fn main(rt: HostRuntime) -> ExitCode {
     }
 }
 
-/// Returns the words of the command line without the program's name.
+/// Returns the words of the command line without the name of the program.
 fn words(rt: &(impl Env + AllocGlobal)) -> io::Result<Vec<String>> {
     Ok(env::args(rt)?.skip(1).collect(rt.alloc())?)
 }

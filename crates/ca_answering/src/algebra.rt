@@ -1,4 +1,4 @@
-//! Questions about rules that are made of rules.
+//! Answers to questions about rules that are made of other rules.
 ghost use Rattle.std.specs.Prelude.{◌≡◌};
 ghost use Rattle.word_image.specs.LocalRules.{IsRule};
 ghost use Rattle.ca_questions.specs.Questions.{Question};
@@ -8,7 +8,7 @@ ghost use Rattle.ca_questions.specs.Values.{Settles, finding_of};
 use ca_questions::{Cause, Found};
 use word_image::Rule;
 
-/// Returns the mirrored rule.
+/// Returns the mirrored rule as a finding.
 pub fn reflect(rule: &Rule) -> Found
     ensures { IsFinding (Question.Reflect rule.now) (finding_of result) }
 {
@@ -22,7 +22,7 @@ pub fn trim(rule: &Rule) -> Found
     found(rule_algebra::trim(rule))
 }
 
-/// Returns the rule whose window is `by` cells further to the right, or the cause why there is none.
+/// Returns the rule whose window is `by` cells further to the right, or the cause why there is no such rule.
 pub fn shift(rule: &Rule, by: i8) -> Result<Found, Cause>
     ensures { Settles (Question.Shift rule.now by) result }
 {
@@ -32,7 +32,7 @@ pub fn shift(rule: &Rule, by: i8) -> Result<Found, Cause>
     }
 }
 
-/// Returns the rule at this width, with ignored cells on the right, or the cause why there is none.
+/// Returns the rule at this width, with ignored cells on the right, or the cause why there is no such rule.
 pub fn widen(rule: &Rule, width: u8) -> Result<Found, Cause>
     ensures { Settles (Question.Widen rule.now width) result }
 {
@@ -42,8 +42,8 @@ pub fn widen(rule: &Rule, width: u8) -> Result<Found, Cause>
     }
 }
 
-/// Returns the rule with new names for its letters, where letter a gets the name at place a, or the cause why there
-/// is none.
+/// Returns the rule with new names for its letters. Letter a gets the name at place a of `letters`. Returns the cause
+/// if the names aren't a permutation of the letters.
 pub fn permute(rule: &Rule, letters: &[u8]) -> Result<Found, Cause>
     ensures { Settles (Question.Permute rule.now letters.now) result }
 {
@@ -53,7 +53,7 @@ pub fn permute(rule: &Rule, letters: &[u8]) -> Result<Found, Cause>
     }
 }
 
-/// Returns the composition of two rules, the second after the first, or the cause why there is none.
+/// Returns the composition of two rules, the second rule after the first, or the cause why there is no such rule.
 pub fn compose(first: &Rule, second: &Rule) -> Result<Found, Cause>
     ensures { Settles (Question.Compose first.now second.now) result }
 {
@@ -63,7 +63,7 @@ pub fn compose(first: &Rule, second: &Rule) -> Result<Found, Cause>
     }
 }
 
-/// Makes a finding of a rule.
+/// Makes the finding that is this rule.
 pub fn found(rule: Rule) -> Found
     ensures made { result ≡ Found.Rule rule }
     ensures accepted { IsRule rule }

@@ -1,4 +1,4 @@
-//! The answer to a question: one function for each kind of question.
+//! The function `answer`, which calls the function for each kind of question.
 ghost use Rattle.std.specs.Prelude.{◌≡◌, option_copied};
 ghost use Rattle.ca_questions.specs.QuestionValues.{IsWhole, question_of};
 ghost use Rattle.ca_questions.specs.Questions as questions;
@@ -14,7 +14,7 @@ use crate::summaries::{classes, sample, survey};
 use ca_questions::{Cause, Found, Question, ShortList, Stop};
 use std::alloc::Global;
 
-/// Returns the finding for a question, or the reason why there is none.
+/// Returns the finding for a question, or the reason why there is none: a cause why nothing fits, or lack of memory.
 pub fn answer(alloc: Global, question: &Question) -> Result<Found, Stop>
     requires { IsWhole question.now }
     ensures { Answers (question_of question.now) result }
@@ -46,7 +46,7 @@ pub fn answer(alloc: Global, question: &Question) -> Result<Found, Stop>
     }
 }
 
-/// Turns the answer to a question that needs no memory into the answer to a question.
+/// Turns an answer that can't fail for lack of memory into an answer that can.
 fn settled(found: Result<Found, Cause>) -> Result<Found, Stop>
     ensures { (q : questions.Question) → Settles q found → Answers q result }
 {
@@ -56,7 +56,7 @@ fn settled(found: Result<Found, Cause>) -> Result<Found, Stop>
     }
 }
 
-/// Returns the named weights as a slice.
+/// Returns the named weights as a slice, or None if no weights are named.
 fn named(weights: &Option<ShortList>) -> Option<&[u8]>
     ensures { option_copied result ≡ weights.now }
 {

@@ -1,4 +1,4 @@
-//! The least rule of a class, and second-order lifts.
+//! Answers about the least rule of a class, and about second-order lifts.
 ghost use Rattle.ca_questions.specs.Questions.{Question};
 ghost use Rattle.ca_questions.specs.Values.{Settles};
 
@@ -7,7 +7,8 @@ use ca_questions::{Cause, Found};
 use rule_classes::{ClassFault, class_of};
 use word_image::Rule;
 
-/// Returns the rule of the class with the least Wolfram number, or the cause why it isn't computed.
+/// Returns the rule with the least Wolfram number in the class of a rule, or the cause `Colours` if the rule has 7
+/// states or more.
 pub fn least(rule: &Rule) -> Result<Found, Cause>
     ensures { Settles (Question.Least rule.now) result }
 {
@@ -17,7 +18,8 @@ pub fn least(rule: &Rule) -> Result<Found, Cause>
     }
 }
 
-/// Returns the lifted rule, whose letters are pairs and which is injective, or the cause why there is none.
+/// Returns the second-order lift of a rule, whose letters are pairs of letters, or the cause why there is no lift.
+/// The lift is injective.
 pub fn lift(rule: &Rule) -> Result<Found, Cause>
     ensures { Settles (Question.Lift rule.now) result }
 {
@@ -27,7 +29,7 @@ pub fn lift(rule: &Rule) -> Result<Found, Cause>
     }
 }
 
-/// Returns the rule of pairs that undoes the lift, or the cause why there is none.
+/// Returns the rule that undoes the second-order lift, or the cause why there is no lift.
 pub fn unlift(rule: &Rule) -> Result<Found, Cause>
     ensures { Settles (Question.Unlift rule.now) result }
 {

@@ -1,4 +1,4 @@
-//! Counts of rules with each property. Each class of rules is decided only once.
+//! Counts of rules with each property, and of the classes of these rules. Each class is decided only once.
 ghost use Rattle.std.specs.Prelude.{◌≡◌, ◌<◌, ◌≤◌, ◌+◌, ℕ, List, [], ◌∷◌, ◌++◌, length, nat_eq, None, All, IfOk, OnOk, pos};
 ghost use Rattle.indexmap.specs.IndexMap.{get};
 ghost use Rattle.word_image.specs.LocalRules.{LocalRule, IsRule};
@@ -18,16 +18,16 @@ use rule_verdicts::{Truths, keeps_sums};
 use std::alloc::{AllocError, Global};
 use word_image::Rule;
 
-/// The counts of some rules, and the verdicts of the least rules of their classes.
+/// The counts of some rules so far, and the verdicts of the least rules of their classes.
 #[derive(Drop)]
 pub struct ClassTally {
     counts: Counts,
-    // By Wolfram number, in the order in which they were added.
+    // The verdicts of the least rules by their Wolfram numbers, in the order in which they were added.
     leasts: IndexMap<u128, Truths>,
 }
 
 impl ClassTally {
-    /// Returns the counts of no rules.
+    /// Makes the counts for an empty list of rules.
     pub fn new(alloc: Global) -> ClassTally
         ensures { (k m : ℕ) → IsClassTally k m [] result }
     {
@@ -37,7 +37,8 @@ impl ClassTally {
         }
     }
 
-    /// Counts one more rule.
+    /// Adds a rule to the counts. The rules so far have the shape of this rule, and there are fewer than 4,096 of
+    /// them.
     pub fn add(&mut self, rule: &Rule) -> Result<(), AllocError>
         requires states { rule.now.states ≤ 6 }
         requires tally { (rules : List LocalRule) × IsClassTally rule.now.states rule.now.width rules self.old × (length rules < 4096) }
@@ -50,7 +51,7 @@ impl ClassTally {
         Ok(())
     }
 
-    /// Returns the counts and the number of classes.
+    /// Returns the finding with the counts and the number of classes.
     pub fn found(&self) -> Found
         ensures { (k m : ℕ) (rules : List LocalRule) → IsClassTally k m rules self.now → IsFinding (Question.Classes rules) (finding_of result) }
     {
@@ -58,7 +59,8 @@ impl ClassTally {
     }
 }
 
-/// Returns the verdicts of a rule, and stores them under its number.
+/// Returns the verdicts of this rule, which is the least rule of a class. If its Wolfram number isn't known yet,
+/// decides the verdicts and stores them under this number.
 fn decided(known: &mut IndexMap<u128, Truths>, rule: &Rule) -> Result<Truths, AllocError>
     requires states { rule.now.states ≤ 6 }
     requires offset { rule.now.offset ≡ pos 0 }
@@ -86,8 +88,8 @@ fn keep(known: &mut IndexMap<u128, Truths>, number: u128, truths: &Truths) -> Re
     Ok(())
 }
 
-/// Returns the verdicts of a rule, from those of the least rule of its class. The sums of rings are decided anew,
-/// since other names for the letters change them.
+/// Returns the verdicts of a rule, from the verdicts of the least rule of its class. It decides anew whether rings
+/// keep their sums, since new names for the letters change the sums.
 fn of_member(rule: &Rule, mirrored: bool, least: &Truths) -> Truths
     ensures rule { IsRule rule.now }
     ensures truths { (g : LocalRule) → HaveOneVerdict rule.now mirrored g → AreTruths g least.now → AreTruths rule.now result }

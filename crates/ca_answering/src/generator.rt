@@ -1,4 +1,4 @@
-//! Letters that are drawn from a seed.
+//! The generator that draws letters from a seed.
 ghost use Rattle.std.specs.Prelude.{◌≡◌, ℕ, ◌/◌, ◌%◌, ◌^◌, ◌<◌, map, length};
 ghost use Rattle.std.specs.List.{range_with_len};
 ghost use Rattle.ca_questions.specs.Samples.{next_state, state_after, drawn};
@@ -9,8 +9,8 @@ const MULTIPLIER: u64 = 6364136223846793005;
 
 const INCREMENT: u64 = 1442695040888963407;
 
-/// A linear congruential generator modulo 2^64. Each draw gives a letter by the upper 31 bits of the state (Knuth
-/// 1969). In contracts it is its state.
+/// A linear congruential generator modulo 2^64 (Knuth 1969). Each draw gives a letter, by the upper 31 bits of the
+/// state. In contracts the generator is its state.
 #[derive(Debug, Drop)]
 pub struct Generator {
     state: u64,
@@ -25,14 +25,14 @@ impl Model for Generator {
 }
 
 impl Generator {
-    /// Makes a generator with this state.
+    /// Makes a generator whose state is the seed.
     pub fn from_seed(seed: u64) -> Generator
         ensures { result ≡ seed }
     {
         Generator { state: seed }
     }
 
-    /// Draws all these letters in turn.
+    /// Draws a letter below k for each place of `letters`, from the first place to the last one.
     pub fn fill(&mut self, letters: &mut [u8], k: u8)
         requires { 0 < k }
         ensures letters { letters.new ≡ map (drawn k self.old) (range_with_len 0 (length letters.old)) }
@@ -43,7 +43,7 @@ impl Generator {
         }
     }
 
-    /// Draws a letter below k.
+    /// Draws one letter below k.
     fn letter(&mut self, k: u8) -> u8
         requires { 0 < k }
         ensures letter { result ≡ self.new / 2 ^ 33 % k }

@@ -1,4 +1,4 @@
-//! The inverse of a rule.
+//! The answer to the question for the inverse of a rule.
 ghost use Rattle.std.specs.Prelude.{◌≤◌};
 ghost use Rattle.word_image.specs.Windows.{IsLeastDetermined};
 ghost use Rattle.tail_config.specs.Tails.{IsInjective};
@@ -14,7 +14,8 @@ use rule_verdicts::injectivity;
 use std::alloc::Global;
 use word_image::Rule;
 
-/// Returns the inverse map of a rule over its least determined window, or the cause why there is none.
+/// Returns the inverse map of a rule over its least determined window. Returns the cause if the rule isn't injective,
+/// or if its inverse reads too many letters.
 pub fn inverse(alloc: Global, rule: &Rule) -> Result<Found, Stop>
     ensures { Answers (Question.Inverse rule.now) result }
 {
@@ -25,7 +26,8 @@ pub fn inverse(alloc: Global, rule: &Rule) -> Result<Found, Stop>
     }
 }
 
-/// Returns the inverse map of a rule over its least determined window.
+/// Returns the inverse map of an injective rule over its least determined window, or the cause if the map reads too
+/// many letters.
 fn inverse_over(alloc: Global, rule: &Rule, at: WindowAt) -> Result<Found, Stop>
     requires injective { IsInjective rule.now }
     requires least { IsLeastDetermined rule.now at.n at.c }
@@ -48,7 +50,7 @@ fn inverse_over(alloc: Global, rule: &Rule, at: WindowAt) -> Result<Found, Stop>
     }
 }
 
-/// Returns the map as a rule, if it keeps the limits of rules.
+/// Returns an inverse map as a rule, or None if it breaks a limit of rules.
 fn map_rule(map: &InverseMap) -> Option<Rule>
     ensures { IsMapRule map.now result }
 {

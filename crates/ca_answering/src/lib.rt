@@ -1,19 +1,34 @@
 //! The answers to questions about rules. No text is read or written here.
 //!
-//! [`answer`] takes a question as a value, and calls the function that answers it. Its contract is `Answers` of
-//! ca_questions: it returns a right *finding*, or a right cause why nothing fits, by the definitions `IsFinding` and
-//! `IsUnfitFor`, or that there was no memory.
+//! [`answer`] takes a question as a value, and calls the function that answers it. It returns a *finding*, which is
+//! the answer as a value, or a cause why nothing fits the question, or that there was no memory. Its contract is
+//! `Answers` of ca_questions: by the definitions `IsFinding` and `IsUnfitFor` the finding or the cause is right.
 //!
-//! Each other function takes the parts of one question. If it needs no memory, it can't return a
-//! [`Stop`](ca_questions::Stop) but only a cause, and if it always has a finding, it returns a
-//! [`Found`](ca_questions::Found). For example, [`shift`] of rule 110 by 1 is the rule with offset 0, and [`shift`] by
-//! 16 is the cause that the offset breaks a limit. [`orphan`] of rule 110 is 01010, and rule 90 has none.
+//! Each other function takes the parts of one question. Functions that need no memory can't return a
+//! [`Stop`](ca_questions::Stop), but only a cause. Functions that always have a finding return a
+//! [`Found`](ca_questions::Found). For example, [`shift`] of rule 110 by 1 returns the rule with offset 0. [`shift`]
+//! by 16 returns the cause that the offset breaks a limit. [`orphan`] of rule 110 returns 01010, and [`orphan`] of
+//! rule 90 returns None.
+//!
+//! The evidence for a verdict has these kinds. An *orphan* is a word without a preimage. A *window* (n, c) says that
+//! n letters of an image determine the letter at place c of each preimage. *Twins* are two different words of the
+//! same length whose rings have the same image. A *look-ahead* says how many letters of the image determine the next
+//! letter of a word on a side. A *split* of a side is two different configurations that share an image and agree on
+//! the other side. A *flux* has a number for each node, and shows that each ring keeps the sum of its weights. A
+//! *ring* is a word that is read on from its end at its start.
+//!
+//! An *erasable pair* is two different words of the same length with the same image, the same first m - 1 letters and
+//! the same last m - 1 letters. So each of them can replace the other in any configuration without a change of the
+//! image. The *class* of a rule has the rules at offset 0 with its table or the table of its mirrored rule, with new
+//! names for the letters. The *second-order lift* of a rule is a reversible rule whose letters are pairs of its
+//! letters (crate rule_classes).
 //!
 //! [`survey`] and [`classes`] count the rules with consecutive numbers. [`sample`] counts rules that a seed
 //! determines: a linear congruential generator draws the letters of their tables, by the upper 31 bits of its states
 //! (Knuth 1969).
 //!
-//! The deciders are in crates below. Each function takes the time and the memory of its decider.
+//! The functions that decide are in other crates. Each function here takes the time and the memory of the function
+//! that it calls.
 #![tactic(auto)]
 
 mod algebra;

@@ -1,4 +1,4 @@
-//! Questions about the verdicts of a rule.
+//! Answers to questions about the verdicts of a rule.
 ghost use Rattle.std.specs.Prelude.{◌≡◌, length, true, option_copied, IfNone, IfOk, IfSome};
 ghost use Rattle.cert_values.specs.Versions.{names_weights};
 ghost use Rattle.ca_questions.specs.Questions.{Question};
@@ -23,8 +23,8 @@ pub fn report(alloc: Global, rule: &Rule, weights: Option<&[u8]>) -> Result<Foun
     }
 }
 
-/// Returns the named weights if there is one for each letter of the rule, or the letters' own values if no weights
-/// are named.
+/// Returns the named weights if there is one for each letter of the rule, and otherwise None. If no weights are
+/// named, returns the weights by which each letter weighs its own value.
 pub fn weights_for(rule: &Rule, weights: Option<&[u8]>) -> Option<Weights>
     ensures each { IfSome result (λ each. AreFor (option_copied weights.entry) rule.now) }
     ensures weights { IfSome result (λ each. each ≡ weights_by (option_copied weights.entry) rule.now) }
@@ -40,7 +40,7 @@ pub fn weights_for(rule: &Rule, weights: Option<&[u8]>) -> Option<Weights>
     }
 }
 
-/// Returns the certificate of this version, which is 2 or 3, of the rule and these weights. Returns the cause
+/// Returns the certificate of this version for the rule and these weights. The version is 2 or 3. Returns the cause
 /// `Weights` if there isn't one weight for each letter.
 pub fn certificate(
     alloc: Global,
@@ -60,14 +60,14 @@ pub fn certificate(
     }
 }
 
-/// Returns the least orphan, or None if the rule is surjective.
+/// Returns the finding with the least orphan, or with None if the rule is surjective.
 pub fn orphan(alloc: Global, rule: &Rule) -> Result<Found, Stop>
     ensures { Answers (Question.Orphan rule.now) result }
 {
     Ok(Found::Orphan(least_orphan(alloc, rule)?))
 }
 
-/// Returns the Wolfram number of a rule, or None if it has 7 states or more.
+/// Returns the finding with the Wolfram number of a rule, or with None if the rule has 7 states or more.
 pub fn number(rule: &Rule) -> Found
     ensures { IsFinding (Question.Number rule.now) (finding_of result) }
 {

@@ -1,4 +1,4 @@
-//! Counts of rules with each property.
+//! Answers to questions that count the rules with each property.
 ghost use Rattle.std.specs.Prelude.{◌≡◌, ℕ, List, ◌+◌, ◌^◌, ◌<◌, ◌≤◌, None, length, reverse, IfOk, pos};
 ghost use Rattle.word_image.specs.LocalRules.{LocalRule, IsRule, IsShape, value};
 ghost use Rattle.rule_verdicts.specs.Numbers.{numbered_rule, numbers_fault, AreVerdictBytes};
@@ -21,10 +21,10 @@ use rule_verdicts::{Truths, next_table, rule_of_table, verdict_bytes};
 use std::alloc::{AllocError, Global};
 use word_image::{MOST_ENTRIES, Rule};
 
-/// The greatest number of rules of a summary.
+/// The greatest number of rules that one question counts.
 const MOST_RULES: usize = 4096;
 
-/// Counts the rules with these numbers that have each property. Needs no memory.
+/// Counts for each property how many of the rules with these numbers have it. It needs no memory.
 pub fn survey(rules: Numbered) -> Found
     requires { AreNumbered rules }
     ensures { IsFinding (Question.Summary (survey_rules rules.states rules.width rules.first rules.count)) (finding_of result) }
@@ -32,7 +32,7 @@ pub fn survey(rules: Numbered) -> Found
     summary(counts_of_numbers(rules.states, rules.width, rules.first, rules.count))
 }
 
-/// Counts the first rules that a seed determines that have each property. Needs no memory.
+/// Counts for each property how many of the first rules that a seed determines have it. It needs no memory.
 pub fn sample(rules: Drawn) -> Found
     requires { AreDrawn rules }
     ensures { IsFinding (Question.Summary (sample_rules rules.states rules.width rules.seed rules.count)) (finding_of result) }
@@ -40,14 +40,15 @@ pub fn sample(rules: Drawn) -> Found
     summary(counts_of_draws(rules.states, rules.width, rules.seed, rules.count))
 }
 
-/// Makes a finding of counts.
+/// Makes the finding that has these counts.
 fn summary(counts: Counts) -> Found
     ensures { (rules : List LocalRule) → AreCounts rules (counts_of counts) → IsFinding (Question.Summary rules) (finding_of result) }
 {
     Found::Summary(counts)
 }
 
-/// Counts like `survey`, and counts the classes of the rules, too. Each class is decided only once.
+/// Counts for each property how many of the rules with these numbers have it, and counts the classes of these rules.
+/// It decides each class only once.
 pub fn classes(alloc: Global, rules: Numbered) -> Result<Found, AllocError>
     requires { AreNumbered rules }
     ensures { IfOk result (λ found. IsFinding (Question.Classes (survey_rules rules.states rules.width rules.first rules.count)) (finding_of found)) }
@@ -56,7 +57,7 @@ pub fn classes(alloc: Global, rules: Numbered) -> Result<Found, AllocError>
     Ok(tally.found())
 }
 
-/// Counts the verdicts of the rules with `count` consecutive numbers, starting at `first`.
+/// Returns the counts for the rules with `count` consecutive numbers, starting at `first`.
 fn counts_of_numbers(k: u8, m: u8, first: u128, count: u16) -> Counts
     requires accepted { numbers_fault k m first count ≡ None }
     requires some { 1 ≤ count }
@@ -69,7 +70,8 @@ fn counts_of_numbers(k: u8, m: u8, first: u128, count: u16) -> Counts
     counts_of_bytes(k, m, first, bytes)
 }
 
-/// Counts the verdicts of the rules with consecutive numbers, starting at `first`, with a byte for each rule.
+/// Returns the counts for the rules with consecutive numbers, starting at `first`. `bytes` has the byte of verdicts
+/// of each rule.
 fn counts_of_bytes(k: u8, m: u8, first: u128, bytes: &[u8]) -> Counts
     requires accepted { numbers_fault k m first (length bytes.now) ≡ None }
     requires bytes { AreVerdictBytes k m first bytes.now }
@@ -83,7 +85,7 @@ fn counts_of_bytes(k: u8, m: u8, first: u128, bytes: &[u8]) -> Counts
     counts
 }
 
-/// Counts the verdicts of the rules with `count` consecutive numbers by their classes, starting at `first`.
+/// Returns the counts and the classes for the rules with `count` consecutive numbers, starting at `first`.
 fn classes_of_numbers(
     alloc: Global,
     k: u8,
@@ -103,7 +105,7 @@ fn classes_of_numbers(
     classes_from(alloc, k, m, table, count)
 }
 
-/// Returns the first of some rules that have numbers.
+/// Returns the rule with the number `first`. It is the first one of `count` rules that have consecutive numbers.
 fn first_rule(k: u8, m: u8, first: u128, count: u16) -> Rule
     requires accepted { numbers_fault k m first count ≡ None }
     requires some { 1 ≤ count }
@@ -115,8 +117,8 @@ fn first_rule(k: u8, m: u8, first: u128, count: u16) -> Rule
     }
 }
 
-/// Counts the verdicts of rules with consecutive numbers by their classes, starting with the number of this table.
-/// The table changes along with them.
+/// Returns the counts and the classes for `count` rules with consecutive numbers, starting with the number of this
+/// table. It changes the table to the tables of these rules, one after another.
 fn classes_from(
     alloc: Global,
     k: u8,
@@ -139,7 +141,7 @@ fn classes_from(
     Ok(tally)
 }
 
-/// Counts the verdicts of the first rules that a seed determines.
+/// Returns the counts for the first `count` rules that a seed determines.
 fn counts_of_draws(k: u8, m: u8, seed: u64, count: u16) -> Counts
     requires shape { IsShape k m (pos 0) }
     requires few { count ≤ 4096 }
@@ -150,7 +152,7 @@ fn counts_of_draws(k: u8, m: u8, seed: u64, count: u16) -> Counts
     counts_in(k, m, seed, count, &mut table[..size])
 }
 
-/// Does the same. Each table is drawn over the one before.
+/// Returns the same counts as `counts_of_draws`. Each table is drawn into `table`, over the table before.
 fn counts_in(k: u8, m: u8, seed: u64, count: u16, table: &mut [u8]) -> Counts
     requires shape { IsShape k m (pos 0) }
     requires few { count ≤ 4096 }

@@ -1,4 +1,4 @@
-//! Counts of rules with each verdict.
+//! Counts of rules with each verdict, and how one more rule is added to them.
 ghost use Rattle.std.specs.Prelude.{◌<◌, List, [], ◌∷◌, ◌++◌, length};
 ghost use Rattle.word_image.specs.LocalRules.{LocalRule, IsRule};
 ghost use Rattle.rule_verdicts.specs.Truths.{AreTruths};
@@ -8,7 +8,7 @@ ghost use Rattle.ca_questions.specs.Values.{counts_of};
 use ca_questions::Counts;
 use rule_verdicts::Truths;
 
-/// Returns the counts of no rules.
+/// Returns the counts for an empty list of rules.
 pub fn no_rules() -> Counts
     ensures { AreCounts [] (counts_of result) }
 {
@@ -23,7 +23,7 @@ pub fn no_rules() -> Counts
     }
 }
 
-/// Counts one more rule with these verdicts.
+/// Adds a rule with these verdicts to the counts.
 pub fn add(counts: &mut Counts, truths: &Truths)
     requires { (rules : List LocalRule) × AreCounts rules (counts_of counts.old) × (length rules < 4096) }
     ensures { (rules : List LocalRule) (r : LocalRule) → AreCounts rules (counts_of counts.old) → IsRule r → AreTruths r truths.now → AreCounts (rules ++ r ∷ []) (counts_of counts.new) }

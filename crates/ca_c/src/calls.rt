@@ -1,4 +1,4 @@
-//! A call of the program over bytes in memory.
+//! Calls of the program over bytes in memory: from a block of words and an input to a code and bytes.
 ghost use Rattle.std.specs.Prelude.{◌≡◌, ◌≢◌, ℕ, List, ◌++◌, ◌↔◌, ◌≤◌, length, drop, IfOk, IsTrue, IsFalse};
 ghost use Rattle.ca_questions.specs.Values.{reply_of};
 ghost use Rattle.ca_questions.specs.Writable.{IsWritableReply};
@@ -13,25 +13,25 @@ use ca_questions::Reply;
 use ca_text::{Output, reply_text};
 use std::alloc::{AllocError, Global};
 
-/// The code if the block has no words.
+/// The code if a word of the block isn't UTF-8, or if the last word has no 0 byte after it.
 const NO_WORDS: u8 = 9;
 
-/// The code if the buffer is too short.
+/// The code if the buffer of the caller is too short for the output.
 pub const SHORT: u8 = 10;
 
-/// The form of a reply: printed lines or JSON.
+/// The form of the bytes of a reply: printed lines or JSON.
 #[derive(Clone, Copy, Debug, PartialEq, Eq)]
 pub enum Form {
-    /// What the program prints.
+    /// The lines that the program prints.
     Text,
-    /// One JSON object.
+    /// One object of JSON.
     Json,
 }
 
 /// Why a call has no reply.
 #[derive(Clone, Copy, Debug, PartialEq, Eq)]
 pub enum CallFault {
-    /// The block has no words.
+    /// A word of the block isn't UTF-8, or the last word has no 0 byte after it.
     NoWords,
     /// There is not enough memory.
     Memory,
@@ -48,17 +48,17 @@ impl From<AllocError> for CallFault {
     }
 }
 
-/// The reply to words, with its status.
+/// The reply to words in one of the two forms, with its status.
 #[derive(Drop)]
 pub struct FormedReply {
     /// The status of the reply.
     pub status: Status,
-    /// The whole reply, in a form.
+    /// The bytes of the whole reply in this form.
     pub output: Output,
 }
 
-/// Runs the command in a block of words over an input, and returns its reply. It fails only if the block has no words
-/// or memory runs out, since reading bytes can't fail.
+/// Runs the command in a block of words over an input, and returns its reply in a form. It fails only if the block
+/// isn't a list of words or if memory runs out, since bytes in memory can always be read.
 pub fn call(alloc: Global, form: Form, block: &[u8], input: &[u8]) -> Result<FormedReply, CallFault>
     ensures answer { IfOk result (λ answer. IsAnswerIn (bytes_in form) block.now input.now answer.status answer.output) }
     ensures none { result ≡ Err CallFault.NoWords → (words : List (List ℕ)) → ¬ AreWords block.now words }
@@ -75,7 +75,7 @@ pub fn call(alloc: Global, form: Form, block: &[u8], input: &[u8]) -> Result<For
     })
 }
 
-/// Returns a reply in a form.
+/// Returns the bytes of a reply in a form.
 fn output_in(alloc: Global, form: Form, reply: &Reply) -> Result<Output, AllocError>
     requires { IsWritableReply (reply_of reply.now) }
     ensures { IfOk result (λ output. output ≡ bytes_in form (reply_of reply.now)) }
@@ -86,7 +86,8 @@ fn output_in(alloc: Global, form: Form, reply: &Reply) -> Result<Output, AllocEr
     }
 }
 
-/// Returns the code and the length of a reply, and writes its bytes if the buffer has room for all of them.
+/// Runs the command in a block of words over an input, and returns its code. Writes the length of the reply to
+/// `output_length`. Writes the bytes of the reply to the buffer if it has room for all of them.
 pub fn hand_back(
     alloc: Global,
     form: Form,
@@ -118,7 +119,8 @@ pub fn hand_back(
     }
 }
 
-/// Writes bytes at the beginning of a buffer if it has room for all of them. Otherwise the buffer stays as it was.
+/// Writes bytes to the beginning of a buffer, and returns whether the buffer has room for all of them. If it hasn't,
+/// the buffer stays as it was.
 pub fn put(bytes: &[u8], buffer: &mut [u8]) -> bool
     ensures room { IsTrue result ↔ (length bytes.now ≤ length buffer.old) }
     ensures whole { IsTrue result → buffer.new ≡ bytes.now ++ drop (length bytes.now) buffer.old }

@@ -1,4 +1,4 @@
-//! The functions that C calls.
+//! The functions that C calls, and the codes that they return.
 ghost use Rattle.std.specs.Prelude.{◌≡◌, ◌≢◌, ◌+◌, ◌*◌, ◌^◌, ◌<◌, ◌≤◌, ◌==◌, ◌&&◌, not, length, pos};
 ghost use Rattle.word_image.specs.RuleFaults.{rule_fault};
 ghost use Rattle.ca_text.specs.Replies.{reply_text};
@@ -28,34 +28,34 @@ use rule_verdicts::verdict_bytes;
 use std::alloc::Global;
 use word_image::{Rule, RuleFault, check_shape};
 
-/// The version of the interface.
+/// The version of the interface for C.
 const VERSION: u32 = 2;
 
 /// The code if memory runs out.
 const MEMORY: u8 = 8;
 
-/// The code if a report, a rule or an order was found.
+/// The code if the call wrote what it was asked for: a report, a rule, an order of windows, or a flux.
 const FOUND: u8 = 0;
 
-/// The code if a number isn't that of a property.
+/// The code if no property has this number.
 const NO_PROPERTY: u8 = 10;
 
-/// The code if windows are in no order.
+/// The code if the given order doesn't list each window exactly once.
 const NO_ORDER: u8 = 11;
 
-/// The code if more letters are fixed than there are windows.
+/// The code if the caller fixes more letters of a table than there are windows.
 const NO_BEGINNING: u8 = 12;
 
-/// The code if no rule is left.
+/// The code if no more rule has the property.
 const NO_RULE: u8 = 13;
 
-/// The code if a weight is too great.
+/// The code if a weight lies outside -2^56 to 2^56.
 const GREAT_WEIGHT: u8 = 16;
 
-/// The code if the rule doesn't keep the sum.
+/// The code if the rule doesn't keep the sum of these weights.
 const NOT_KEPT: u8 = 17;
 
-/// Returns the version of the interface, which changes if a function or a struct does.
+/// Returns the version of the interface. It changes whenever a function or a struct of the interface changes.
 #[unsafe(no_mangle)]
 pub extern "C" fn ca_version() -> u32
     ensures { result ≡ 2 }
@@ -63,12 +63,12 @@ pub extern "C" fn ca_version() -> u32
     VERSION
 }
 
-/// Runs the command in a block of words over these bytes of input, as the program does. It returns a code and writes
-/// the length of the output to `output_length` and the output to the beginning of the buffer.
+/// Runs the command in a block of words over these bytes of input, as the program does. It writes the length of the
+/// output to `output_length` and the output to the beginning of the buffer, and returns a code.
 ///
-/// Codes 0 to 5 are those of `Status` except that reading and writing can't fail. It returns 8 if memory runs out, 9
-/// if the block has no words, both with length 0, and 10 with the length of the output if the buffer is too short.
-/// With 8, 9 and 10 the buffer stays as it was.
+/// Codes 0 to 5 are the exit codes of the program. It returns 8 if memory runs out. It returns 9 if a word of the
+/// block isn't UTF-8, or if the last word has no 0 byte after it. With 8 and 9 the length is 0. It returns 10 with
+/// the length of the output if the buffer is too short. With 8, 9 and 10 the buffer stays as it was.
 #[unsafe(no_mangle)]
 pub extern "C" fn ca_run(
     alloc: Global,
@@ -84,7 +84,7 @@ pub extern "C" fn ca_run(
 }
 
 /// Runs the command as [`ca_run`] does, but writes the whole reply as one JSON object. Refused certificates and
-/// faulty operands have one too. Codes and lengths are those of [`ca_run`].
+/// refused operands have such an object, too. The codes and the lengths have the same meaning as those of [`ca_run`].
 #[unsafe(no_mangle)]
 pub extern "C" fn ca_run_json(
     alloc: Global,
@@ -99,7 +99,8 @@ pub extern "C" fn ca_run_json(
     hand_back(alloc, Form::Json, words, input, output, output_length)
 }
 
-/// Returns the verdicts of the rule with these states, this width, offset 0 and this table. It takes no memory.
+/// Returns the verdicts of the rule with these states, this width, offset 0 and this table. If there is no such rule,
+/// the result has the number of the first fault and no verdicts. It takes no memory.
 #[unsafe(no_mangle)]
 pub extern "C" fn ca_verdicts(states: u8, width: u8, table: &[u8]) -> RuleVerdicts
     ensures fault { result.fault ≡ fault_code (rule_fault states width (pos 0) table.now) }
@@ -115,12 +116,13 @@ pub extern "C" fn ca_verdicts(states: u8, width: u8, table: &[u8]) -> RuleVerdic
 }
 
 /// Reports on the rule with these states, this width, this offset and this table: its verdicts, each with the least
-/// evidence. The weights are one for each letter; without any, each letter weighs its own value. It returns 0 and
-/// writes the report, and the letters of its words to the beginning of the buffer. A fault comes in the report, which
-/// then has no letters: the first fault of the rule, or 18 if the count of weights differs from the count of letters.
+/// evidence. The list of weights has one weight for each letter. If it is empty, each letter weighs its own value.
+/// The function returns 0, writes the report, and writes the letters of the words in the report to the beginning of
+/// the buffer. If the rule has a fault, it also returns 0. Then the report has the number of the first fault and no
+/// letters. The number is 18 if the list has more or fewer weights than the rule has letters.
 ///
-/// It returns 10 and the length of the letters if the buffer is too short, and 8 and length 0 if memory runs out.
-/// With both, the report and the buffer stay as they were.
+/// It returns 10 and the length of the letters if the buffer is too short, and 8 and length 0 if memory runs out. In
+/// both cases, the report and the buffer stay as they were.
 #[unsafe(no_mangle)]
 pub extern "C" fn ca_report(
     alloc: Global,
@@ -153,9 +155,11 @@ pub extern "C" fn ca_report(
 }
 
 /// Writes letters of the image of a configuration under the rule with these states, this width, this offset and this
-/// table: as many as the buffer has room for, from place `first` on. The middle of the configuration begins at place
-/// 0. It returns 0, or the number of the first fault and leaves the buffer as it was: a fault of the rule, 19 if a
-/// period is empty, 20 if a letter isn't below the states, or 21 if a place is out of reach. It takes no memory.
+/// table. It writes as many letters as the buffer has room for, and begins with the letter at place `first`. The
+/// middle of the configuration begins at place 0. It returns 0, or the number of the first fault. After a fault the
+/// buffer stays as it was. The number is that of a fault of the rule, 19 if a period is empty, 20 if a letter isn't
+/// below the number of states, or 21 if `first` is more than 2^61 away from place 0 or the buffer has room for more
+/// than 2^61 letters. It takes no memory.
 #[unsafe(no_mangle)]
 pub extern "C" fn ca_image(
     states: u8,
@@ -181,10 +185,10 @@ pub extern "C" fn ca_image(
     }
 }
 
-/// Writes the verdicts of rules with consecutive numbers, for rules with these states, this width and offset 0: one
-/// byte for each rule. The first number is `first_high` times 2^64 plus `first_low`. A byte is the sum of 1 for
-/// surjective, 2 for injective, 4 for right, 8 for left, 16 for open and 32 for conserving. It returns 0, or the
-/// number of the first fault and leaves the bytes as they were. It takes no memory.
+/// Writes the verdicts of rules with consecutive numbers, one byte for each rule. The rules have these states, this
+/// width and offset 0. The number of the first rule is `first_high` times 2^64 plus `first_low`. A byte is the sum of
+/// 1 for surjective, 2 for injective, 4 for right-closing, 8 for left-closing, 16 for open and 32 for conserving. It
+/// returns 0, or the number of the first fault. After a fault the bytes stay as they were. It takes no memory.
 #[unsafe(no_mangle)]
 pub extern "C" fn ca_verdict_bytes(
     states: u8,
@@ -206,9 +210,9 @@ pub extern "C" fn ca_verdict_bytes(
     }
 }
 
-/// Writes the order of windows in which a search soon finds the rules with a property, whose number is its bit in a
-/// byte of verdicts. It returns 0, or the number of the first fault and leaves the bytes as they were. It takes no
-/// memory.
+/// Writes an order of the windows of a shape in which a search soon finds the rules with a property. A property has
+/// the number of its bit in a byte of [`ca_verdict_bytes`]. It returns 0, or the number of the first fault. After a
+/// fault the bytes stay as they were. It takes no memory.
 #[unsafe(no_mangle)]
 pub extern "C" fn ca_window_order(property: u8, states: u8, width: u8, order: &mut [u8]) -> u8
     ensures { IsWindowOrder property states width order.old result order.new }
@@ -227,11 +231,12 @@ pub extern "C" fn ca_window_order(property: u8, states: u8, width: u8, order: &m
     FOUND
 }
 
-/// Finds the next rule of a shape that has a property. Among the rules whose first letters are those of `begin`, it
-/// takes the one whose table has the least rank in this order of windows. If `after` isn't 0 the rank must also be
-/// greater than that of the table before. A letter of `begin` that isn't below the states leaves its window open. It
-/// returns 0 and writes the table of the rule; otherwise it leaves the table as it was and returns 13 if no rule is
-/// left, or the number of the first fault. It takes no memory.
+/// Finds the next rule of a shape that has a property, and writes its table. The rank of a table is the number whose
+/// digits are its letters in this order of windows. The function takes the table of least rank whose first letters
+/// are the letters of `begin`. A letter of `begin` that isn't below the number of states stands for any letter. If
+/// `after` isn't 0, the rank must also be greater than the rank of the table in `table`. It returns 0, or 13 if no
+/// rule is left, or the number of the first fault. Unless it returns 0, the table stays as it was. It takes no
+/// memory.
 #[unsafe(no_mangle)]
 pub extern "C" fn ca_next_rule(
     property: u8,
@@ -266,9 +271,9 @@ pub extern "C" fn ca_next_rule(
     }
 }
 
-/// Writes a basis of the sums of weights of words of length `range` that the rule keeps, for the rule with these
-/// states, this width, offset 0 and this table. It returns 0, or the number of the first fault and leaves `sums` as
-/// it was. It takes no memory.
+/// Finds all sums of weights of words of length `range` that the rule with these states, this width, offset 0 and
+/// this table keeps, and writes a basis of them. It returns 0, or the number of the first fault. After a fault `sums`
+/// stays as it was. It takes no memory.
 #[unsafe(no_mangle)]
 pub extern "C" fn ca_kept_sums(
     states: u8,
@@ -294,10 +299,11 @@ pub extern "C" fn ca_kept_sums(
 }
 
 /// Writes the flux of weights of words of length `range`, for the rule with these states, this width, offset 0 and
-/// this table. The flux has a number for each word of width + range - 2 letters, in the order of their values; zeros
-/// follow, and the word of letters 0 has 0. Only the weights of words are read. It returns 0, or the number of the
-/// first fault and leaves `numbers` as it was: a fault of the rule or of the range, 16 if a weight lies outside -2^56
-/// to 2^56, or 17 if the rule doesn't keep the sum. It takes no memory.
+/// this table. The flux has a number for each word of width + range - 2 letters, in the order of their values, and
+/// zeros after these numbers. The number for the word of zeros is 0. Of `weights`, only the weights of words are
+/// read. It returns 0, or the number of the first fault. After a fault `numbers` stays as it was. The number is that
+/// of a fault of the rule or of the range, 16 if a weight lies outside -2^56 to 2^56, or 17 if the rule doesn't keep
+/// the sum. It takes no memory.
 #[unsafe(no_mangle)]
 pub extern "C" fn ca_flux(
     states: u8,
@@ -330,7 +336,7 @@ pub extern "C" fn ca_flux(
     }
 }
 
-/// Returns the weights of the words of length `range`, and zeros after them.
+/// Returns the weights of the words of length `range`, followed by zeros.
 fn first_weights(states: u8, range: u8, weights: &Row) -> Row
     requires { states ^ range ≤ 16 }
     ensures { result ≡ first_weights (states ^ range) weights.now }

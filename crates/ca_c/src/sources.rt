@@ -1,17 +1,17 @@
-//! A source over borrowed bytes.
+//! The source `SliceSource`, which reads from borrowed bytes.
 ghost use Rattle.std.specs.Prelude.{◌≡◌, Some};
 
 use ca_io::{Failed, Source};
 
-/// Borrowed bytes, read from the first one on. No read fails.
+/// A source over borrowed bytes, which are read from the first one to the last one. No read fails.
 #[derive(Drop)]
 pub struct SliceSource<'a> {
-    // The bytes that are left.
+    // The bytes that haven't been read yet.
     rest: &'a [u8],
 }
 
 impl<'a> SliceSource<'a> {
-    /// Returns a source of these bytes.
+    /// Makes a source of these bytes.
     pub fn new(bytes: &'a [u8]) -> SliceSource<'a>
         ensures { result.rest.now ≡ bytes.now }
     {
@@ -24,7 +24,7 @@ impl Source for SliceSource<'_> {
 
     ghost faults = { λ _. 0 };
 
-    /// Reads as many bytes as `buf` has places for and as are left.
+    /// Reads as many bytes as `buf` has places and as are left, and returns how many they are.
     fn read(&mut self, buf: &mut [u8]) -> Result<usize, Failed> {
         let n = buf.len().min(self.rest.len());
         buf[..n].copy_from_slice(&self.rest[..n]);

@@ -1,4 +1,5 @@
-//! The answer, which is whole in memory before anything is written.
+//! The status and the output with which the program answers its words. Both are in memory as a whole before the first
+//! write.
 ghost use Rattle.std.specs.Prelude.{◌≡◌, IfOk, map, string_bytes};
 ghost use Rattle.ca_commands.specs.Commands.{IsCommand, check_command};
 ghost use Rattle.ca_cli.specs.Readings.{IsReadFor, Reading};
@@ -11,15 +12,15 @@ use ca_io::{InputFault, Source};
 use ca_text::{Output, reply_text};
 use std::alloc::Global;
 
-/// What the program answers to its words: a status, and the output that belongs to it.
+/// The answer of the program to its words: a status, and the output that belongs to this status.
 #[derive(Debug, Drop)]
 pub struct Answer {
     pub status: Status,
     pub output: Output,
 }
 
-/// The answer to these words and to what the source has left. There is none where a read failed, or
-/// there was no memory.
+/// Returns the answer to these words and to the bytes that the source has left. Returns an error if a read fails, or
+/// if there is no memory.
 pub fn answer_to<S: Source>(
     alloc: Global,
     words: &[String],

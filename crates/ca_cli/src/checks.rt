@@ -1,4 +1,4 @@
-//! The command that judges a certificate.
+//! The command `check`, which judges a certificate.
 ghost use Rattle.std.specs.Prelude.{◌≡◌, ◌≢◌, alloc_error, IfOk, MatchResult};
 ghost use Rattle.ca_commands.specs.declared.names.Name.TheVariants as name;
 ghost use Rattle.ca_commands.specs.Commands.{Command};
@@ -14,11 +14,12 @@ use cert_check::judge;
 use cert_conditions::Refusal;
 use std::alloc::Global;
 
-/// The longest input that is judged.
+/// The greatest number of bytes of an input that is judged.
 const LONGEST_INPUT: usize = 4_194_304;
 
-/// `check`: whether the input is a certificate that is accepted, with its verdicts. No more of it is read than
-/// shows that it is too long.
+/// Returns the reply of the command `check`: the verdicts of the certificate in the input, the reason why the judge
+/// refuses the input, or that the input is too long. If the input is too long, it reads only one byte more than the
+/// judge accepts. Returns an error if a read fails, or if there is no memory.
 pub fn check<S: Source>(alloc: Global, source: &mut S) -> Result<Reply, InputFault>
     ensures reply { IfOk result (λ reply. (c : Command) → c.name ≡ name.Check → IsReply (S.left source.old) c (reply_of reply)) }
     ensures read { IfOk result (λ reply. IsReadFor (reply_status (reply_of reply)) (S.left source.old) (S.left source.new)) }
@@ -35,7 +36,7 @@ pub fn check<S: Source>(alloc: Global, source: &mut S) -> Result<Reply, InputFau
     }
 }
 
-/// What is said of an input that is refused. Want of memory is no refusal.
+/// Returns the reply for an input that the judge refuses. If the refusal is lack of memory, returns it as the error.
 fn refused(refusal: Refusal) -> Result<Reply, InputFault>
     ensures { MatchResult result
         (λ reply. (reply ≡ said.Refused refusal) × (refusal ≢ Refusal.Memory alloc_error))

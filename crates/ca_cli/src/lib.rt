@@ -1,23 +1,33 @@
-//! The program without its `main`: its answer to the words of a command line.
+//! The program without its `main`: it answers the words of a command line.
 //!
-//! A command is a name, texts of rules and other operands. An answer is a [`Status`], which says how the program ended,
-//! and an output, which are the bytes for the sink. Only the command `check` reads the source: the whole input, or one
-//! byte more than the judge accepts. [`run`] takes five steps from the words to the bytes:
+//! A *command* is a name, texts of rules and other operands. A *reply* is what the program has to say about the
+//! words, as a value. An *answer* is a [`Status`], which says how the program ended, and an output, which is the list
+//! of bytes for the sink. For example, the words `orphan` and `90` have the reply that there is no orphan. Their
+//! answer is the status `Done` and the output `surjective yes` with a line end.
 //!
-//! 1. `question` of ca_commands reads the words into a question, and each operand once. Or the words are no command, or an
-//!    operand isn't the text of a rule, or the parts of a configuration don't fit.
-//! 2. `answer` of ca_answering finds the answer to the question, or the cause why nothing fits. Only `check` reads the
-//!    source: it passes the input to the judge.
-//! 3. [`reply`] returns either as a value, for callers who want another form than the text.
+//! [`run`] takes five steps from the words to the bytes:
+//!
+//! 1. `question` of ca_commands reads the words into a question. It fails if the words are no command, if an operand
+//!   isn't the text of a rule, or if the parts of a configuration don't fit.
+//! 2. `answer` of ca_answering finds the answer to the question, or the cause why nothing fits. The command `check`
+//!   asks no question: it reads the whole input from the source, or one byte more than the judge accepts, and passes
+//!   it to the judge. No other command reads the source.
+//! 3. [`reply`] returns the result as a value, for callers who want another form than the text.
 //! 4. The text of the reply is written into memory as a whole.
 //! 5. The text goes to the sink. If a write fails, a sink that tells its bytes has taken a part of the text, but not
-//!    all of it.
+//!   all of it.
 //!
-//! The contract of [`run`] cites one relation, `IsAnswer` of specs/RightAnswers.antt: which status and
-//! which output are right for the words and for what the source had left. [`one_status`],
-//! [`usage_exactly`], [`rule_fault_exactly`], [`right_exactly`] and [`done_or_not_fit`] are its laws, for all
-//! commands together; [`check_exactly`] is that of `check`, and [`certified_is_accepted`] joins it and `certify`. What is
-//! right can be written ([`right_replies_are_writable`]). By them:
+//! The definition `IsAnswer` of specs/RightAnswers.antt says which status and which output are right for the words
+//! and for the bytes that the source has left. The contract of [`run`] is about this definition. These laws follow
+//! from the definition:
+//!
+//! - [`one_status`], [`usage_exactly`], [`rule_fault_exactly`], [`right_exactly`] and [`done_or_not_fit`] say for all
+//!   commands which status and output are right.
+//! - [`check_exactly`] says it for the command `check`.
+//! - [`certified_is_accepted`] says that `check` accepts what `certify` writes.
+//! - [`right_replies_are_writable`] says that each right reply has a text.
+//!
+//! By these laws:
 //!
 //! | Words | Status | Code | Output |
 //! |---|---|---|---|
@@ -42,11 +52,13 @@
 //! | `check`, of no input | Refused | 1 | `refused format notjson` |
 //! | `check`, of 4,194,305 bytes | TooLong | 5 | `too long` |
 //!
-//! A report has eight lines, a summary and the verdicts of a certificate have seven, and an eighth where
-//! a letter doesn't weigh its own value, an inverse has four, the automaton of a language has two and one
-//! for each class, a certificate is a text without a line end, and every other output has one line. A
-//! call takes the time and the memory of its deciders, and besides **O(n)** of both for n bytes of words,
-//! input and output.
+//! A report has eight lines. A summary of rules has seven lines, and an eighth line if classes are counted. The
+//! verdicts of a certificate have seven lines, and an eighth line if a letter doesn't weigh its own value. An inverse
+//! has four lines. The automaton of a language has two lines, and one more for each class. A certificate is a text
+//! without a line end. Every other output has one line.
+//!
+//! A call takes the time and the memory of its deciders. For n bytes of words, input and output it takes **O(n)**
+//! more time and memory.
 #![tactic(auto)]
 
 mod answers;

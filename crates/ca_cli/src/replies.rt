@@ -1,4 +1,4 @@
-//! From words to a reply as a value.
+//! The function `reply`, which returns the reply to words as a value.
 ghost use Rattle.std.specs.Prelude.{◌≡◌, ℕ, List, Option, IfOk, map, string_bytes};
 ghost use Rattle.ca_commands.specs.Commands.{IsCommand, check_command};
 ghost use Rattle.ca_questions.specs.Values.{reply_of};
@@ -41,7 +41,8 @@ pub fn reply<S: Source>(
     Ok(said(found)?)
 }
 
-/// Returns the reply for a finding or for the reason why there is none. Lack of memory is no reply.
+/// Returns the reply for a finding, or for the reason why nothing was found. If this reason is lack of memory,
+/// returns it as the error.
 fn said(found: Result<Found, Stop>) -> Result<Reply, AllocError>
     ensures { (words : List (List ℕ)) (input : Option (List ℕ)) → IsOutcome words found →
         IfOk result (λ reply. IsReplyTo words input (reply_of reply)) }

@@ -8,9 +8,9 @@ use ca_questions::Reply;
 /// The status with which the program ends.
 #[derive(Clone, Copy, Debug, PartialEq, Eq)]
 pub enum Status {
-    /// The command was carried out, and its output was written as a whole.
+    /// The command was carried out, and the sink took its whole output.
     Done,
-    /// The judge refuses the input.
+    /// The judge refuses the input of `check`.
     Refused,
     /// The words are no command.
     Usage,
@@ -18,18 +18,18 @@ pub enum Status {
     RuleFault,
     /// Nothing fits the question that the words ask.
     NotFit,
-    /// The input is longer than the judge accepts.
+    /// The input of `check` is longer than the judge accepts.
     TooLong,
-    /// A read of the input failed.
+    /// A read of the source failed.
     ReadFault,
-    /// A write of the output failed.
+    /// A write to the sink failed.
     WriteFault,
     /// There was no memory.
     Memory,
 }
 
 impl Status {
-    /// Returns the status of a reply.
+    /// Returns the status of the answer that has this reply.
     pub fn of(reply: &Reply) -> Status
         ensures { result ≡ reply_status (reply_of reply.now) }
     {
@@ -43,7 +43,7 @@ impl Status {
         }
     }
 
-    /// Returns the exit status of the program.
+    /// Returns the exit code for this status.
     pub fn code(&self) -> u8
         ensures { result ≡ code_of self.now }
     {

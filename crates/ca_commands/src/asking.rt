@@ -1,4 +1,5 @@
-//! From words to the question that they ask: each operand is read once.
+//! The function `question`, which reads the words of a command line into the question that they ask. It reads each
+//! operand once.
 ghost use Rattle.std.specs.Prelude.{◌≡◌, ◌≢◌, ◌∷◌, ◌↔◌, [], ℕ, IsTrue, List, length, map, string_bytes, MatchOption, MatchResult};
 ghost use Rattle.rule_text.specs.RuleTexts.{IsRuleText};
 ghost use Rattle.ca_commands.specs.declared.names.Name.TheVariants as names;
@@ -26,9 +27,9 @@ pub fn is_check(words: &[String]) -> bool
     }
 }
 
-/// Returns the question that words other than `check` ask. Returns `Usage` if they are no command, then `RuleFault` for
-/// the first rule whose text has a fault, then `Unfit` if the parts of a configuration don't fit the rule. The only
-/// other error is lack of memory, for a configuration.
+/// Returns the question that words other than `check` ask. Returns `Usage` if they are no command. Otherwise returns
+/// `RuleFault` for the first rule whose text has a fault. Otherwise returns `Unfit` if the parts of a configuration
+/// don't fit the rule. The only other error is lack of memory, for a configuration.
 pub fn question(alloc: Global, words: &[String]) -> Result<Question, Stop>
     requires { ¬ IsCommand (map string_bytes words.now) check_command }
     ensures { MatchResult result (IsAskedBy (map string_bytes words.now)) (IsStop (map string_bytes words.now)) }
@@ -42,7 +43,7 @@ pub fn question(alloc: Global, words: &[String]) -> Result<Question, Stop>
     }
 }
 
-/// Returns the question that the words after a name ask.
+/// Returns the question that the words after this name ask, or the reason why they ask none.
 #[tactic(auto, using(crate::proofs::laws::Asking::asking))]
 fn named_question(alloc: Global, name: Name, rest: &[String]) -> Result<Question, Stop>
     requires { name ≡ names.Check → rest.now ≢ [] }
@@ -90,7 +91,7 @@ fn named_question(alloc: Global, name: Name, rest: &[String]) -> Result<Question
     }
 }
 
-/// Reads a rule.
+/// Reads the only word after a name as the text of a rule. Returns `Usage` if there isn't exactly one word.
 fn one_rule(name: Name, rest: &[String]) -> Result<Rule, Stop>
     requires one { rule_count name ≡ 1 }
     requires none { form_of name ≡ Form.Nothing }
@@ -104,7 +105,8 @@ fn one_rule(name: Name, rest: &[String]) -> Result<Rule, Stop>
     }
 }
 
-/// Reads two rules, and returns the first fault.
+/// Reads the two words after a name as the texts of two rules. If both texts have faults, returns the fault of the
+/// first one.
 fn two_rules(name: Name, rest: &[String]) -> Result<(Rule, Rule), Stop>
     requires two { rule_count name ≡ 2 }
     requires none { form_of name ≡ Form.Nothing }
@@ -120,7 +122,7 @@ fn two_rules(name: Name, rest: &[String]) -> Result<(Rule, Rule), Stop>
     Ok((first, second))
 }
 
-/// Reads a rule, and weights if there is a second word.
+/// Reads the first word after a name as the text of a rule, and the second word, if any, as weights.
 fn rule_and_weights(name: Name, rest: &[String]) -> Result<(Rule, Option<ShortList>), Stop>
     requires one { rule_count name ≡ 1 }
     requires weights { form_of name ≡ Form.Weights }
@@ -141,7 +143,7 @@ fn rule_and_weights(name: Name, rest: &[String]) -> Result<(Rule, Option<ShortLi
     Ok((rule, Some(list)))
 }
 
-/// Reads `shift R N`.
+/// Reads the words after `shift`: a rule R and a number N of cells.
 fn shift(rest: &[String]) -> Result<Question, Stop>
     ensures { MatchResult result (IsAskedBy (word_of names.Shift ∷ map string_bytes rest.now)) (IsStop (word_of names.Shift ∷ map string_bytes rest.now)) }
 {
@@ -155,7 +157,7 @@ fn shift(rest: &[String]) -> Result<Question, Stop>
     Ok(Question::Shift(rule, by))
 }
 
-/// Reads `widen R M`.
+/// Reads the words after `widen`: a rule R and a width M.
 fn widen(rest: &[String]) -> Result<Question, Stop>
     ensures { MatchResult result (IsAskedBy (word_of names.Widen ∷ map string_bytes rest.now)) (IsStop (word_of names.Widen ∷ map string_bytes rest.now)) }
 {
@@ -169,7 +171,7 @@ fn widen(rest: &[String]) -> Result<Question, Stop>
     Ok(Question::Widen(rule, width))
 }
 
-/// Reads `permute R DIGITS`.
+/// Reads the words after `permute`: a rule R, and a digit for the new name of each letter.
 fn permute(rest: &[String]) -> Result<Question, Stop>
     ensures { MatchResult result (IsAskedBy (word_of names.Permute ∷ map string_bytes rest.now)) (IsStop (word_of names.Permute ∷ map string_bytes rest.now)) }
 {
@@ -183,7 +185,7 @@ fn permute(rest: &[String]) -> Result<Question, Stop>
     Ok(Question::Permute(rule, letters))
 }
 
-/// Reads `preimage R TAIL`.
+/// Reads the words after `preimage`: a rule R and the text of a configuration with periodic tails.
 fn preimage(alloc: Global, rest: &[String]) -> Result<Question, Stop>
     ensures { MatchResult result (IsAskedBy (word_of names.Preimage ∷ map string_bytes rest.now)) (IsStop (word_of names.Preimage ∷ map string_bytes rest.now)) }
 {
@@ -202,7 +204,8 @@ fn preimage(alloc: Global, rest: &[String]) -> Result<Question, Stop>
     }
 }
 
-/// Reads the numbers of many rules. A fault of their shape counts as one of operand 1.
+/// Reads the words of a command about rules with consecutive numbers: states, width, first number and count. A fault
+/// of the states, of the width or of the last number is reported as the fault of operand 1.
 fn numbered(rest: &[String]) -> Result<Numbered, Stop>
     ensures { (n : Name) → rule_count n ≡ 0 → form_of n ≡ Form.Numbers → MatchResult result
         (AreNumberedBy n (map string_bytes rest.now))
@@ -225,7 +228,8 @@ fn numbered(rest: &[String]) -> Result<Numbered, Stop>
     }
 }
 
-/// Reads `sample K M SEED COUNT`. A fault of the shape counts as one of operand 1.
+/// Reads the words after `sample`: states, width, seed and count. A fault of the states or of the width is reported
+/// as the fault of operand 1.
 fn drawn(rest: &[String]) -> Result<Drawn, Stop>
     ensures { MatchResult result
         (AreDrawnBy (map string_bytes rest.now))
@@ -248,14 +252,14 @@ fn drawn(rest: &[String]) -> Result<Drawn, Stop>
     }
 }
 
-/// Reads the rule whose text is the operand with this number.
+/// Reads the rule with this text, which is the operand with this number.
 fn rule_operand(number: u8, text: &[u8]) -> Result<Rule, Stop>
     ensures { MatchResult result (IsRuleText text.now) (IsRuleFault number text.now) }
 {
     rule_text::parse(text).map_err(|fault| Stop::RuleFault(number, fault))
 }
 
-/// Returns the word if there is exactly one.
+/// Returns the word of the list if the list has exactly one word.
 fn one(words: &[String]) -> Option<&[u8]>
     ensures { MatchOption result (length words.now ≢ 1) (λ text. map string_bytes words.now ≡ text.now ∷ []) }
 {
@@ -265,7 +269,7 @@ fn one(words: &[String]) -> Option<&[u8]>
     }
 }
 
-/// Returns the words if there are exactly two.
+/// Returns the words of the list if the list has exactly two words.
 fn two(words: &[String]) -> Option<(&[u8], &[u8])>
     ensures { MatchOption result (length words.now ≢ 2) (λ texts. map string_bytes words.now ≡ texts.0.now ∷ texts.1.now ∷ []) }
 {
@@ -275,7 +279,7 @@ fn two(words: &[String]) -> Option<(&[u8], &[u8])>
     }
 }
 
-/// Returns the words if there are exactly four.
+/// Returns the words of the list if the list has exactly four words.
 fn four(words: &[String]) -> Option<(&[u8], &[u8], &[u8], &[u8])>
     ensures { MatchOption result (length words.now ≢ 4) (λ texts. map string_bytes words.now ≡ texts.0.now ∷ texts.1.now ∷ texts.2.now ∷ texts.3.now ∷ []) }
 {

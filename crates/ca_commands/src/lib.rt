@@ -1,7 +1,9 @@
 //! From the words of a command line to the question that they ask.
 //!
-//! A **command** is a [`Name`], one word for each of its **rules**, and after these its **operands**. `IsCommand` of
-//! specs/Commands.antt defines which words are one. There a rule may be any word.
+//! A **command** is a [`Name`], one word for each of its **rules**, and after these words its **operands**. The name
+//! determines the number of rules and the **form** of the operands. For example, the form `Weights` allows a list of
+//! weights or no operand. `IsCommand` of specs/Commands.antt defines which words are a command. By this definition a
+//! rule may be any word.
 //!
 //! | Words | Name | Rules | Operands | Form |
 //! |---|---|---|---|---|
@@ -13,12 +15,19 @@
 //! | `survey 2 3 0 256` | `Survey` | | `2`, `3`, `0`, `256` | `Numbers` |
 //! | `check` | `Check` | | | `Nothing` |
 //!
-//! `110`, `orphan`, `orphan 110 90` and `shift 110 x` are no commands. No words are two commands.
+//! The words `110`, `orphan`, `orphan 110 90` and `shift 110 x` are no commands. No words are two commands.
 //!
-//! [`question`] reads each operand once, into a value. It tests the forms of all operands first: if the words are no
-//! command, it returns `Usage`. Then it reads the rules, from left to right: `compose 90 x` gives `RuleFault`, with the
-//! number of the operand and the fault of its text. A configuration that a rule can't have is `Unfit`. A call takes
-//! **O(n)** time for n bytes of words. Only the configuration of `preimage` needs memory.
+//! An *erasable pair* is two different words of the same length with the same image, the same first m - 1 letters and
+//! the same last m - 1 letters. So each of them can replace the other in any configuration without a change of the
+//! image. The *class* of a rule has the rules at offset 0 with its table or the table of its mirrored rule, with new
+//! names for the letters. The *second-order lift* of a rule is a reversible rule whose letters are pairs of its
+//! letters (crate rule_classes).
+//!
+//! [`question`] reads each operand once, into a value. It first tests the forms of all operands. If the words are no
+//! command, it returns `Usage`. Then it reads the rules, from left to right. For example, `compose 90 x` gives
+//! `RuleFault` with the number of the operand `x`, which is 2, and with the fault of its text. If the parts of a
+//! configuration don't fit the rule, it returns `Unfit`. A call takes **O(n)** time for n bytes of words. Only the
+//! configuration of `preimage` needs memory.
 #![tactic(auto)]
 
 mod asking;

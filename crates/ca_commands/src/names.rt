@@ -1,60 +1,61 @@
-//! The names of the commands.
+//! The names of the commands, and the words for them.
 ghost use Rattle.std.specs.Prelude.{◌≡◌, MatchOption};
 ghost use Rattle.ca_commands.specs.Commands.{word_of};
 
-/// The name of a command.
+/// The name of a command. In the descriptions of its values, R is the text of a rule.
 #[derive(Clone, Copy, Debug)]
 pub enum Name {
-    /// `decide R`, `decide R WEIGHTS`: the report.
+    /// `decide R`, `decide R WEIGHTS`: the report of the rule, which has its verdicts and the evidence for them.
     Decide,
-    /// `orphan R`: whether it is surjective, with its least orphan where it isn't.
+    /// `orphan R`: whether the rule is surjective, and its least orphan if it isn't.
     Orphan,
-    /// `number R`: its Wolfram number.
+    /// `number R`: the Wolfram number of the rule.
     Number,
-    /// `certify R`, `certify R WEIGHTS`: its certificate.
+    /// `certify R`, `certify R WEIGHTS`: the certificate of the rule, in version 2.
     Certify,
-    /// `brief R`, `brief R WEIGHTS`: its certificate of version 3.
+    /// `brief R`, `brief R WEIGHTS`: the certificate of the rule, in version 3.
     Brief,
     /// `reflect R`: the mirrored rule.
     Reflect,
-    /// `trim R`: the rule without the cells that it ignores.
+    /// `trim R`: the rule without the cells at its ends that it ignores.
     Trim,
     /// `shift R N`: the rule that reads N cells further to the right.
     Shift,
     /// `widen R M`: the rule at width M.
     Widen,
-    /// `permute R DIGITS`: the rule with other names for its letters.
+    /// `permute R DIGITS`: the rule with new names for its letters.
     Permute,
-    /// `compose R R`: the second rule after the first.
+    /// `compose R R`: the composition of two rules, the second rule after the first.
     Compose,
-    /// `least R`: the least rule of its class.
+    /// `least R`: the rule with the least Wolfram number in the class of the rule.
     Least,
-    /// `lift R`: the second-order rule of pairs of its letters.
+    /// `lift R`: the second-order lift of the rule, whose letters are pairs of letters.
     Lift,
-    /// `unlift R`: the rule that undoes it.
+    /// `unlift R`: the rule that undoes the second-order lift.
     Unlift,
-    /// `inverse R`: what gives the cells of a configuration back from its image.
+    /// `inverse R`: the inverse map of the rule, which computes the cells of a configuration from its image.
     Inverse,
-    /// `language R`: the least automaton of the words that are images.
+    /// `language R`: the least automaton of the words that have a preimage.
     Language,
-    /// `same R R`: whether the same words are images.
+    /// `same R R`: whether the same words have a preimage under both rules.
     Same,
-    /// `erase R`: the least erasable pair.
+    /// `erase R`: the least erasable pair of the rule.
     Erase,
-    /// `preimage R TAIL`: a configuration that the rule maps to this one.
+    /// `preimage R TAIL`: a configuration that the rule maps to the given configuration.
     Preimage,
-    /// `survey K M FROM COUNT`: the summary of the rules from this number on.
+    /// `survey K M FROM COUNT`: how many of COUNT rules with consecutive numbers, starting at FROM, have each
+    /// property.
     Survey,
-    /// `sample K M SEED COUNT`: the summary of the rules that a seed stands for.
+    /// `sample K M SEED COUNT`: how many of the first COUNT rules that a seed determines have each property.
     Sample,
-    /// `classes K M FROM COUNT`: the summary, and the number of classes.
+    /// `classes K M FROM COUNT`: the same counts as `survey`, and the number of classes of these rules.
     Classes,
-    /// `check`: whether the input is a certificate that is accepted.
+    /// `check`: whether the judge accepts the certificate in the input.
     Check,
 }
 
 impl Name {
-    /// Returns the name that this word is.
+    /// Returns the name whose word this is, or None if no command has this word.
     pub fn named(word: &str) -> Option<Name>
         ensures { MatchOption result
             ((n : Name) → ¬ (word_of n ≡ word.now))

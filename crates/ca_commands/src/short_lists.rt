@@ -1,4 +1,4 @@
-//! Operands that list something for each letter: its weight, or its new name.
+//! Operands with an item for each letter: the weights of the letters, or their new names.
 ghost use Rattle.std.specs.Prelude.{◌≡◌, [], ◌∷◌, position, ◌==◌, map, MatchOption};
 ghost use Rattle.word_image.specs.Digits.{letter_at};
 ghost use Rattle.ca_commands.specs.Operands.{AreColours};
@@ -8,8 +8,8 @@ use crate::operands::weight;
 use ca_questions::ShortList;
 use word_image::{MOST_STATES, letter};
 
-/// Returns the weights that a text lists: from 1 to 16 numbers with one comma between, each of one to three decimal
-/// digits and at most 255.
+/// Reads a list of weights: from 1 to 16 numbers with one comma between two of them. Each number has one to three
+/// decimal digits and is at most 255.
 pub fn weights(text: &[u8]) -> Option<ShortList>
     ensures { MatchOption result (¬ AreWeightTexts text.now)
         (λ list. AreWeightTexts text.now × (list ≡ weights_said text.now)) }
@@ -27,7 +27,7 @@ pub fn weights(text: &[u8]) -> Option<ShortList>
     None
 }
 
-/// Returns the letters that a text lists: from 1 to 16 hexadecimal digits.
+/// Reads the new names of letters: from 1 to 16 hexadecimal digits.
 pub fn colours(text: &[u8]) -> Option<ShortList>
     ensures { MatchOption result (¬ AreColours text.now)
         (λ list. AreColours text.now × (list ≡ map letter_at text.now)) }
@@ -42,7 +42,7 @@ pub fn colours(text: &[u8]) -> Option<ShortList>
     Some(list)
 }
 
-/// Returns the first piece of a text and what stands behind its comma, or None if there is no comma.
+/// Returns the bytes before the first comma of a text and the bytes after it, or None if there is no comma.
 fn cut(text: &[u8]) -> Option<(&[u8], &[u8])>
     ensures { MatchOption result
         (pieces text.now ≡ text.now ∷ [])
@@ -54,7 +54,7 @@ fn cut(text: &[u8]) -> Option<(&[u8], &[u8])>
     }
 }
 
-/// Returns the place of the first comma.
+/// Returns the place of the first comma of a text, or None if there is none.
 fn comma(text: &[u8]) -> Option<usize>
     ensures { result ≡ position (λ b. b == 44) text.now }
 {

@@ -1,4 +1,4 @@
-//! Reads a whole input, up to a limit.
+//! The function `read_up_to`, which reads a whole input up to a limit.
 ghost use Rattle.std.specs.Prelude.{◌≡◌, ◌≢◌, ◌<◌, ◌≤◌, ℕ, List, length, vec_len, is_some, IfOk, OnErr};
 ghost use Rattle.std.specs.Io.KnownBytes.{Consumes, IsAtEnd};
 ghost use Rattle.ca_io.specs.Faults.{Rose};
@@ -6,13 +6,13 @@ ghost use Rattle.ca_io.specs.Faults.{Rose};
 use crate::sources::{Failed, Source};
 use std::alloc::{AllocError, Global};
 
-/// The greatest number of bytes that one read asks for.
+/// The greatest number of bytes that a read asks for at once.
 const LONGEST_PIECE: usize = 4096;
 
-/// Why an input couldn't be read as a whole.
+/// Why an input couldn't be read.
 #[derive(Clone, Copy, Debug, PartialEq, Eq)]
 pub enum InputFault {
-    /// A read failed.
+    /// A read of the source failed.
     Failed,
     /// There is not enough memory.
     Memory(AllocError),
@@ -40,8 +40,8 @@ impl From<AllocError> for InputFault {
     }
 }
 
-/// Reads until the source ends or has given `most` bytes. If there are fewer than `most` bytes, they are the whole
-/// input. After a fault some bytes may be lost.
+/// Reads until the source ends or has given `most` bytes, and returns the bytes. If there are fewer than `most`
+/// bytes, they are the whole input. After a fault, bytes that were already read may be lost.
 pub fn read_up_to<S: Source>(
     alloc: Global,
     source: &mut S,
@@ -53,7 +53,7 @@ pub fn read_up_to<S: Source>(
     ensures part { OnErr result ((bytes : List ℕ) × (length bytes ≤ most)
         × Consumes (S.left source.old) (S.left source.new) bytes) }
 
-    // A fault is either a failed read, which the source has counted, or lack of memory.
+    // If this fails, either a read failed, which the source has counted, or there was no memory.
     ensures failed { result ≡ Err InputFault.Failed → Rose (S.faults source.old) (S.faults source.new) }
     ensures kept { result ≢ Err InputFault.Failed → S.faults source.new ≡ S.faults source.old }
     ensures telling { is_some (S.left source.new) ≡ is_some (S.left source.old) }

@@ -1,19 +1,20 @@
-//! Sources of bytes and sinks for bytes: [`Source`] and [`Sink`].
+//! Sources of bytes and sinks for bytes: the traits [`Source`] and [`Sink`], and types that have them.
 //!
-//! Some sources and sinks *tell* their bytes: contracts can name the bytes that a [`PlainSource`] or a [`MemSource`]
-//! has left, and the bytes that a [`MemSink`] has taken. A [`StdSource`] reads from a reader of std, and a
-//! [`StdSink`] writes to a writer of std; these tell no bytes. A [`NullSink`] drops its bytes and tells none.
+//! A source *tells* its bytes if contracts can name the bytes that the source has left. A sink *tells* its bytes if
+//! contracts can name the bytes that the sink has taken. A [`PlainSource`], a [`MemSource`] and a [`MemSink`] tell
+//! their bytes. A [`StdSource`] reads from a reader of std, and a [`StdSink`] writes to a writer of std. These two
+//! tell no bytes. A [`NullSink`] drops its bytes and tells none.
 //!
-//! Each counts its faults, which are the calls that failed. A call returns [`Failed`] only if it has raised this
-//! count, or if the count is at its greatest value, `2^64 - 1`. So a caller with both a source and a sink knows which
-//! of them failed. If a call of a source or a sink that tells its bytes fails, it moves no byte.
+//! Each source and each sink counts its *faults*, which are the calls that failed. A call returns [`Failed`] only if
+//! it has raised this count, or if the count is at its greatest value, `2^64 - 1`. So a caller with both a source and
+//! a sink knows which of them failed. If a call of a source or a sink that tells its bytes fails, it moves no byte.
 //!
 //! [`write_all`] writes a whole output to a sink. If it returns `Failed`, a sink that tells its bytes has taken a
 //! part of the output, but not all of it. [`read_up_to`] reads a whole input, up to a limit.
 //!
-//! For example, let a `MemSink` have room for 3 bytes, 1 in each call, and let its call 1 fail. It gets `ab`, `cd`,
-//! `ef`, `g` and `h`. It returns 1, `Failed`, 1, 1 and `Failed`, since its room is full then. It has taken `aeg` and
-//! counted two faults.
+//! For example, let a `MemSink` have room for 3 bytes, take 1 byte in each call, and fail at its call 1. The calls
+//! have the numbers 0 to 4, and write `ab`, `cd`, `ef`, `g` and `h`. They return 1, `Failed`, 1, 1 and `Failed`. The
+//! last call fails because the room is full. The sink has taken `aeg` and has counted two faults.
 //!
 //! A call takes **O(n)** time for the n bytes that it moves. A call of a `MemSink` or a `MemSource` takes **O(f)**
 //! more for its list of f failing calls. Only [`MemSink::with_room`] and [`read_up_to`] need memory.

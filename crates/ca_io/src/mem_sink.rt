@@ -1,4 +1,4 @@
-//! A sink in memory that fails at given calls.
+//! The sink `MemSink`, which keeps its bytes in memory and fails at given calls.
 ghost use Rattle.std.specs.Prelude.{◌≡◌, ◌<◌, ◌≤◌, ◌↔◌, Some, length, take, IsErr, IsTrue, IfOk, IfErr, OnErr};
 ghost use Rattle.ca_io.specs.Faults.{CountsFaults};
 ghost use Rattle.ca_io.specs.Trays.{empty_tray, next_write_fails, count_to_take, after_taking, after_fault};
@@ -8,12 +8,12 @@ use crate::sources::Failed;
 use std::alloc::{AllocError, Global};
 use std::marker::Model;
 
-/// A sink in memory. Its calls have the numbers 0, 1, 2 and so on; after the number `2^64 - 1` all calls have this
-/// number. A call fails if and only if its number is listed or the room is full. Otherwise it takes as many bytes as
-/// the piece, the greatest length of a piece and the rest of the room allow.
+/// A sink in memory. Its calls have the numbers 0, 1, 2 and so on. After the number `2^64 - 1` all calls have this
+/// number. A call fails if and only if its number is in `failing` or the room is full. Otherwise it takes the first
+/// bytes that it is given: all of them, but at most `piece` bytes and no more than there is room for.
 #[derive(Drop)]
 pub struct MemSink {
-    // How many bytes it takes in total.
+    // How many bytes the sink takes in total.
     room: usize,
     // How many bytes one call takes at most.
     piece: usize,
@@ -46,18 +46,18 @@ impl Model for MemSink {
         × (s.room ≤ vec_capacity s.taken) };
 }
 
-/// There was no memory for the room of a [`MemSink`]. The list of failing calls is returned.
+/// The error if there is no memory for the room of a [`MemSink`]. It gives the list of failing calls back.
 #[derive(Debug, Drop)]
 pub struct RoomRefusal {
     /// The allocation that failed.
     pub fault: AllocError,
-    /// The list of failing calls.
+    /// The list of failing calls, as it was given to `with_room`.
     pub failing: Vec<u64>,
 }
 
 impl MemSink {
-    /// Makes a sink that takes `room` bytes in total and at most `piece` of them, at least one, in a call. The calls
-    /// with the numbers in `failing` fail. It allocates its room here, and no write needs memory.
+    /// Makes a sink that takes `room` bytes in total, and at most `piece` bytes in a call. `piece` is at least 1. The
+    /// calls with the numbers in `failing` fail. The room is allocated here, and no write needs memory.
     pub fn with_room(
         alloc: Global,
         room: usize,
@@ -81,7 +81,7 @@ impl MemSink {
         }
     }
 
-    /// Returns the bytes taken so far.
+    /// Returns the bytes that the sink has taken so far.
     pub fn bytes(&self) -> &[u8]
         ensures { result.now ≡ self.now.taken }
     {
@@ -99,7 +99,7 @@ impl Sink for MemSink {
         ensures some { IfOk result (λ n. 1 ≤ n) }
         ensures counted { CountsFaults self.old.faults self.new.faults result }
 
-        // Besides the clauses of the trait.
+        // These clauses hold besides the clauses of the trait.
         ensures fails { IsErr result ↔ IsTrue (next_write_fails self.old) }
         ensures count { IfOk result (λ n. n ≡ count_to_take self.old (length piece.now)) }
         ensures took { IfOk result (λ n. self.new ≡ after_taking self.old (take n piece.now)) }

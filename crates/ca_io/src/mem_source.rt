@@ -1,4 +1,4 @@
-//! A source in memory that fails at given calls.
+//! The source `MemSource`, which has its bytes in memory and fails at given calls.
 ghost use Rattle.std.specs.Prelude.{◌≡◌, [], ◌++◌, ◌≤◌, ◌<◌, ◌↔◌, Some, length, take, drop, IsErr, IsTrue, IfOk, OnErr};
 ghost use Rattle.std.specs.Io.{ReadsAtMost};
 ghost use Rattle.std.specs.Io.KnownBytes.{ReadConsumes};
@@ -9,9 +9,9 @@ use crate::plain_source::PlainSource;
 use crate::sources::{Failed, Source};
 use std::marker::Model;
 
-/// A source in memory. Its calls have the numbers 0, 1, 2 and so on; after the number `2^64 - 1` all calls have this
-/// number. A call fails if and only if its number is listed. Otherwise it gives as many bytes as the buffer, the
-/// greatest length of a piece and the bytes that are left allow.
+/// A source in memory. Its calls have the numbers 0, 1, 2 and so on. After the number `2^64 - 1` all calls have this
+/// number. A call fails if and only if its number is in `failing`. Otherwise it gives the next bytes: at most `piece`
+/// bytes, no more than the buffer has places for, and no more than are left.
 #[derive(Drop)]
 pub struct MemSource {
     // The bytes that are left.
@@ -44,8 +44,8 @@ impl Model for MemSource {
 }
 
 impl MemSource {
-    /// Makes a source of these bytes that gives at most `piece` of them, at least one, in a call. The calls with the
-    /// numbers in `failing` fail.
+    /// Makes a source of these bytes that gives at most `piece` bytes in a call. `piece` is at least 1. The calls
+    /// with the numbers in `failing` fail.
     pub fn new(bytes: Vec<u8>, piece: usize, failing: Vec<u64>) -> MemSource
         requires { 1 ≤ piece }
         ensures { result ≡ whole_feed bytes.items piece failing.items }
@@ -72,7 +72,7 @@ impl Source for MemSource {
         ensures end { IfOk result (λ n. (n ≡ 0) ↔ (self.old.left ≡ [])) }
         ensures counted { CountsFaults self.old.faults self.new.faults result }
 
-        // Besides the clauses of the trait.
+        // These clauses hold besides the clauses of the trait.
         ensures fails { IsErr result ↔ IsTrue (next_read_fails self.old) }
         ensures count { IfOk result (λ n. n ≡ count_to_give self.old (length buf.old)) }
         ensures gave { IfOk result (λ n. buf.new ≡ take n self.old.left ++ drop n buf.old) }

@@ -1,10 +1,10 @@
-//! A sink that drops its bytes.
+//! The sink `NullSink`, which drops its bytes.
 ghost use Rattle.std.specs.Prelude.{◌≡◌, ◌<◌, None, Ok, length};
 
 use crate::sinks::Sink;
 use crate::sources::Failed;
 
-/// Takes each piece as a whole, never fails, and tells no bytes.
+/// A sink that takes each piece as a whole, drops it, and never fails. It tells no bytes.
 #[derive(Clone, Copy, Debug, Default)]
 pub struct NullSink;
 
@@ -20,7 +20,7 @@ impl Sink for NullSink {
 
     ghost faults = { λ _. 0 };
 
-    /// Takes the whole piece.
+    /// Takes the whole piece, and returns its length.
     fn write(&mut self, piece: &[u8]) -> Result<usize, Failed>
         requires { 0 < length piece.now }
         ensures { result ≡ Ok (length piece.now) }

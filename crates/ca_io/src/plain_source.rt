@@ -1,11 +1,11 @@
-//! A source of bytes in memory that never fails.
+//! The source `PlainSource`, which has its bytes in memory and never fails.
 ghost use Rattle.std.specs.Prelude.{◌≡◌, min, ◌++◌, Some, length, take, drop};
 
 use crate::sources::{Failed, Source};
 use std::marker::Model;
 
-/// Bytes in memory, read from the first to the last. No read fails. In contracts it is the list of the bytes that are
-/// left.
+/// A source of bytes in memory, which are read from the first one to the last one. No read fails. In contracts it is
+/// the list of the bytes that are left.
 #[derive(Drop)]
 pub struct PlainSource {
     bytes: Vec<u8>,
@@ -37,7 +37,7 @@ impl Source for PlainSource {
 
     ghost faults = { λ _. 0 };
 
-    /// Gives as many bytes as `buf` has places and as are left.
+    /// Gives as many bytes as `buf` has places and as are left, and returns how many they are.
     fn read(&mut self, buf: &mut [u8]) -> Result<usize, Failed>
         ensures count { result ≡ Ok (min (length buf.old) (length self.old)) }
         ensures first { let n = min (length buf.old) (length self.old) in

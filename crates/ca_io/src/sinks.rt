@@ -1,4 +1,4 @@
-//! The trait of sinks, and the loop that writes a whole output.
+//! The trait `Sink`, and the function `write_all`, which writes a whole output to a sink.
 ghost use Rattle.std.specs.Prelude.{◌≡◌, ℕ, ◌<◌, ◌≤◌, List, Option, length, take, is_some, IfOk, OnOk, OnErr};
 ghost use Rattle.std.specs.Io.{WritesAtMost};
 ghost use Rattle.std.specs.Io.KnownBytes.{Appends, WriteAppends};
@@ -6,7 +6,7 @@ ghost use Rattle.ca_io.specs.Faults.{CountsFaults};
 
 use crate::sources::Failed;
 
-/// Takes bytes.
+/// A sink for bytes: something to which bytes can be written.
 pub trait Sink {
     // The bytes taken so far, if the sink tells them.
     ghost taken: { Self → Option (List ℕ) };
@@ -14,8 +14,8 @@ pub trait Sink {
     // How many writes have failed. The count stops at 2^64 - 1.
     ghost faults: { Self → ℕ };
 
-    /// Takes some of the first bytes of `piece`, which isn't empty, and returns how many. Returns `Failed` only if
-    /// this call was counted as a fault. Then a sink that tells its bytes has taken none.
+    /// Takes some of the first bytes of `piece`, which isn't empty, and returns how many it took. Returns `Failed`
+    /// only if it has counted this call as a fault. Then a sink that tells its bytes has taken none.
     fn write(&mut self, piece: &[u8]) -> Result<usize, Failed>
         requires { 0 < length piece.now }
         ensures bound { WritesAtMost result piece.now }
@@ -25,8 +25,8 @@ pub trait Sink {
         ensures counted { CountsFaults (faults self.old) (faults self.new) result };
 }
 
-/// Writes all of `bytes` in as many calls as the sink needs. An empty output needs none. If it returns `Failed`, the
-/// sink has counted the fault, and has taken a part of `bytes`, but not all.
+/// Writes all of `bytes` in as many calls of the sink as are needed. For an empty output it makes no call. If it
+/// returns `Failed`, the sink has counted the fault, and has taken a part of `bytes`, but not all of them.
 #[tactic(auto, using(crate::proofs::laws::Pieces::piece_steps))]
 pub fn write_all<T: Sink>(sink: &mut T, bytes: &[u8]) -> Result<(), Failed>
     ensures written { OnOk result (Appends (T.taken sink.old) (T.taken sink.new) bytes.now) }

@@ -1,15 +1,15 @@
-//! The trait of sources.
+//! The trait `Source`, and the error `Failed` of sources and sinks.
 ghost use Rattle.std.specs.Prelude.{◌≡◌, ◌↔◌, ℕ, ◌<◌, List, [], Option, length, is_some, IfOk, IfSome};
 ghost use Rattle.std.specs.Io.{ReadsAtMost};
 ghost use Rattle.std.specs.Io.KnownBytes.{ReadConsumes};
 ghost use Rattle.ca_io.specs.Faults.{CountsFaults};
 
-/// The error of a call that failed and was counted as a fault. A source or a sink that tells its bytes has moved none
-/// in this call.
+/// The error of a call that failed and was counted as a fault. If a source or a sink tells its bytes, it has moved no
+/// byte in this call.
 #[derive(Clone, Copy, Debug, PartialEq, Eq)]
 pub struct Failed;
 
-/// Gives bytes.
+/// A source of bytes: something from which bytes can be read.
 pub trait Source {
     // The bytes that are still to come, if the source tells them.
     ghost left: { Self → Option (List ℕ) };
@@ -17,9 +17,9 @@ pub trait Source {
     // How many reads have failed. The count stops at 2^64 - 1.
     ghost faults: { Self → ℕ };
 
-    /// Reads the next bytes into the first places of `buf`, which isn't empty, and returns how many they are: `Ok(0)`
-    /// at the end of the input. Returns `Failed` only if this call was counted as a fault. Then a source that tells
-    /// its bytes has lost none.
+    /// Reads the next bytes into the first places of `buf`, which isn't empty, and returns how many bytes it read. At
+    /// the end of the input this is 0. Returns `Failed` only if it has counted this call as a fault. Then a source
+    /// that tells its bytes has lost none.
     fn read(&mut self, buf: &mut [u8]) -> Result<usize, Failed>
         requires { 0 < length buf.old }
         ensures bound { ReadsAtMost result buf.new }

@@ -1,5 +1,5 @@
-//! A source over a reader of std, and a sink over a writer of std. They tell no bytes, since no contract can say
-//! which bytes came from outside and which arrived there.
+//! The source `StdSource` over a reader of std, and the sink `StdSink` over a writer of std. Both tell no bytes,
+//! since no contract can say which bytes came from outside and which bytes arrived there.
 ghost use Rattle.std.specs.Prelude.{◌≡◌, ℕ, ◌≤◌, None, length, take, IfOk, OnErr};
 ghost use Rattle.std.specs.Io.{ReadsAtMost, WritesAtMost};
 ghost use Rattle.std.specs.Io.KnownBytes.{Appends, ReadConsumes, WriteAppends};
@@ -10,7 +10,7 @@ use crate::sources::{Failed, Source};
 use std::io;
 use std::io::{ErrorKind, Read, Write};
 
-/// A source over a reader. Each error of the reader is a fault.
+/// A source over a reader of std. It counts each error of the reader as a fault.
 #[derive(Drop)]
 pub struct StdSource<R> {
     inner: R,
@@ -42,7 +42,7 @@ impl<R: Read> Source for StdSource<R> {
         ensures bytes { ReadConsumes None None result buf.new }
         ensures counted { CountsFaults (source_faults self.old) (source_faults self.new) result }
 
-        // Besides the clauses of the trait.
+        // These clauses hold besides the clauses of the trait.
         ensures passed_on { ReadConsumes (R.remaining (source_reader self.old))
             (R.remaining (source_reader self.new)) result buf.new }
         ensures one_more { OnErr result (source_faults self.new ≡ count_up (source_faults self.old)) }
@@ -57,8 +57,8 @@ impl<R: Read> Source for StdSource<R> {
     }
 }
 
-/// A sink over a writer that flushes each piece. Each error of the writer is a fault, and so is a write of no byte.
-/// If the flush fails, a part of the piece has reached the writer.
+/// A sink over a writer of std. It flushes the writer after each piece. It counts each error of the writer as a
+/// fault, and also a write that takes no byte. If the flush fails, a part of the piece has reached the writer.
 #[derive(Drop)]
 pub struct StdSink<W> {
     inner: W,
@@ -91,7 +91,7 @@ impl<W: Write> Sink for StdSink<W> {
         ensures bytes { WriteAppends None None result piece.now }
         ensures counted { CountsFaults (sink_faults self.old) (sink_faults self.new) result }
 
-        // Besides the clauses of the trait.
+        // These clauses hold besides the clauses of the trait.
         ensures passed_on { IfOk result (λ n. Appends (W.contents (sink_writer self.old))
             (W.contents (sink_writer self.new)) (take n piece.now)) }
         ensures part { OnErr result ((n : ℕ) × (n ≤ length piece.now)
@@ -109,7 +109,7 @@ impl<W: Write> Sink for StdSink<W> {
     }
 }
 
-/// Writes at least one byte of the piece and flushes. Returns how many bytes it wrote.
+/// Writes at least one byte of the piece to the writer, flushes the writer, and returns how many bytes it wrote.
 fn write_and_flush<W: Write>(writer: &mut W, piece: &[u8]) -> io::Result<usize>
     ensures bound { WritesAtMost result piece.now }
     ensures some { IfOk result (λ n. 1 ≤ n) }

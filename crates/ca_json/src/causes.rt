@@ -1,4 +1,4 @@
-//! Why nothing fits, and the fault of an operand.
+//! The JSON of a cause why nothing fits, and of the fault of an operand.
 ghost use Rattle.std.specs.Prelude.{◌≡◌, IfOk};
 ghost use Rattle.serde_json.specs.View.{view};
 ghost use Rattle.ca_questions.specs.Values.{unfit_of};
@@ -15,7 +15,8 @@ use serde_json::{Value, json};
 use std::alloc::{AllocError, Global};
 use tail_config::TailFault;
 
-/// Returns an object whose only key names why nothing fits.
+/// Returns an object with one key, which names the kind of the cause why nothing fits. For example, it is
+/// `{"twins":["0","1"]}`.
 pub fn unfit_value(alloc: Global, cause: &Cause) -> Result<Value, AllocError>
     requires { IsWritableUnfit (unfit_of cause.now) }
     ensures { IfOk result (λ v. view v ≡ causes.unfit_json (unfit_of cause.now)) }
@@ -35,7 +36,7 @@ pub fn unfit_value(alloc: Global, cause: &Cause) -> Result<Value, AllocError>
     }
 }
 
-/// Returns the name of the first reason why three parts make no configuration.
+/// Returns the name of the first reason why three parts don't form a configuration.
 fn tail_name(fault: TailFault) -> &'static str
     ensures { result.now ≡ causes.tail_name fault }
 {
@@ -47,7 +48,8 @@ fn tail_name(fault: TailFault) -> &'static str
     }
 }
 
-/// Returns the number of an operand, its fault, and the place of the fault if it has one.
+/// Returns the object for the fault of an operand. It has the number of the operand, the name of the fault, the place
+/// of the fault if it has one, and the status `rulefault`.
 pub fn operand_value(alloc: Global, operand: u8, fault: TextFault) -> Result<Value, AllocError>
     ensures { IfOk result (λ v. view v ≡ causes.operand_json operand (texts.fault_name fault) (texts.fault_place fault)) }
 {

@@ -1,4 +1,4 @@
-//! A report: verdicts with their evidence.
+//! The JSON of a report: the verdicts of a rule with their evidence.
 ghost use Rattle.std.specs.Prelude.{◌≡◌, IfOk};
 ghost use Rattle.serde_json.specs.View.{view};
 ghost use Rattle.cert_values.specs.Parts.{injective_of, side_of, sum_of};
@@ -19,7 +19,7 @@ use std::alloc::{AllocError, Global};
 use tail_config::Tail;
 use word_image::{Rule, Word};
 
-/// Returns the verdicts of a rule, each with its evidence.
+/// Returns the object of a report: the rule, its number, the weights, and the verdicts with their evidence.
 pub fn report_value(alloc: Global, report: &Report) -> Result<Value, AllocError>
     requires { IsWritable (Finding.Report (evidence_of report.now)) }
     ensures { IfOk result (λ v. view v ≡ report_json (evidence_of report.now)) }
@@ -46,14 +46,14 @@ pub fn report_value(alloc: Global, report: &Report) -> Result<Value, AllocError>
     Ok(Value::from(members))
 }
 
-/// Returns the Wolfram number of a rule, or null if the rule isn't elementary.
+/// Returns the Wolfram number of a rule as a string, or null if the rule has 7 states or more.
 fn number_value(alloc: Global, rule: &Rule) -> Result<Value, AllocError>
     ensures { IfOk result (λ v. view v ≡ number_or_null (number_found rule.now)) }
 {
     number_or_null(alloc, number(rule))
 }
 
-/// Returns that the rule is surjective, or that it isn't and an orphan.
+/// Returns the object that says whether the rule is surjective, with the orphan if it isn't.
 fn surjective_value(alloc: Global, orphan: &Option<Word>) -> Result<Value, AllocError>
     requires { HasDigits orphan.now }
     ensures { IfOk result (λ v. view v ≡ surjective_json orphan.now) }
@@ -67,7 +67,7 @@ fn surjective_value(alloc: Global, orphan: &Option<Word>) -> Result<Value, Alloc
     }
 }
 
-/// Returns that the rule is injective and a window, or that it isn't and twins.
+/// Returns the object that says whether the rule is injective, with a window if it is, and with twins if it isn't.
 fn injective_value(alloc: Global, found: &InjectivePart) -> Result<Value, AllocError>
     requires { HasTwinDigits (injective_of found.now) }
     ensures { IfOk result (λ v. view v ≡ injective_json (injective_of found.now)) }
@@ -81,7 +81,8 @@ fn injective_value(alloc: Global, found: &InjectivePart) -> Result<Value, AllocE
     }
 }
 
-/// Returns that the rule closes on a side and its look-ahead, or that it doesn't and a split.
+/// Returns the object that says whether the rule closes on a side, with a look-ahead if it does, and with a split if
+/// it doesn't.
 fn side_value(alloc: Global, found: &SidePart) -> Result<Value, AllocError>
     ensures { IfOk result (λ v. view v ≡ side_json (side_of found.now)) }
 {
@@ -95,7 +96,8 @@ fn side_value(alloc: Global, found: &SidePart) -> Result<Value, AllocError>
     }
 }
 
-/// Returns that the rule conserves the sum and a flux, or that it doesn't and a ring whose image has another sum.
+/// Returns the object that says whether the rule conserves the sum, with a flux if it does, and with a ring if it
+/// doesn't.
 fn conserving_value(alloc: Global, found: &SumPart) -> Result<Value, AllocError>
     requires { HasRingDigits (sum_of found.now) }
     ensures { IfOk result (λ v. view v ≡ conserving_json (sum_of found.now)) }
@@ -112,7 +114,7 @@ fn conserving_value(alloc: Global, found: &SumPart) -> Result<Value, AllocError>
     }
 }
 
-/// Returns the periods and the middle of a configuration that was accepted.
+/// Returns the object with the left period, the middle and the right period of a configuration.
 fn accepted_tail_value(alloc: Global, tail: &Tail) -> Result<Value, AllocError>
     ensures { IfOk result (λ v. view v ≡ tail_json (tail.now).config) }
 {

@@ -1,4 +1,4 @@
-//! What is found.
+//! The JSON of a finding.
 ghost use Rattle.std.specs.Prelude.{◌≡◌, codes, IfOk};
 ghost use Rattle.serde_json.specs.View.{view};
 ghost use Rattle.tail_preimage.specs.Answers.{placed_config};
@@ -16,7 +16,8 @@ use std::alloc::{AllocError, Global};
 use tail_preimage::{Placed, Pre};
 use word_image::Rule;
 
-/// Returns an object whose only key names the kind of what is found.
+/// Returns an object for a finding. For most findings its only key names the kind of the finding, for example
+/// `{"orphan":"01010"}`.
 pub fn finding_value(alloc: Global, found: &Found) -> Result<Value, AllocError>
     requires { IsWritable (finding_of found.now) }
     ensures { IfOk result (λ v. view v ≡ finding_json (finding_of found.now)) }
@@ -42,7 +43,8 @@ pub fn finding_value(alloc: Global, found: &Found) -> Result<Value, AllocError>
     }
 }
 
-/// Returns a map of windows, and the inverse rule if the map is one.
+/// Returns the object of an inverse map: its window, its offset, its letters, and the map as a rule, or null if it
+/// isn't a rule.
 fn inverse_value(alloc: Global, inverse: &Inverse) -> Result<Value, AllocError>
     ensures { IfOk result (λ v. view v ≡ inverse_json inverse.now.n inverse.now.c inverse.now.map inverse.now.rule) }
 {
@@ -56,7 +58,7 @@ fn inverse_value(alloc: Global, inverse: &Inverse) -> Result<Value, AllocError>
     })
 }
 
-/// Returns the printed rule, or null without one.
+/// Returns the text of a rule as a string, or null if there is no rule.
 fn rule_or_null(alloc: Global, rule: &Option<Rule>) -> Result<Value, AllocError>
     ensures { IfOk result (λ v. view v ≡ rule_or_null rule.now) }
 {
@@ -66,7 +68,7 @@ fn rule_or_null(alloc: Global, rule: &Option<Rule>) -> Result<Value, AllocError>
     }
 }
 
-/// Returns a list of two words, or null without them.
+/// Returns the array of two words, or null if there is no pair.
 fn pair_or_null(alloc: Global, pair: &Option<Pair>) -> Result<Value, AllocError>
     requires { HavePairDigits (pair_of pair.now) }
     ensures { IfOk result (λ v. view v ≡ pair_or_null (pair_of pair.now)) }
@@ -77,7 +79,8 @@ fn pair_or_null(alloc: Global, pair: &Option<Pair>) -> Result<Value, AllocError>
     }
 }
 
-/// Returns a preimage of a configuration, or a word in it that has none.
+/// Returns the object for a preimage of a configuration, or for the first stretch of the configuration that is an
+/// orphan.
 fn preimage_value(alloc: Global, answer: &Pre) -> Result<Value, AllocError>
     requires { IsWritable (preimage_of answer.now) }
     ensures { IfOk result (λ v. view v ≡ finding_json (preimage_of answer.now)) }
@@ -95,7 +98,7 @@ fn preimage_value(alloc: Global, answer: &Pre) -> Result<Value, AllocError>
     }
 }
 
-/// Returns where the middle of a configuration begins, and its parts.
+/// Returns the object of a placed configuration: the place at which its middle begins, and its three parts.
 fn placed_value(alloc: Global, placed: &Placed) -> Result<Value, AllocError>
     requires { HasTailDigits (placed_config placed.now).config }
     ensures { IfOk result (λ v. view v ≡ placed_json (placed_config placed.now)) }
@@ -105,7 +108,7 @@ fn placed_value(alloc: Global, placed: &Placed) -> Result<Value, AllocError>
     json!(in alloc; {"at": placed.at, "tail": tail})
 }
 
-/// Returns how many rules there are, and how many of them have each property.
+/// Returns the object of counts: how many rules there are, and how many of them have each property.
 fn counts_value(alloc: Global, counts: &Counts) -> Result<Value, AllocError>
     ensures { IfOk result (λ v. view v ≡ counts_json (counts_of counts.now)) }
 {

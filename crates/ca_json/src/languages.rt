@@ -1,4 +1,4 @@
-//! The automaton of a language.
+//! The JSON of an automaton.
 ghost use Rattle.std.specs.Prelude.{◌≡◌, ◌<◌, IfOk, map};
 ghost use Rattle.std.specs.List.{range_with_len};
 ghost use Rattle.serde_json.specs.View.{view};
@@ -12,7 +12,8 @@ use ca_questions::Automaton;
 use serde_json::{Value, json};
 use std::alloc::{AllocError, Global};
 
-/// Returns an automaton with a row for each class.
+/// Returns the object of an automaton: its number of states, its number of classes, the class of the orphans, and a
+/// row for each class.
 pub fn automaton_value(alloc: Global, automaton: &Automaton) -> Result<Value, AllocError>
     requires { HasRows (automaton_of automaton.now) }
     ensures { IfOk result (λ v. view v ≡ automaton_json (automaton_of automaton.now)) }
@@ -26,7 +27,7 @@ pub fn automaton_value(alloc: Global, automaton: &Automaton) -> Result<Value, Al
     })
 }
 
-/// Returns the rows of all classes.
+/// Returns the array with the rows of all classes.
 fn rows_value(alloc: Global, automaton: &Automaton) -> Result<Value, AllocError>
     requires { HasRows (automaton_of automaton.now) }
     ensures { IfOk result (λ v. view v
@@ -39,7 +40,7 @@ fn rows_value(alloc: Global, automaton: &Automaton) -> Result<Value, AllocError>
     Ok(Value::from(rows))
 }
 
-/// Returns the classes that follow a class, one for each letter.
+/// Returns the row of a class: the array of the classes that follow it, one for each letter.
 fn row_value(alloc: Global, automaton: &Automaton, class: u32) -> Result<Value, AllocError>
     requires rows { HasRows (automaton_of automaton.now) }
     requires class { class < automaton.now.classes }
@@ -50,7 +51,7 @@ fn row_value(alloc: Global, automaton: &Automaton, class: u32) -> Result<Value, 
     classes_value(alloc, &automaton.next[first..first + k])
 }
 
-/// Returns classes as a list of numbers.
+/// Returns numbers of classes as an array of numbers.
 fn classes_value(alloc: Global, classes: &[u16]) -> Result<Value, AllocError>
     ensures { IfOk result (λ v. view v ≡ numbers_json classes.now) }
 {

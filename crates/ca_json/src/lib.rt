@@ -1,28 +1,36 @@
-//! The JSON of a reply, for anyone who reads replies by program.
+//! The JSON of a reply, for programs that read replies.
 //!
-//! A *reply* is all that can be said to the words of a command line, and its JSON is one object without blanks, its keys
-//! in ascending order, whose key `status` says which reply it is:
+//! A *reply* is the answer to the words of a command line, as a value (crate ca_questions). Its JSON is one object
+//! without blanks, with its keys in ascending order. The key `status` says which kind of reply it is. The other keys
+//! depend on the status:
 //!
-//! | `status` | Beside it |
+//! | `status` | Other keys |
 //! |---|---|
-//! | `done` | `finding`, an object whose key says what is found, or `verdicts`, of an accepted certificate |
-//! | `notfit` | `cause`, an object whose key says why nothing fits |
-//! | `rulefault` | `operand`, its number; `fault`, its kind; `place`, where the fault has one |
-//! | `refused` | `cause`, its kind; `at`, its numbers; and what it has of `because`, `side`, `key` and `fault` |
-//! | `toolong`, `usage` | nothing |
+//! | `done` | `finding` with an object, or `verdicts` with the verdicts of an accepted certificate |
+//! | `notfit` | `cause` with an object whose key says why nothing fits |
+//! | `rulefault` | `operand` with its number, `fault` with its kind, and `place` if the fault has a place |
+//! | `refused` | `cause` with its kind, `at` with its numbers, and `because`, `side`, `key`, `fault` if they exist |
+//! | `toolong`, `usage` | no other key |
 //!
-//! A word is a string of hexadecimal digits, a rule its printed text, and a configuration an object of its `left`, `middle`
-//! and `right`. A number is a number, but a Wolfram number, which may have 128 bits, is a string of decimal digits. A kind
-//! has the name that it has in the printed lines, and a certificate is the object that its text is. To the words
-//! `orphan 2:3:-1:w90` the reply is
+//! A word is a string of hexadecimal digits. A rule is a string with its text. A configuration is an object with the
+//! keys `left`, `middle` and `right`. A number is a number of JSON, except that a Wolfram number is a string of
+//! decimal digits, since it may have 128 bits. A kind of fault has the same name as in the printed lines. A
+//! certificate is the object that its text is. The reply to the words `orphan 2:3:-1:w90` is
 //!
 //! ```text
 //! {"finding":{"orphan":null},"status":"done"}
 //! ```
 //!
-//! `json_of` of specs/Replies.antt says the object of each reply, a line for each kind, and [`reply_json`] writes it. A value
-//! of the whole is made in memory first. For a text of n bytes this takes time O(n log n), since an object is a map,
-//! and memory O(n).
+//! The evidence for a verdict has these kinds. An *orphan* is a word without a preimage. A *window* (n, c) says that
+//! n letters of an image determine the letter at place c of each preimage. *Twins* are two different words of the
+//! same length whose rings have the same image. A *look-ahead* says how many letters of the image determine the next
+//! letter of a word on a side. A *split* of a side is two different configurations that share an image and agree on
+//! the other side. A *flux* has a number for each node, and shows that each ring keeps the sum of its weights. A
+//! *ring* is a word that is read on from its end at its start.
+//!
+//! The definition `json_of` of specs/Replies.antt says which object a reply is, and [`reply_json`] writes it. The
+//! whole object is in memory before its text is made. A text of n bytes takes time O(n log n), since an object is a
+//! map, and memory O(n).
 #![tactic(auto)]
 
 mod causes;

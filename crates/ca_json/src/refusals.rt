@@ -1,4 +1,4 @@
-//! Why a certificate is refused.
+//! The JSON of a refused certificate.
 ghost use Rattle.std.specs.Prelude.{◌≡◌, IfOk, OnOk};
 ghost use Rattle.std.specs.Option.{option_map};
 ghost use Rattle.serde_json.specs.View.{view, members_view};
@@ -10,7 +10,8 @@ use cert_conditions::{Refusal, RefusalNumbers, RefusalParts};
 use serde_json::{Map, Value, json, put};
 use std::alloc::{AllocError, Global};
 
-/// Returns the parts of a refusal under their keys. Want of memory isn't a refusal, and is returned as the error.
+/// Returns the object with the words and the numbers of a refusal. If the refusal is lack of memory, returns it as
+/// the error.
 pub fn refusal_value(alloc: Global, refusal: Refusal) -> Result<Value, AllocError>
     ensures { IfOk result (λ v. view v ≡ parts_json (parts_of refusal)) }
 {
@@ -27,7 +28,7 @@ pub fn refusal_value(alloc: Global, refusal: Refusal) -> Result<Value, AllocErro
     Ok(Value::from(members))
 }
 
-/// Puts a word under its key, if there is a word.
+/// Adds the member with this key and this word to an object, or nothing if there is no word.
 fn put_named(
     alloc: Global,
     members: &mut Map<String, Value>,
@@ -44,7 +45,7 @@ fn put_named(
     Ok(())
 }
 
-/// Returns the numbers of a refusal as a list.
+/// Returns the numbers of a refusal as an array.
 fn places_value(alloc: Global, numbers: RefusalNumbers) -> Result<Value, AllocError>
     ensures { IfOk result (λ v. view v ≡ places_json numbers) }
 {

@@ -1,4 +1,4 @@
-//! From a reply to its JSON.
+//! The function `reply_json`, which returns the JSON of a reply as a text.
 ghost use Rattle.std.specs.Prelude.{◌≡◌, IfOk, string_bytes};
 ghost use Rattle.serde_json.specs.View.{view};
 ghost use Rattle.ca_questions.specs.Values.{reply_of};
@@ -14,8 +14,8 @@ use cert_format::{rule_value, weights_value};
 use serde_json::{Value, json};
 use std::alloc::{AllocError, Global};
 
-/// Returns the JSON of a reply whose words have letters below 16: one object with ascending keys and no blanks. The
-/// only error is want of memory.
+/// Returns the JSON of a reply whose words have letters below 16: one object with ascending keys and without blanks.
+/// The only error is lack of memory.
 pub fn reply_json(alloc: Global, reply: &Reply) -> Result<String, AllocError>
     requires { IsWritableReply (reply_of reply.now) }
     ensures { IfOk result (λ text. string_bytes text ≡ json_text (reply_of reply.now)) }
@@ -23,7 +23,7 @@ pub fn reply_json(alloc: Global, reply: &Reply) -> Result<String, AllocError>
     reply_value(alloc, reply)?.to_string(alloc)
 }
 
-/// Returns the object of a reply.
+/// Returns the object of a reply, with its status.
 fn reply_value(alloc: Global, reply: &Reply) -> Result<Value, AllocError>
     requires { IsWritableReply (reply_of reply.now) }
     ensures { IfOk result (λ v. view v ≡ json_of (reply_of reply.now)) }
@@ -48,7 +48,7 @@ fn reply_value(alloc: Global, reply: &Reply) -> Result<Value, AllocError>
     }
 }
 
-/// Returns the verdicts of a certificate that was accepted.
+/// Returns the object with the verdicts of an accepted certificate.
 fn verdicts_value(alloc: Global, verdicts: &Verdicts) -> Result<Value, AllocError>
     ensures { IfOk result (λ v. view v ≡ verdicts_json verdicts.now) }
 {

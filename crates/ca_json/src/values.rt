@@ -1,4 +1,4 @@
-//! Values that stand in several replies.
+//! JSON values that occur in several replies.
 ghost use Rattle.std.specs.Prelude.{◌≡◌, IfOk};
 ghost use Rattle.serde_json.specs.View.{view};
 ghost use Rattle.word_image.specs.LocalRules.{IsWord};
@@ -12,14 +12,14 @@ use serde_json::{Value, json};
 use std::alloc::{AllocError, Global};
 use word_image::Word;
 
-/// Returns an object with one key.
+/// Returns an object with one member, which has this key and this value.
 pub fn tagged(alloc: Global, key: &str, value: Value) -> Result<Value, AllocError>
     ensures { IfOk result (λ v. view v ≡ values.tagged key.now (view value)) }
 {
     json!(in alloc; {(key): value})
 }
 
-/// Returns a word as a string of hexadecimal digits, or null without one.
+/// Returns a word as a string of hexadecimal digits, or null if there is no word.
 pub fn word_or_null(alloc: Global, word: &Option<Word>) -> Result<Value, AllocError>
     requires { HasDigits word.now }
     ensures { IfOk result (λ v. view v ≡ values.word_or_null word.now) }
@@ -30,7 +30,7 @@ pub fn word_or_null(alloc: Global, word: &Option<Word>) -> Result<Value, AllocEr
     }
 }
 
-/// Returns the decimal digits of a number as a string, or null without one.
+/// Returns the decimal digits of a number as a string, or null if there is no number.
 pub fn number_or_null(alloc: Global, number: Option<u128>) -> Result<Value, AllocError>
     ensures { IfOk result (λ v. view v ≡ values.number_or_null number) }
 {
@@ -40,7 +40,7 @@ pub fn number_or_null(alloc: Global, number: Option<u128>) -> Result<Value, Allo
     }
 }
 
-/// Returns a list of two words with letters below 16.
+/// Returns the array of two words, whose letters are below 16.
 pub fn pair_value(alloc: Global, x: &[u8], y: &[u8]) -> Result<Value, AllocError>
     requires first { IsWord 16 x.now }
     requires second { IsWord 16 y.now }
@@ -51,7 +51,7 @@ pub fn pair_value(alloc: Global, x: &[u8], y: &[u8]) -> Result<Value, AllocError
     json!(in alloc; [x, y])
 }
 
-/// Returns the periods and the middle of a configuration with letters below 16.
+/// Returns the object with the three parts of a configuration, whose letters are below 16.
 pub fn tail_value(
     alloc: Global,
     left: &[u8],

@@ -1,4 +1,4 @@
-//! The findings for questions, and the causes why nothing fits.
+//! The findings for questions, and the causes why nothing fits a question.
 use cert_conditions::Report;
 use cert_values::Cert;
 use inverse_table::InverseMap;
@@ -10,32 +10,32 @@ use tail_config::TailFault;
 use tail_preimage::Pre;
 use word_image::{Rule, Word};
 
-/// The finding for a question.
+/// The finding for a question, which is its right answer as a value.
 #[derive(Drop)]
 pub enum Found {
     /// The verdicts of a rule, each with the least evidence.
     Report(Report),
-    /// The certificate of a rule.
+    /// The certificate of a rule, for the judge of certificates.
     Written(Cert),
-    /// The least orphan, or None if the rule is surjective.
+    /// The least orphan of a rule, or None if the rule is surjective.
     Orphan(Option<Word>),
-    /// The Wolfram number, or None if the rule has 7 states or more.
+    /// The Wolfram number of a rule, or None if the rule has 7 states or more.
     Number(Option<u128>),
-    /// The rule that was made.
+    /// The rule that the question asks for, for example the mirrored rule or a composition.
     Rule(Rule),
-    /// The inverse of a rule.
+    /// The inverse map of a rule.
     Inverse(Inverse),
     /// The least automaton of the words that have a preimage.
     Language(Automaton),
     /// The least word that is an orphan of exactly one of two rules, or None if there is none.
     Same(Option<Word>),
-    /// The least erasable pair, or None if the rule is surjective.
+    /// The least erasable pair of a rule, or None if the rule is surjective.
     Erased(Option<Pair>),
-    /// A preimage of a configuration, or the reason why there is none.
+    /// A preimage of a configuration, or a stretch of the configuration that is an orphan.
     Preimage(Pre),
-    /// How many of some rules have each property.
+    /// How many of the asked rules have each property.
     Summary(Counts),
-    /// The same, and the number of their classes.
+    /// How many of the asked rules have each property, and how many classes these rules have.
     Classes(Counts, usize),
 }
 
@@ -48,7 +48,8 @@ pub struct Inverse {
     pub rule: Option<Rule>,
 }
 
-/// An automaton whose classes are numbers. The class that follows class i on letter a is at place i k + a.
+/// An automaton whose classes are numbers. `next` has the class that follows class i on letter a at the place i k +
+/// a, for k states. `dead` is the class of the orphans, if any.
 #[derive(Drop)]
 pub struct Automaton {
     pub states: u8,
@@ -57,7 +58,7 @@ pub struct Automaton {
     pub dead: Option<u32>,
 }
 
-/// Two words.
+/// A pair of words: twins, or an erasable pair.
 #[derive(Drop)]
 pub struct Pair {
     pub x: Word,
@@ -76,28 +77,28 @@ pub struct Counts {
     pub conserving: u16,
 }
 
-/// The cause why nothing fits a question.
+/// Why nothing fits a question.
 #[derive(Drop)]
 pub enum Cause {
-    /// The rule has these twins, and so no inverse.
+    /// The rule has these twins, so it has no inverse.
     Twins(Pair),
-    /// Its inverse reads this many letters, which are too many.
+    /// The inverse of the rule reads this many letters, which are too many.
     Wide(u16),
-    /// It has too many states to search through all names of its letters.
+    /// The rule has too many states to search through all new names for its letters.
     Colours,
-    /// It has no lift.
+    /// The rule has no lift, because of this fault.
     Lift(LiftFault),
-    /// No rule can be made.
+    /// No rule can be made, because of this fault.
     Algebra(AlgebraFault),
-    /// The parts don't form a configuration.
+    /// The three parts don't form a configuration, because of this fault.
     Tail(TailFault),
-    /// There isn't one weight for each letter.
+    /// The number of weights isn't the number of letters.
     Weights,
-    /// Two rules have different numbers of states.
+    /// The two rules have different numbers of states.
     States,
 }
 
-/// Why nothing was found, for words or for a question.
+/// Why nothing was found for words or for a question.
 #[derive(Drop)]
 pub enum Stop {
     /// The words are no command.
@@ -106,7 +107,7 @@ pub enum Stop {
     RuleFault(u8, TextFault),
     /// Nothing fits the question, because of this cause.
     Unfit(Cause),
-    /// There was no memory.
+    /// There is not enough memory.
     Memory(AllocError),
 }
 

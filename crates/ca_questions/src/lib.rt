@@ -1,24 +1,40 @@
-//! Questions about rules, their findings, and the causes why nothing fits. All are values, without texts.
+//! Questions about rules, their findings, and the causes why nothing fits. All of them are values, without texts.
 //!
 //! A question names its rules and, if needed, weights, numbers, letters or a configuration. A *finding* is a value
-//! that answers it: for example verdicts with their evidence, a certificate, a rule, an automaton, a word, or counts.
-//! If a question can have no finding, nothing *fits* it, and there is a cause. The question for the inverse of rule
-//! 170 has a finding: the map 0 1 over the window (1, 2). Nothing fits the question for the inverse of rule 90. The
-//! cause is the twins 0 and 1, whose rings have the same image.
+//! that answers a question. For example, findings are verdicts with their evidence, a certificate, a rule, an
+//! automaton, a word, or counts. The *shape* of a rule is its number of states, its width and its offset. If a
+//! question can have no finding, nothing *fits* it. Then a *cause* says why. For example, the question for the
+//! inverse of rule 170 has a finding: the map 0 1 over the window (1, 2). Nothing fits the question for the inverse
+//! of rule 90. The cause is the twins 0 and 1, whose rings have the same image.
 //!
-//! Only two definitions of specs/Findings.antt say which finding is right for which question, `IsFinding`, and which
-//! cause, `IsUnfitFor`. [`found_or_unfit`] is a law about them. The contract of a function that answers a question is
-//! `Answers` of specs/Values.antt. Texts of findings only depend on these values.
+//! The evidence for a verdict has these kinds. An *orphan* is a word without a preimage. A *window* (n, c) says that
+//! n letters of an image determine the letter at place c of each preimage. *Twins* are two different words of the
+//! same length whose rings have the same image. A *look-ahead* says how many letters of the image determine the next
+//! letter of a word on a side. A *split* of a side is two different configurations that share an image and agree on
+//! the other side. A *flux* has a number for each node, and shows that each ring keeps the sum of its weights. A
+//! *ring* is a word that is read on from its end at its start.
 //!
-//! A *reply* to the words of a command line is a finding, a cause, the fault of an operand, the result of judging an
-//! input, or that the words are no command. Text and JSON are forms of a reply.
+//! An *erasable pair* is two different words of the same length with the same image, the same first m - 1 letters and
+//! the same last m - 1 letters. So each of them can replace the other in any configuration without a change of the
+//! image. The *class* of a rule has the rules at offset 0 with its table or the table of its mirrored rule, with new
+//! names for the letters. The *second-order lift* of a rule is a reversible rule whose letters are pairs of its
+//! letters (crate rule_classes).
+//!
+//! The definition `IsFinding` of specs/Findings.antt says which finding is right for which question, and the
+//! definition `IsUnfitFor` says which cause is right. [`found_or_unfit`] is a law about both definitions. The
+//! contract of each function that answers a question is `Answers` of specs/Values.antt. The text of a finding depends
+//! only on the finding.
+//!
+//! A *reply* to the words of a command line is one of these values: a finding, a cause, the fault of an operand, the
+//! result of judging an input, or that the words are no command. A reply has two forms, a text and JSON.
 //!
 //! [`Question`], [`Found`], [`Cause`] and [`Reply`] are these values in code, as plain enums. `question_of`,
-//! `finding_of`, `unfit_of` and `reply_of` map them to the values of the definitions. [`Stop`] says why nothing was
-//! found, for words or for a question.
+//! `finding_of`, `unfit_of` and `reply_of` map them to the values of the definitions. A [`Stop`] says why nothing was
+//! found for words or for a question: the words are no command, an operand has a fault, nothing fits, or there is no
+//! memory.
 //!
-//! A text or JSON has a hexadecimal digit for each letter of a word, so letters must be below 16. The law
-//! [`right_findings_are_writable`] says that they are, in each right finding about accepted rules.
+//! A text or JSON has a hexadecimal digit for each letter of a word, so letters must be below 16. Such a finding is
+//! *writable*. The law [`right_findings_are_writable`] says that each right finding about accepted rules is writable.
 #![tactic(auto)]
 
 mod found;
@@ -41,7 +57,8 @@ pub fn found_or_unfit()
     ensures { (q : questions.Question) (f : Finding) (u : Unfit) → IsFinding q f → ¬ IsUnfitFor q u }
 {}
 
-/// Law: right findings and causes for accepted rules can be written.
+/// Law: right findings and right causes for accepted rules are writable: their letters have hexadecimal digits, and
+/// automata have all their rows.
 pub fn right_findings_are_writable()
     ensures found { (q : questions.Question) (f : Finding) → AreRules q → IsFinding q f → IsWritable f }
     ensures unfit { (q : questions.Question) (u : Unfit) → AreRules q → IsUnfitFor q u → IsWritableUnfit u }

@@ -1,4 +1,4 @@
-//! Questions as values.
+//! Questions about rules, as values.
 ghost use Rattle.std.specs.Prelude.{◌≡◌, ◌≤◌, ◌^◌, ℕ, None, Some, IfOk, MatchOption, MatchResult};
 ghost use Rattle.rule_verdicts.specs.Numbers.{numbers_fault};
 ghost use Rattle.ca_questions.specs.QuestionValues.{AreDrawn, AreNumbered};
@@ -11,54 +11,54 @@ use rule_verdicts::fault_past_all;
 use tail_config::Tail;
 use word_image::Rule;
 
-/// A question. If it has no weights, each letter weighs its own value.
+/// A question. If no weights are named, each letter weighs its own value.
 #[derive(Drop)]
 pub enum Question {
-    /// The verdicts of a rule, each with the least evidence.
+    /// What are the verdicts of the rule under these weights, each with the least evidence?
     Report(Rule, Option<ShortList>),
-    /// The certificate of a rule.
+    /// What is the certificate of this version for the rule and these weights?
     Certify(CertVersion, Rule, Option<ShortList>),
-    /// The least orphan.
+    /// What is the least orphan of the rule?
     Orphan(Rule),
-    /// The Wolfram number.
+    /// What is the Wolfram number of the rule?
     Number(Rule),
-    /// The mirrored rule.
+    /// What is the mirrored rule?
     Reflect(Rule),
-    /// The rule without the cells that it ignores.
+    /// What is the rule without the cells at its ends that it ignores?
     Trim(Rule),
-    /// The rule whose window is this many cells further to the right.
+    /// What is the rule whose window is this many cells further to the right?
     Shift(Rule, i8),
-    /// The rule at this width.
+    /// What is the rule at this width?
     Widen(Rule, u8),
-    /// The rule with new names for its letters: letter a gets the name at place a.
+    /// What is the rule with new names for its letters? Letter a gets the name at place a.
     Permute(Rule, ShortList),
-    /// The composition of two rules: the second after the first.
+    /// What is the composition of two rules, the second rule after the first?
     Compose(Rule, Rule),
-    /// The rule of its class with the least Wolfram number.
+    /// What is the rule with the least Wolfram number in the class of the rule?
     Least(Rule),
-    /// The second-order lift, whose letters are pairs of its letters.
+    /// What is the second-order lift of the rule, whose letters are pairs of the letters of the rule?
     Lift(Rule),
-    /// The rule that undoes this lift.
+    /// What is the rule that undoes the second-order lift?
     Unlift(Rule),
-    /// The map that computes the cells of a configuration from its image.
+    /// What is the map that computes the cells of a configuration from its image under the rule?
     Inverse(Rule),
-    /// The least automaton of the words that have a preimage.
+    /// What is the least automaton of the words that have a preimage under the rule?
     Language(Rule),
-    /// Whether both rules have the same orphans.
+    /// Do both rules have the same orphans?
     Same(Rule, Rule),
-    /// The least erasable pair.
+    /// What is the least erasable pair of the rule?
     Erase(Rule),
-    /// A preimage of a configuration over the rule's letters.
+    /// What is a preimage of this configuration under the rule?
     Preimage(Rule, Tail),
-    /// How many of the rules with these numbers have each property.
+    /// How many of the rules with these numbers have each property?
     Survey(Numbered),
-    /// How many of the rules that a seed determines have each property.
+    /// How many of the rules that this seed determines have each property?
     Sample(Drawn),
-    /// How many of the rules with these numbers have each property, and how many classes they have.
+    /// How many of the rules with these numbers have each property, and how many classes do these rules have?
     Classes(Numbered),
 }
 
-/// Consecutive Wolfram numbers of rules of one shape, whose offset is 0.
+/// Consecutive Wolfram numbers of rules of the same shape, whose offset is 0.
 #[derive(Clone, Copy, Debug)]
 pub struct Numbered {
     pub states: u8,
@@ -68,8 +68,8 @@ pub struct Numbered {
 }
 
 impl Numbered {
-    /// Returns `count` consecutive numbers, starting at `first`, or the first fault of the shape or of the last
-    /// number. None stands for the numbers of 2^128 or more.
+    /// Makes `count` consecutive numbers, starting at `first`. If `first` is None, it stands for a number of 2^128 or
+    /// more. Returns the first fault of the shape, or a fault of the last number, if there is one.
     pub fn of(k: u8, m: u8, first: Option<u128>, count: u16) -> Result<Numbered, TextFault>
         requires some { 1 ≤ count }
         requires few { count ≤ 4096 }
@@ -94,7 +94,7 @@ impl Numbered {
     }
 }
 
-/// The first rules that a seed determines, all of one shape, whose offset is 0.
+/// The first rules that a seed determines. All of them have the same shape, with offset 0.
 #[derive(Clone, Copy, Debug)]
 pub struct Drawn {
     pub states: u8,
@@ -104,7 +104,7 @@ pub struct Drawn {
 }
 
 impl Drawn {
-    /// Returns the first `count` rules that the seed determines, or the first fault of the shape.
+    /// Makes the first `count` rules of this shape that the seed determines, or returns the first fault of the shape.
     pub fn of(k: u8, m: u8, seed: u64, count: u16) -> Result<Drawn, TextFault>
         requires few { count ≤ 4096 }
         ensures accepted { IfOk result AreDrawn }

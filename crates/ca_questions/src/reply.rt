@@ -1,4 +1,4 @@
-//! Replies to words.
+//! Replies to the words of a command line, as values.
 use crate::found::{Cause, Found};
 use cert_conditions::{Refusal, Verdicts};
 use rule_text::TextFault;
@@ -6,14 +6,14 @@ use rule_text::TextFault;
 /// The reply to the words of a command line.
 #[derive(Drop)]
 pub enum Reply {
-    /// The finding for their question.
+    /// The finding for the question that the words ask.
     Found(Found),
-    /// Nothing fits their question, because of this cause.
+    /// Nothing fits the question that the words ask, because of this cause.
     NoFit(Cause),
-    /// The operand with this number, starting at 1, isn't the text of a rule. Or the shape of many rules has this
-    /// fault, which counts as one of operand 1.
+    /// The operand with this number, starting at 1, isn't the text of a rule. If the words ask about many rules, a
+    /// fault of their shape counts as a fault of operand 1.
     RuleFault(u8, TextFault),
-    /// The input is an accepted certificate with these verdicts.
+    /// The judge accepts the certificate in the input, with these verdicts.
     Accepted(Verdicts),
     /// The judge refuses the input, for this reason.
     Refused(Refusal),

@@ -1,4 +1,4 @@
-//! Short lists, which need no memory.
+//! Lists of at most 16 numbers, which need no memory.
 ghost use Rattle.std.specs.Prelude.{◌≡◌, ◌<◌, ◌++◌, ◌∷◌, [], length};
 
 use std::marker::Model;
@@ -8,7 +8,7 @@ use word_image::MOST_STATES;
 #[derive(Drop)]
 pub struct ShortList {
     items: [u8; MOST_STATES],
-    // The number of items that count.
+    // How many numbers the list has. They are the first ones of `items`.
     count: usize,
 }
 
@@ -23,7 +23,7 @@ impl Model for ShortList {
 }
 
 impl ShortList {
-    /// Returns the empty list.
+    /// Makes an empty list.
     pub fn new() -> ShortList
         ensures { result ≡ [] }
     {
@@ -33,7 +33,7 @@ impl ShortList {
         }
     }
 
-    /// Appends a number to a list of at most 15 numbers.
+    /// Appends a number to a list, which has at most 15 numbers.
     pub fn push(&mut self, item: u8)
         requires { length self.old < 16 }
         ensures { self.new ≡ self.old ++ item ∷ [] }
@@ -42,7 +42,7 @@ impl ShortList {
         self.count += 1;
     }
 
-    /// Returns the numbers in their order.
+    /// Returns the numbers of the list in their order.
     pub fn as_slice(&self) -> &[u8]
         ensures { result.now ≡ self.now }
     {

@@ -1,4 +1,4 @@
-//! The lines of counts.
+//! The lines of counts of rules.
 ghost use Rattle.std.specs.Prelude.{◌≡◌, ◌++◌, codes, OnOk};
 ghost use Rattle.ca_questions.specs.Values.{counts_of};
 ghost use Rattle.ca_text.specs.Lines.{count_line, counts_lines};
@@ -7,7 +7,7 @@ use crate::output::Output;
 use ca_questions::Counts;
 use std::alloc::{AllocError, Global};
 
-/// Appends the seven lines of a summary.
+/// Appends the seven lines of a summary: the number of rules, and the number of rules with each property.
 pub fn write_counts(alloc: Global, output: &mut Output, counts: &Counts) -> Result<(), AllocError>
     ensures { OnOk result (output.new ≡ output.old ++ counts_lines (counts_of counts.now)) }
 {
@@ -20,14 +20,14 @@ pub fn write_counts(alloc: Global, output: &mut Output, counts: &Counts) -> Resu
     write_count(alloc, output, "conserving", counts.conserving)
 }
 
-/// Appends the line of a name and a count.
+/// Appends a line of a name, a blank and a count, for example `surjective 30`.
 fn write_count(alloc: Global, output: &mut Output, name: &str, count: u16) -> Result<(), AllocError>
     ensures { OnOk result (output.new ≡ output.old ++ count_line name.now count) }
 {
     output.push_line(&format!(in alloc; "{name} {count}")?)
 }
 
-/// Appends the line with the number of classes.
+/// Appends the line with the number of classes, for example `classes 88`.
 pub fn write_classes(alloc: Global, output: &mut Output, classes: usize) -> Result<(), AllocError>
     ensures { OnOk result (output.new ≡ output.old ++ count_line (codes "classes") classes) }
 {

@@ -1,4 +1,4 @@
-//! The lines of an inverse map.
+//! The lines of an inverse map, for example `window 1 2`, `offset -1`, `map 01` and `rule 2:2:-1:t0011`.
 ghost use Rattle.std.specs.Prelude.{◌≡◌, ◌++◌, IfOk, OnOk, codes};
 ghost use Rattle.std.specs.Fmt.{decimal};
 ghost use Rattle.word_image.specs.Digits.{word_text};
@@ -13,7 +13,7 @@ use inverse_table::InverseMap;
 use std::alloc::{AllocError, Global};
 use word_image::Rule;
 
-/// Returns the four lines of an inverse map over a window.
+/// Returns the four lines of an inverse map: its window, its offset, its letters, and the map as a rule.
 pub fn map_output(alloc: Global, inverse: &Inverse) -> Result<Output, AllocError>
     ensures { IfOk result (λ output. output ≡ map_lines inverse.now.n inverse.now.c inverse.now.map inverse.now.rule) }
 {
@@ -25,14 +25,14 @@ pub fn map_output(alloc: Global, inverse: &Inverse) -> Result<Output, AllocError
     Ok(output)
 }
 
-/// Appends the line that names the window.
+/// Appends the line with the window (n, c) of an inverse map.
 fn write_map_window(alloc: Global, output: &mut Output, n: u16, c: u16) -> Result<(), AllocError>
     ensures { OnOk result (output.new ≡ output.old ++ line (codes "window " ++ decimal n ++ codes " " ++ decimal c)) }
 {
     output.push_line(&format!(in alloc; "window {n} {c}")?)
 }
 
-/// Appends the line with the offset of the map.
+/// Appends the line with the offset of an inverse map.
 fn write_offset(alloc: Global, output: &mut Output, map: &InverseMap) -> Result<(), AllocError>
     ensures { OnOk result (output.new ≡ output.old ++ line (codes "offset " ++ offset_text map.now.offset)) }
 {
@@ -40,7 +40,7 @@ fn write_offset(alloc: Global, output: &mut Output, map: &InverseMap) -> Result<
     output.push_line(&format!(in alloc; "offset {offset}")?)
 }
 
-/// Appends the line of the letters.
+/// Appends the line with the letters of an inverse map.
 fn write_map(alloc: Global, output: &mut Output, map: &InverseMap) -> Result<(), AllocError>
     ensures { OnOk result (output.new ≡ output.old ++ line (codes "map " ++ word_text map.now.table)) }
 {
@@ -49,7 +49,7 @@ fn write_map(alloc: Global, output: &mut Output, map: &InverseMap) -> Result<(),
     output.push(b"\n")
 }
 
-/// Appends the line of the map as a rule.
+/// Appends the line with the inverse map as a rule, or `rule none` if it isn't a rule.
 fn write_map_rule(alloc: Global, output: &mut Output, rule: &Option<Rule>) -> Result<(), AllocError>
     ensures { OnOk result (output.new ≡ output.old ++ line (codes "rule " ++ rule_text rule.now)) }
 {

@@ -1,4 +1,4 @@
-//! The lines about the words that have a preimage.
+//! The lines of findings about the words that have a preimage.
 ghost use Rattle.std.specs.Prelude.{◌≡◌, ℕ, ◌+◌, ◌<◌, ◌≤◌, ◌++◌, drop, length, slice_index, IfOk, OnOk};
 ghost use Rattle.std.specs.Fmt.{decimal};
 ghost use Rattle.image_minimal.specs.ImageLanguages as languages;
@@ -13,14 +13,14 @@ use ca_questions::{Automaton, Pair};
 use std::alloc::{AllocError, Global};
 use word_image::{MOST_STATES, Word};
 
-/// The greatest number of bytes of a class in a line: five digits, since it is below 65,536, and a blank or the end
-/// of the line.
+/// The greatest number of bytes that a line has for the number of a class: five digits, since the number is below
+/// 65,536, and a blank or the end of the line.
 const MOST_PIECE: usize = 6;
 
-/// The greatest number of bytes of the line of a class.
+/// The greatest number of bytes of the line with the classes that follow a class.
 const MOST_LINE: usize = MOST_PIECE * MOST_STATES;
 
-/// Returns the lines of an automaton.
+/// Returns the lines of an automaton: two lines about the whole automaton, and a line for each class.
 pub fn automaton_output(alloc: Global, automaton: &Automaton) -> Result<Output, AllocError>
     requires { HasRows (automaton_of automaton.now) }
     ensures { IfOk result (λ output. output ≡ automaton_lines (automaton_of automaton.now)) }
@@ -38,7 +38,7 @@ pub fn automaton_output(alloc: Global, automaton: &Automaton) -> Result<Output, 
     Ok(output)
 }
 
-/// Appends the line with the class of the orphans.
+/// Appends the line with the class of the orphans, or `dead none` if there is no such class.
 fn write_dead(alloc: Global, output: &mut Output, dead: Option<u32>) -> Result<(), AllocError>
     ensures { OnOk result (output.new ≡ output.old ++ dead_line dead) }
 {
@@ -48,7 +48,7 @@ fn write_dead(alloc: Global, output: &mut Output, dead: Option<u32>) -> Result<(
     }
 }
 
-/// Appends the line with the classes that follow a class.
+/// Appends the line with the classes that follow this class, one for each letter.
 fn write_class(output: &mut Output, automaton: &Automaton, class: u32) -> Result<(), AllocError>
     requires rows { HasRows (automaton_of automaton.now) }
     requires class { class < automaton.now.classes }
@@ -59,14 +59,14 @@ fn write_class(output: &mut Output, automaton: &Automaton, class: u32) -> Result
     write_row(output, automaton.states, &automaton.next[first..first + k])
 }
 
-/// Appends the line with these classes, one for each of k letters.
+/// Appends the line with these k classes, with a blank between two of them.
 fn write_row(output: &mut Output, k: u8, row: &[u16]) -> Result<(), AllocError>
     requires some { 0 < k }
     requires most { k ≤ 16 }
     requires long { length row.now ≡ k }
     ensures { OnOk result ((a : languages.Automaton) (i : ℕ) → a.states ≡ k → ((l : ℕ) → l < k → slice_index row.now l ≡ after_class a i l) → output.new ≡ output.old ++ class_line a i) }
 {
-    // The line is written from its end.
+    // The bytes of the line are filled from the end of the line to its start.
     let mut bytes = [b'\n'; MOST_LINE];
     let mut first = MOST_LINE - 1;
     for letter in (1..k).rev() {
@@ -77,8 +77,8 @@ fn write_row(output: &mut Output, k: u8, row: &[u16]) -> Result<(), AllocError>
     output.push(&bytes[first..])
 }
 
-/// Writes the digits of a class, at most five, so that they end before place `end`. Returns the place of the first
-/// digit.
+/// Writes the digits of the number of a class so that they end before place `end`, and returns the place of the first
+/// digit. There are at most five digits.
 fn write_short(class: u16, bytes: &mut [u8], end: usize) -> usize
     requires room { 5 ≤ end }
     requires end { end ≤ length bytes.old }
@@ -89,7 +89,7 @@ fn write_short(class: u16, bytes: &mut [u8], end: usize) -> usize
     write_decimal(u32::from(class), bytes, end)
 }
 
-/// Returns the line with a word that is an orphan of only one rule, or of none.
+/// Returns the line with a word that is an orphan of only one of two rules, or `same yes` if there is no such word.
 pub fn same_output(alloc: Global, word: &Option<Word>) -> Result<Output, AllocError>
     requires { HasDigits word.now }
     ensures { IfOk result (λ output. output ≡ same_line word.now) }
@@ -100,7 +100,7 @@ pub fn same_output(alloc: Global, word: &Option<Word>) -> Result<Output, AllocEr
     }
 }
 
-/// Returns the line with an erasable pair, or with none.
+/// Returns the line with an erasable pair, or `erase none` if there is none.
 pub fn erased_output(alloc: Global, pair: &Option<Pair>) -> Result<Output, AllocError>
     requires { HavePairDigits (pair_of pair.now) }
     ensures { IfOk result (λ output. output ≡ erased_line (pair_of pair.now)) }

@@ -1,17 +1,33 @@
 //! The texts of findings and of all other replies.
 //!
-//! This crate only formats values. It decides nothing. The definition `reply_text` of specs/Replies.antt says what
-//! the text of a reply is, and the function [`reply_text`] writes it. A finding has the text `text_of`: eight lines
-//! for a report, four for an inverse map, seven for counts, and an eighth if classes are counted, two for an
-//! automaton and one more for each class, the text of a certificate, and one line for everything else. One line is
-//! written for a cause why nothing fits, an operand with a fault, a refused certificate, an input that is too long,
-//! and words that are no command. An accepted certificate has seven lines, and an eighth if some letter doesn't weigh
-//! its own value.
+//! A reply is the answer to the words of a command line as a value, and a *finding* is the answer to their question
+//! (crate ca_questions). This crate only formats these values. It decides nothing. The definition `reply_text` of
+//! specs/Replies.antt says what the text of a reply is, and the function [`reply_text`] writes it.
+//!
+//! The text of a finding has these lines:
+//!
+//! - a report has eight lines
+//! - an inverse map has four lines
+//! - counts of rules have seven lines, and an eighth line if classes are counted
+//! - an automaton has two lines, and one more for each class
+//! - a certificate is a text without a line end
+//! - everything else has one line
+//!
+//! An accepted certificate has seven lines, and an eighth line if some letter doesn't weigh its own value. All other
+//! replies have one line: a cause why nothing fits, an operand with a fault, a refused certificate, an input that is
+//! too long, and words that are no command.
+//!
+//! The evidence for a verdict has these kinds. An *orphan* is a word without a preimage. A *window* (n, c) says that
+//! n letters of an image determine the letter at place c of each preimage. *Twins* are two different words of the
+//! same length whose rings have the same image. A *look-ahead* says how many letters of the image determine the next
+//! letter of a word on a side. A *split* of a side is two different configurations that share an image and agree on
+//! the other side. A *flux* has a number for each node, and shows that each ring keeps the sum of its weights. A
+//! *ring* is a word that is read on from its end at its start.
 //!
 //! A word is written with a hexadecimal digit for each letter, so letters must be below 16. The law
 //! `right_findings_are_writable` of ca_questions says that they are, in each right finding about accepted rules.
 //!
-//! A text is in memory as a whole, as an [`Output`], and takes time and memory **O(n)** for its n bytes.
+//! A text is in memory as a whole, as an [`Output`]. To make a text of n bytes takes **O(n)** time and memory.
 #![tactic(auto)]
 
 mod counts;

@@ -1,4 +1,4 @@
-//! The bytes of a text.
+//! The type `Output`, which has the bytes of a text.
 ghost use Rattle.std.specs.Prelude.{◌≡◌, [], ◌++◌, codes, IfOk, OnOk};
 ghost use Rattle.std.specs.Fmt.{decimal};
 ghost use Rattle.word_image.specs.LocalRules.{IsWord};
@@ -11,7 +11,7 @@ use std::alloc::{AllocError, Global};
 use std::marker::Model;
 use word_image::word_text;
 
-/// The bytes for the sink, to which lines are appended. In contracts it is the list of its bytes.
+/// The bytes of a text. Lines are appended to them. In contracts it is the list of these bytes.
 #[derive(Debug, Drop)]
 pub struct Output {
     bytes: Vec<u8>,
@@ -50,7 +50,7 @@ impl Output {
         Output { bytes }
     }
 
-    /// Makes an output of a text as a line.
+    /// Makes an output of one line with this text.
     pub fn line(alloc: Global, text: &str) -> Result<Output, AllocError>
         ensures { IfOk result (λ output. output ≡ line text.now) }
     {
@@ -59,7 +59,7 @@ impl Output {
         Ok(output)
     }
 
-    /// Makes the line of a cause why nothing fits.
+    /// Makes an output of one line: `notfit`, a blank, and the words for a cause why nothing fits.
     pub fn unfit(alloc: Global, cause: &str) -> Result<Output, AllocError>
         ensures { IfOk result (λ output. output ≡ unfit_line cause.now) }
     {
@@ -69,7 +69,7 @@ impl Output {
         Ok(output)
     }
 
-    /// Makes a line of a text and the digits of a word.
+    /// Makes an output of one line: this text and the digits of a word.
     pub fn line_with_word(alloc: Global, text: &str, word: &[u8]) -> Result<Output, AllocError>
         requires { IsWord 16 word.now }
         ensures { IfOk result (λ output. output ≡ line (text.now ++ word_text word.now)) }
@@ -79,7 +79,7 @@ impl Output {
         Ok(output)
     }
 
-    /// Makes a line of a text and the digits of two words, with a blank between them.
+    /// Makes an output of one line: this text and the digits of two words, with a blank between them.
     pub fn line_with_words(
         alloc: Global,
         text: &str,
@@ -95,14 +95,14 @@ impl Output {
         Ok(output)
     }
 
-    /// Appends these bytes.
+    /// Appends these bytes to the output.
     pub fn push(&mut self, bytes: &[u8]) -> Result<(), AllocError>
         ensures { OnOk result (self.new ≡ self.old ++ bytes.now) }
     {
         self.bytes.extend_from_slice(bytes)
     }
 
-    /// Appends the digits of a word.
+    /// Appends the digits of a word to the output.
     pub fn push_word(&mut self, alloc: Global, word: &[u8]) -> Result<(), AllocError>
         requires { IsWord 16 word.now }
         ensures { OnOk result (self.new ≡ self.old ++ word_text word.now) }
@@ -110,7 +110,7 @@ impl Output {
         self.push(&word_text(alloc, word)?)
     }
 
-    /// Appends the decimal digits of a number.
+    /// Appends the decimal digits of a number to the output.
     pub fn push_number(&mut self, number: u32) -> Result<(), AllocError>
         ensures { OnOk result (self.new ≡ self.old ++ decimal number) }
     {
@@ -119,7 +119,7 @@ impl Output {
         self.push(&bytes[first..])
     }
 
-    /// Appends the text as a line.
+    /// Appends a line with this text to the output.
     pub fn push_line(&mut self, text: &str) -> Result<(), AllocError>
         ensures { OnOk result (self.new ≡ self.old ++ line text.now) }
     {
@@ -127,7 +127,7 @@ impl Output {
         self.push(b"\n")
     }
 
-    /// Appends a line of a text and the digits of a word.
+    /// Appends a line with this text and the digits of a word.
     pub fn push_line_with_word(
         &mut self,
         alloc: Global,
@@ -142,7 +142,7 @@ impl Output {
         self.push(b"\n")
     }
 
-    /// Appends a line of a text and the digits of two words, with a blank between them.
+    /// Appends a line with this text and the digits of two words, with a blank between them.
     pub fn push_line_with_words(
         &mut self,
         alloc: Global,
@@ -161,7 +161,7 @@ impl Output {
         self.push(b"\n")
     }
 
-    /// Returns the bytes so far.
+    /// Returns the bytes of the output so far.
     pub fn as_slice(&self) -> &[u8]
         ensures { result.now ≡ self.now }
     {

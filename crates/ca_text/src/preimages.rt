@@ -1,4 +1,4 @@
-//! The line of a preimage of a configuration, or of a gap in it.
+//! The line of a preimage of a configuration, or of a gap: the first stretch of the configuration that is an orphan.
 ghost use Rattle.std.specs.Prelude.{◌≡◌, IfOk};
 ghost use Rattle.word_image.specs.LocalRules.{IsWord};
 ghost use Rattle.tail_preimage.specs.Answers.{placed_config};
@@ -12,7 +12,7 @@ use crate::output::Output;
 use std::alloc::{AllocError, Global};
 use tail_preimage::{Placed, Pre};
 
-/// Returns the line of an answer.
+/// Returns the line of a preimage or of a gap.
 pub fn preimage_output(alloc: Global, answer: &Pre) -> Result<Output, AllocError>
     requires { IsWritable (preimage_of answer.now) }
     ensures { IfOk result (λ output. output ≡ text_of (preimage_of answer.now)) }
@@ -27,7 +27,8 @@ pub fn preimage_output(alloc: Global, answer: &Pre) -> Result<Output, AllocError
     }
 }
 
-/// Returns the line of a placed configuration.
+/// Returns the line of a preimage: `preimage`, the place at which its middle begins, and the text of the
+/// configuration.
 fn placed_output(alloc: Global, placed: &Placed) -> Result<Output, AllocError>
     requires { HasTailDigits (placed_config placed.now).config }
     ensures { IfOk result (λ output. output ≡ line (placed_text (placed_config placed.now))) }
@@ -44,7 +45,7 @@ fn placed_output(alloc: Global, placed: &Placed) -> Result<Output, AllocError>
     Ok(output)
 }
 
-/// Returns the line of a gap.
+/// Returns the line of a gap: `no preimage`, the number of left periods, the number of right periods, and the orphan.
 fn gap_output(alloc: Global, before: u16, after: u16, word: &[u8]) -> Result<Output, AllocError>
     requires { IsWord 16 word.now }
     ensures { IfOk result (λ output. output ≡ line (gap_text before after word.now)) }

@@ -1,4 +1,4 @@
-//! The text of a reply.
+//! The function `reply_text`, which returns the text of a reply.
 ghost use Rattle.std.specs.Prelude.{◌≡◌, IfOk};
 ghost use Rattle.ca_questions.specs.Values.{reply_of};
 ghost use Rattle.ca_questions.specs.Writable.{IsWritableReply};
@@ -13,8 +13,8 @@ use ca_questions::Reply;
 use cert_conditions::Verdicts;
 use std::alloc::{AllocError, Global};
 
-/// Returns the text of a reply: the text of a finding, the lines of an accepted certificate, or otherwise one line.
-/// The only error is lack of memory.
+/// Returns the text of a reply. This is the text of a finding, the lines of an accepted certificate, or otherwise one
+/// line. The only error is lack of memory.
 pub fn reply_text(alloc: Global, reply: &Reply) -> Result<Output, AllocError>
     requires { IsWritableReply (reply_of reply.now) }
     ensures { IfOk result (λ output. output ≡ reply_text (reply_of reply.now)) }
@@ -30,7 +30,7 @@ pub fn reply_text(alloc: Global, reply: &Reply) -> Result<Output, AllocError>
     }
 }
 
-/// Returns the lines of an accepted certificate.
+/// Returns the seven or eight lines of an accepted certificate with these verdicts.
 fn accepted_output(alloc: Global, verdicts: &Verdicts) -> Result<Output, AllocError>
     ensures { IfOk result (λ output. output ≡ accepted_lines verdicts.now) }
 {

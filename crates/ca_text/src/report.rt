@@ -1,4 +1,4 @@
-//! The lines of a report.
+//! The lines of a report, for example `surjective no orphan 01010` and `open no`.
 ghost use Rattle.std.specs.Prelude.{◌≡◌, ◌++◌, codes, if◌then◌else◌, OnOk};
 ghost use Rattle.std.specs.List.{flat_map};
 ghost use Rattle.tail_config.specs.TailTexts as tail;
@@ -18,7 +18,7 @@ use std::alloc::{AllocError, Global};
 use tail_config::Tail;
 use word_image::{Rule, Word};
 
-/// Appends the eight lines of a report.
+/// Appends the eight lines of a report: the rule, its number, and its six verdicts with their evidence.
 pub fn write_report(alloc: Global, output: &mut Output, report: &Report) -> Result<(), AllocError>
     requires { IsWritable (Finding.Report (evidence_of report.now)) }
     ensures { OnOk result (output.new ≡ output.old ++ report_lines (evidence_of report.now)) }
@@ -33,7 +33,7 @@ pub fn write_report(alloc: Global, output: &mut Output, report: &Report) -> Resu
     write_conserving(alloc, output, &report.conserving)
 }
 
-/// Appends the line of the rule.
+/// Appends the line with the text of the rule, for example `rule 2:3:-1:t01110110`.
 pub fn write_rule(alloc: Global, output: &mut Output, rule: &Rule) -> Result<(), AllocError>
     ensures { OnOk result (output.new ≡ output.old ++ line (codes "rule " ++ printed_rule rule.now)) }
 {
@@ -42,7 +42,7 @@ pub fn write_rule(alloc: Global, output: &mut Output, rule: &Rule) -> Result<(),
     output.push(b"\n")
 }
 
-/// Appends the line of a number, or of none.
+/// Appends the line with the Wolfram number of a rule, or `number none` if it has none.
 pub fn write_number(
     alloc: Global,
     output: &mut Output,
@@ -56,7 +56,7 @@ pub fn write_number(
     }
 }
 
-/// Appends the line about surjective.
+/// Appends the line that says whether the rule is surjective, with the orphan if it isn't.
 pub fn write_surjective(
     alloc: Global,
     output: &mut Output,
@@ -71,7 +71,7 @@ pub fn write_surjective(
     }
 }
 
-/// Appends the line about injective.
+/// Appends the line that says whether the rule is injective, with a window if it is, and with twins if it isn't.
 fn write_injective(
     alloc: Global,
     output: &mut Output,
@@ -88,14 +88,15 @@ fn write_injective(
     }
 }
 
-/// Appends the line with a determined window.
+/// Appends the line of an injective rule, with its determined window (n, c).
 fn write_determined(alloc: Global, output: &mut Output, n: u16, c: u16) -> Result<(), AllocError>
     ensures { OnOk result (output.new ≡ output.old ++ injective_line (Window n c)) }
 {
     output.push_line(&format!(in alloc; "injective yes window {n} {c}")?)
 }
 
-/// Appends the line about a side.
+/// Appends the line that says whether the rule closes on a side, with a look-ahead if it does, and with a split if it
+/// doesn't. `name` is the word for the side.
 fn write_side(
     alloc: Global,
     output: &mut Output,
@@ -110,7 +111,7 @@ fn write_side(
     }
 }
 
-/// Appends the line with a split.
+/// Appends the line of a rule that doesn't close on a side, with its split. `name` is the word for the side.
 fn write_split(
     alloc: Global,
     output: &mut Output,
@@ -125,7 +126,8 @@ fn write_split(
     write_texts(output, name, &x, &y)
 }
 
-/// Appends the line about a side that doesn't close, with the texts of two configurations.
+/// Appends the line of a rule that doesn't close on a side. `x` and `y` are the texts of the two configurations of
+/// its split.
 fn write_texts(output: &mut Output, name: &str, x: &[u8], y: &[u8]) -> Result<(), AllocError>
     ensures { OnOk result (output.new ≡ output.old ++ line (name.now ++ codes " no split " ++ (x.now ++ codes " " ++ y.now))) }
 {
@@ -137,14 +139,14 @@ fn write_texts(output: &mut Output, name: &str, x: &[u8], y: &[u8]) -> Result<()
     output.push(b"\n")
 }
 
-/// Appends the line about open, which means that the rule closes on both sides.
+/// Appends the line that says whether the rule is open. A rule is open if it closes on both sides.
 fn write_open(output: &mut Output, both: bool) -> Result<(), AllocError>
     ensures { OnOk result (output.new ≡ output.old ++ line (if both then codes "open yes" else codes "open no")) }
 {
     output.push_line(if both { "open yes" } else { "open no" })
 }
 
-/// Appends the line about conserving.
+/// Appends the line that says whether the rule is conserving, with a flux if it is, and with a ring if it isn't.
 fn write_conserving(alloc: Global, output: &mut Output, found: &SumPart) -> Result<(), AllocError>
     requires { HasRingDigits (sum_of found.now) }
     ensures { OnOk result (output.new ≡ output.old ++ conserving_line (sum_of found.now)) }
@@ -159,7 +161,7 @@ fn write_conserving(alloc: Global, output: &mut Output, found: &SumPart) -> Resu
     }
 }
 
-/// Appends the line with a flux.
+/// Appends the line of a conserving rule, with the numbers of its flux.
 fn write_flux(alloc: Global, output: &mut Output, flows: &[i32]) -> Result<(), AllocError>
     ensures { OnOk result (output.new ≡ output.old ++ line (codes "conserving yes flux" ++ flat_map (λ z. codes " " ++ offset_text z) flows.now)) }
 {

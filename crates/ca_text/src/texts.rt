@@ -1,4 +1,4 @@
-//! The text of a finding.
+//! The function `text`, which returns the text of a finding.
 ghost use Rattle.std.specs.Prelude.{◌≡◌, ◌++◌, codes, IfOk};
 ghost use Rattle.rule_text.specs.PrintedRules.{printed_rule};
 ghost use Rattle.certificate_laws.specs.ReportValues.{evidence_of};
@@ -22,7 +22,7 @@ use rule_text::print;
 use std::alloc::{AllocError, Global};
 use word_image::{Rule, Word};
 
-/// Returns the text of a finding.
+/// Returns the text of a finding, as the head of the crate describes it.
 pub fn text(alloc: Global, found: &Found) -> Result<Output, AllocError>
     requires { IsWritable (finding_of found.now) }
     ensures { IfOk result (λ output. output ≡ text_of (finding_of found.now)) }
@@ -53,7 +53,7 @@ fn report_output(alloc: Global, report: &Report) -> Result<Output, AllocError>
     Ok(output)
 }
 
-/// Returns the line of an orphan, or of none.
+/// Returns the line with an orphan, or `surjective yes` if there is none.
 fn orphan_output(alloc: Global, orphan: &Option<Word>) -> Result<Output, AllocError>
     requires { HasDigits orphan.now }
     ensures { IfOk result (λ output. output ≡ surjective_line orphan.now) }
@@ -63,7 +63,7 @@ fn orphan_output(alloc: Global, orphan: &Option<Word>) -> Result<Output, AllocEr
     Ok(output)
 }
 
-/// Returns the line of a number, or of none.
+/// Returns the line with the Wolfram number of a rule, or `number none` if it has none.
 fn number_output(alloc: Global, number: Option<u128>) -> Result<Output, AllocError>
     ensures { IfOk result (λ output. output ≡ number_line number) }
 {
@@ -72,7 +72,7 @@ fn number_output(alloc: Global, number: Option<u128>) -> Result<Output, AllocErr
     Ok(output)
 }
 
-/// Returns the text of a rule as a line.
+/// Returns a line with the text of a rule.
 fn rule_output(alloc: Global, rule: &Rule) -> Result<Output, AllocError>
     ensures { IfOk result (λ output. output ≡ line (printed_rule rule.now)) }
 {
@@ -91,7 +91,7 @@ fn counts_output(alloc: Global, counts: &Counts) -> Result<Output, AllocError>
     Ok(output)
 }
 
-/// Returns these lines and the line with the number of classes.
+/// Returns the seven lines of a summary, and the line with the number of classes.
 fn classes_output(alloc: Global, counts: &Counts, classes: usize) -> Result<Output, AllocError>
     ensures { IfOk result (λ output. output ≡ counts_lines (counts_of counts.now) ++ count_line (codes "classes") classes) }
 {

@@ -1,4 +1,4 @@
-//! The lines about a certificate: its verdicts, or why it is refused.
+//! The lines about a certificate: its verdicts if it is accepted, or the reason why it is refused.
 ghost use Rattle.std.specs.Prelude.{◌≡◌, ◌++◌, codes, if◌then◌else◌, IfOk, OnOk};
 ghost use Rattle.std.specs.Option.{option_map};
 ghost use Rattle.std.specs.List.{flat_map, join_by};
@@ -14,7 +14,8 @@ use rule_text::print;
 use std::alloc::{AllocError, Global};
 use word_image::{Rule, Weights};
 
-/// Appends the seven lines of an accepted certificate, and the line of its weights.
+/// Appends the seven lines of an accepted certificate, and an eighth line with the weights if some letter doesn't
+/// weigh its own value.
 pub fn write_accepted(
     alloc: Global,
     output: &mut Output,
@@ -32,7 +33,7 @@ pub fn write_accepted(
     write_weights(alloc, output, &verdicts.weights)
 }
 
-/// Appends the line with the rule.
+/// Appends the line with the rule of an accepted certificate, for example `accepted 2:2:0:t0101`.
 fn write_rule(alloc: Global, output: &mut Output, rule: &Rule) -> Result<(), AllocError>
     ensures { OnOk result (output.new ≡ output.old ++ line (codes "accepted " ++ printed_rule rule.now)) }
 {
@@ -41,7 +42,7 @@ fn write_rule(alloc: Global, output: &mut Output, rule: &Rule) -> Result<(), All
     output.push(b"\n")
 }
 
-/// Appends the line of a verdict.
+/// Appends the line of a verdict, for example `surjective yes`.
 fn write_verdict(output: &mut Output, name: &str, yes: bool) -> Result<(), AllocError>
     ensures { OnOk result (output.new ≡ output.old ++ verdict_line name.now yes) }
 {
@@ -61,7 +62,7 @@ fn write_weights(alloc: Global, output: &mut Output, weights: &Weights) -> Resul
     output.push(b"\n")
 }
 
-/// Appends numbers with commas between them.
+/// Appends the decimal digits of these numbers, with a comma between two of them.
 fn write_numbers(alloc: Global, output: &mut Output, numbers: &[u8]) -> Result<(), AllocError>
     ensures { OnOk result (output.new ≡ output.old ++ join_by decimal (codes ",") numbers.now) }
 {
@@ -72,7 +73,7 @@ fn write_numbers(alloc: Global, output: &mut Output, numbers: &[u8]) -> Result<(
     write_others(alloc, output, rest)
 }
 
-/// Appends numbers with a comma before each.
+/// Appends the decimal digits of these numbers, with a comma before each of them.
 fn write_others(alloc: Global, output: &mut Output, numbers: &[u8]) -> Result<(), AllocError>
     ensures { OnOk result (output.new ≡ output.old ++ flat_map (λ n. codes "," ++ decimal n) numbers.now) }
 {
@@ -100,7 +101,7 @@ pub fn refused_output(alloc: Global, refusal: Refusal) -> Result<Output, AllocEr
     Ok(output)
 }
 
-/// Appends the parts of a refusal, with blanks between them.
+/// Appends the words and numbers of a refusal, with a blank between two of them.
 fn write_parts(alloc: Global, output: &mut Output, parts: &RefusalParts) -> Result<(), AllocError>
     ensures { OnOk result (output.new ≡ output.old ++ refusal_text (said_in parts.now)) }
 {
@@ -112,7 +113,7 @@ fn write_parts(alloc: Global, output: &mut Output, parts: &RefusalParts) -> Resu
     write_places(alloc, output, parts.numbers)
 }
 
-/// Appends a blank and a word, if there is one.
+/// Appends a blank and a word, or nothing if there is no word.
 fn write_word(output: &mut Output, word: Option<&'static str>) -> Result<(), AllocError>
     ensures { OnOk result (output.new ≡ output.old ++ word_part (option_map (λ w. w.now) word.entry)) }
 {
@@ -123,7 +124,7 @@ fn write_word(output: &mut Output, word: Option<&'static str>) -> Result<(), All
     output.push(word.as_bytes())
 }
 
-/// Appends a blank and each number of a refusal.
+/// Appends the numbers of a refusal, with a blank before each of them.
 fn write_places(
     alloc: Global,
     output: &mut Output,

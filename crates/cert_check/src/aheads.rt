@@ -1,4 +1,4 @@
-//! Look-aheads that the claims of ranks allow.
+//! The check that claims of ranks allow a look-ahead.
 
 ghost use Rattle.std.specs.Prelude.{◌≡◌, ◌↔◌, ◌<◌, ◌≤◌, ℕ, length, IsTrue};
 ghost use Rattle.word_image.specs.Graphs.{first_of, second_of, pair_count};
@@ -16,8 +16,9 @@ use cert_conditions::{Condition, Refusal};
 use cert_values::{Cert, SidePart};
 use word_image::{Rule, Side};
 
-/// Checks that the claims of the first pairs on this side are small enough for the look-ahead. Returns the least pair
-/// for which they aren't otherwise.
+/// Checks that for each first pair on this side a number below the look-ahead minus 1 is claimed. If there is no
+/// look-ahead on this side, the check passes. Otherwise returns a refusal with the least first pair without such a
+/// claim.
 pub fn side_ahead(cert: &Cert, side: Side) -> Result<(), Refusal>
     ensures { IsChecked cert.now (Condition.SideAhead side) result }
 {
@@ -30,7 +31,7 @@ pub fn side_ahead(cert: &Cert, side: Side) -> Result<(), Refusal>
     }
 }
 
-/// Returns the evidence for closing on this side.
+/// Returns the evidence of the certificate for closing on this side.
 pub fn part_on(cert: &Cert, side: Side) -> &SidePart
     ensures part { side_of result.now ≡ evidence_on cert.now side }
     ensures shape { IsSideShape cert.now.rule (side_of result.now) }
@@ -42,7 +43,8 @@ pub fn part_on(cert: &Cert, side: Side) -> &SidePart
     }
 }
 
-/// Returns the least first pair on this side for which no number below n - 1 is claimed.
+/// Returns the least first pair on this side for which no number below n - 1 is claimed, or None if there is no such
+/// pair.
 fn first_too_far(rule: &Rule, side: Side, claims: &[Option<u16>], n: u16) -> Option<u16>
     requires row { length claims.now ≡ pair_count rule.now }
     requires some { 1 ≤ n }
@@ -80,7 +82,8 @@ fn rest_of(rule: &Rule, side: Side, node: u8) -> u8
     }
 }
 
-/// Returns whether some letter on this side of the nodes of a pair gives windows with equal labels.
+/// Returns whether some letter, added to both nodes of a pair at their end on this side, gives two windows with equal
+/// labels.
 fn share_a_label(rule: &Rule, side: Side, pair: u16) -> bool
     requires { pair < pair_count rule.now }
     ensures { IsTrue result ↔ ((a : ℕ) × (a < rule.now.states)

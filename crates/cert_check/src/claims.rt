@@ -1,4 +1,4 @@
-//! Claims of ranks, which become smaller along each step of pairs.
+//! The check that claims of ranks become smaller along each step of pairs.
 
 ghost use Rattle.std.specs.Prelude.{◌≡◌, ◌↔◌, ◌<◌, length, IsTrue};
 ghost use Rattle.word_image.specs.Graphs.{pair_count};
@@ -12,8 +12,8 @@ use cert_conditions::{Condition, Refusal};
 use cert_values::Cert;
 use word_image::{Rule, Side};
 
-/// Checks that the claim of each pair on this side is greater than the claims of all pairs that a step reaches from
-/// it. Returns the first other pair otherwise.
+/// Checks that each pair with a claim on this side leads only to pairs with lesser claims. Otherwise returns a
+/// refusal with the first pair that leads to a pair without a lesser claim.
 pub fn side_claims(cert: &Cert, side: Side) -> Result<(), Refusal>
     ensures { IsChecked cert.now (Condition.SideClaims side) result }
 {
@@ -23,7 +23,7 @@ pub fn side_claims(cert: &Cert, side: Side) -> Result<(), Refusal>
     }
 }
 
-/// Returns the claims for the pairs on this side.
+/// Returns the claims that count on this side: the forward claims on the right, the backward claims on the left.
 pub fn claims_on(cert: &Cert, side: Side) -> &[Option<u16>]
     ensures row { result.now ≡ claims_on cert.now side }
     ensures each { length result.now ≡ pair_count cert.now.rule }
@@ -34,7 +34,7 @@ pub fn claims_on(cert: &Cert, side: Side) -> &[Option<u16>]
     }
 }
 
-/// Returns the first pair whose claim isn't greater than those that follow it on this side.
+/// Returns the first pair with a claim that leads to a pair without a lesser claim, or None if there is no such pair.
 fn first_rise(rule: &Rule, claims: &[Option<u16>], side: Side) -> Option<u16>
     requires { length claims.now ≡ pair_count rule.now }
     ensures { FirstBreach (pair_count rule.now) (Falls side rule.now claims.now) result }
@@ -47,7 +47,7 @@ fn first_rise(rule: &Rule, claims: &[Option<u16>], side: Side) -> Option<u16>
     None
 }
 
-/// Returns whether the claim of a pair is greater than those that follow it on this side.
+/// Returns whether a pair has no claim, or each pair to which it leads on this side has a lesser claim.
 fn falls(rule: &Rule, claims: &[Option<u16>], side: Side, pair: u16) -> bool
     requires row { length claims.now ≡ pair_count rule.now }
     requires pair { pair < pair_count rule.now }
@@ -64,7 +64,8 @@ fn falls(rule: &Rule, claims: &[Option<u16>], side: Side, pair: u16) -> bool
     true
 }
 
-/// Returns whether less than `most` is claimed for each pair that the letter a and another one reach from a pair.
+/// Returns whether a number below `most` is claimed for each pair to which the letter a and any second letter lead
+/// from a pair.
 fn falls_along(rule: &Rule, claims: &[Option<u16>], side: Side, pair: u16, a: u8, most: u16) -> bool
     requires row { length claims.now ≡ pair_count rule.now }
     requires pair { pair < pair_count rule.now }
@@ -79,7 +80,8 @@ fn falls_along(rule: &Rule, claims: &[Option<u16>], side: Side, pair: u16, a: u8
     true
 }
 
-/// Returns whether less than `most` is claimed for the pair that two letters reach from a pair, if there is one.
+/// Returns whether a number below `most` is claimed for the pair to which two letters lead from a pair. Returns true
+/// if the two letters lead to no pair.
 fn falls_by(
     rule: &Rule,
     claims: &[Option<u16>],

@@ -1,4 +1,4 @@
-//! The conditions on a certificate, in their order.
+//! The conditions on a certificate in their order, and their check.
 
 ghost use Rattle.std.specs.Prelude.{MatchResult};
 ghost use Rattle.cert_conditions.specs.Conditions.{MeetsConditions};
@@ -39,7 +39,8 @@ const CONDITIONS: [Condition; 17] = [
     Condition::RingLossy,
 ];
 
-/// Checks that a certificate meets all conditions. Returns the first breach otherwise.
+/// Checks that a certificate meets all conditions. Otherwise returns the refusal for the first condition that it
+/// doesn't meet.
 pub fn check_all(cert: &Cert) -> Result<(), Refusal>
     ensures { MatchResult result (λ _. MeetsConditions cert.now) (IsFirstUnmet cert.now) }
 {
@@ -49,7 +50,7 @@ pub fn check_all(cert: &Cert) -> Result<(), Refusal>
     Ok(())
 }
 
-/// Checks that a certificate meets one condition. Returns its breach otherwise.
+/// Checks that a certificate meets this condition. Otherwise returns the refusal for it.
 fn check(condition: Condition, cert: &Cert) -> Result<(), Refusal>
     ensures { IsChecked cert.now condition result }
 {

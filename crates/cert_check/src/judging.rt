@@ -1,4 +1,4 @@
-//! From bytes to verdicts.
+//! The function `judge`, which goes from the bytes of a certificate to its verdicts.
 
 ghost use Rattle.std.specs.Prelude.{◌≡◌, ◌⊎◌, Ok, Err, alloc_error, IfOk, IfErr};
 ghost use Rattle.cert_conditions.specs.Accepted.{IsAccepted, AreTrue};
@@ -10,8 +10,8 @@ use cert_format::{CertFault, from_bytes};
 use std::alloc::Global;
 
 /// Returns the verdicts of the certificate whose text the bytes are, if it meets all conditions. Then each verdict is
-/// true of its rule. Otherwise returns the first fault of the text or the first condition that isn't met. Each step
-/// of reading may lack memory.
+/// true of its rule. Otherwise returns the first fault of the text, or the first condition that the certificate
+/// doesn't meet. It returns `Memory` if there isn't enough memory to read the text.
 pub fn judge(alloc: Global, bytes: &[u8]) -> Result<Verdicts, Refusal>
     ensures accepted { IfOk result (IsAccepted bytes.now) }
     ensures verdicts { IfOk result AreTrue }

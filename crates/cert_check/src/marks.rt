@@ -1,4 +1,4 @@
-//! Marks on sets of nodes.
+//! The type `Marks`, which stores for each set of nodes whether it is marked.
 
 ghost use Rattle.std.specs.Prelude.{◌≡◌, ◌+◌, ◌<◌, ◌↔◌, ◌⊎◌, ℕ, IsTrue};
 ghost use Rattle.word_image.specs.LocalRules.{most_nodes};
@@ -8,25 +8,25 @@ ghost use Rattle.cert_check.specs.Rows.{IsMarked, AreMarked, AreKept, without};
 use cert_values::CertVersion;
 use word_image::MOST_NODES;
 
-/// The number of rows, with 16 of the 65,536 sets in each.
+/// The number of rows. Each row has the marks of 16 of the 65,536 sets.
 const ROWS: usize = 4096;
 
-/// Marks on sets of sixteen nodes.
+/// For each set of at most sixteen nodes, whether it is marked.
 #[derive(Drop)]
 pub struct Marks {
-    // Set s is bit s % 16 of row s / 16.
+    // The mark of set s is bit s % 16 of row s / 16.
     rows: [u16; ROWS],
 }
 
 impl Marks {
-    /// Returns no marks.
+    /// Makes marks of which no set has one.
     pub fn new() -> Marks
         ensures { (s : ℕ) → ¬ IsMarked result.rows s }
     {
         Marks { rows: [0; ROWS] }
     }
 
-    /// Marks each set of a list.
+    /// Makes marks of exactly the sets of a list.
     pub fn of(sets: &[u16]) -> Marks
         ensures { AreMarked result.rows sets.now }
     {
@@ -37,7 +37,9 @@ impl Marks {
         marks
     }
 
-    /// Marks each set, up to the set of all nodes, that may be the step of a listed set in this version.
+    /// Makes marks of the sets to which the step of a listed set may lead in this version: in version 1 the listed
+    /// sets, and from version 2 on the sets that contain a listed set. It marks only sets up to the number `full` of
+    /// the set of all nodes.
     pub fn kept(version: CertVersion, full: u16, sets: &[u16]) -> Marks
         ensures { AreKept version full sets.now result.rows }
     {
@@ -47,7 +49,7 @@ impl Marks {
         }
     }
 
-    /// Marks each set, up to the set of all nodes, that contains a set of a list.
+    /// Makes marks of the sets up to the number `full` that contain a set of a list.
     fn above(full: u16, sets: &[u16]) -> Marks
         ensures { (s : ℕ) → IsMarked result.rows s ↔ ((s < full + 1) × HasPart sets.now s) }
     {
@@ -63,7 +65,8 @@ impl Marks {
         above
     }
 
-    /// Returns whether a set becomes a marked one when some node is removed.
+    /// Returns whether a set is marked after some node is removed from it. To remove a node that isn't in the set
+    /// changes nothing.
     fn has_without_one(&self, set: u16) -> bool
         ensures { IsTrue result ↔ ((n : ℕ) × (n < most_nodes) × IsMarked self.now.rows (without set n)) }
     {
@@ -90,7 +93,7 @@ impl Marks {
     }
 }
 
-/// Returns whether a set is listed, or becomes a marked one when some node is removed.
+/// Returns whether `listed` marks a set, or `above` marks the set after some node is removed from it.
 fn is_above(listed: &Marks, above: &Marks, set: u16) -> bool
     ensures { IsTrue result ↔ (IsMarked listed.now.rows set ⊎ ((n : ℕ) × (n < most_nodes) × IsMarked above.now.rows (without set n))) }
 {

@@ -1,4 +1,4 @@
-//! Words that lead to no node.
+//! The check of an orphan: a word whose steps lead to the empty set.
 
 ghost use Rattle.word_image.specs.LocalRules.{IsWord};
 ghost use Rattle.word_image.specs.Graphs.{full_set};
@@ -9,7 +9,7 @@ use cert_conditions::{Condition, Refusal};
 use cert_values::{Cert, SurjectivePart};
 use word_image::{Rule, Side, edge_rows, step};
 
-/// Checks that the steps of the orphan lead from the set of all nodes to the empty set.
+/// Checks that the steps on the letters of the orphan lead from the set of all nodes to the empty set.
 pub fn orphan_read(cert: &Cert) -> Result<(), Refusal>
     ensures { IsChecked cert.now Condition.OrphanRead result }
 {
@@ -25,7 +25,7 @@ pub fn orphan_read(cert: &Cert) -> Result<(), Refusal>
     }
 }
 
-/// Returns the set to which the steps of a word lead from the set of all nodes.
+/// Returns the set to which the steps on the letters of a word lead from the set of all nodes.
 fn reached(rule: &Rule, word: &[u8]) -> u16
     requires { IsWord rule.now.states word.now }
     ensures { LeadsTo rule.now (full_set rule.now) word.now result }

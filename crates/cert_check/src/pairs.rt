@@ -1,4 +1,4 @@
-//! Listed pairs of nodes that prove a rule surjective.
+//! The checks of listed pairs of nodes, which prove that a rule is surjective.
 
 ghost use Rattle.std.specs.Prelude.{◌≢◌, ◌<◌, ℕ, List, length, slice_index, All, IsTrue, ◌↔◌, MatchOption};
 ghost use Rattle.word_image.specs.Graphs.{first_of, second_of, follow, pair_count};
@@ -13,7 +13,8 @@ use cert_conditions::{Condition, Refusal};
 use cert_values::{Cert, SurjectivePart};
 use word_image::{Rule, Side};
 
-/// Checks that each first pair on the right is listed. Returns the least other pair otherwise.
+/// Checks that each first pair on the right is listed. Otherwise returns a refusal with the least first pair that
+/// isn't listed.
 pub fn firsts_listed(cert: &Cert) -> Result<(), Refusal>
     ensures { IsChecked cert.now Condition.FirstsListed result }
 {
@@ -26,7 +27,8 @@ pub fn firsts_listed(cert: &Cert) -> Result<(), Refusal>
     }
 }
 
-/// Checks that no listed pair has two equal nodes. Returns the place of the first such pair otherwise.
+/// Checks that no listed pair has two equal nodes. Otherwise returns a refusal with the place of the first pair with
+/// two equal nodes.
 pub fn off_diagonal(cert: &Cert) -> Result<(), Refusal>
     ensures { IsChecked cert.now Condition.OffDiagonal result }
 {
@@ -39,8 +41,8 @@ pub fn off_diagonal(cert: &Cert) -> Result<(), Refusal>
     }
 }
 
-/// Checks that each pair that a step reaches from a listed pair is listed. Otherwise returns the first place of a
-/// pair with a step to another one, and the first two letters of such a step.
+/// Checks that each pair to which a step leads from a listed pair is listed. Otherwise returns a refusal with the
+/// first place of a pair that leads to a pair that isn't listed, and with the first two letters of such a step.
 pub fn pairs_closed(cert: &Cert) -> Result<(), Refusal>
     ensures { IsChecked cert.now Condition.PairsClosed result }
 {
@@ -53,7 +55,7 @@ pub fn pairs_closed(cert: &Cert) -> Result<(), Refusal>
     }
 }
 
-/// Returns the least first pair on the right that isn't listed.
+/// Returns the least first pair on the right that isn't listed, or None if all of them are listed.
 fn first_missing(rule: &Rule, pairs: &[u16]) -> Option<u16>
     ensures { FirstBreach (pair_count rule.now) (FirstIsListed rule.now pairs.now) result }
 {
@@ -66,7 +68,7 @@ fn first_missing(rule: &Rule, pairs: &[u16]) -> Option<u16>
     None
 }
 
-/// Returns the place of the first pair with two equal nodes.
+/// Returns the place of the first listed pair with two equal nodes, or None if there is no such pair.
 fn first_diagonal(rule: &Rule, pairs: &[u16]) -> Option<usize>
     requires { All (λ p. p < pair_count rule.now) pairs.now }
     ensures { FirstBreach (length pairs.now)
@@ -81,7 +83,8 @@ fn first_diagonal(rule: &Rule, pairs: &[u16]) -> Option<usize>
     None
 }
 
-/// Returns the place of the first pair with a step to a pair that isn't listed, and the first letters of such a step.
+/// Returns the place of the first listed pair with a step to a pair that isn't listed, and the first letters of such
+/// a step. Returns None if there is no such pair.
 fn first_leaving(rule: &Rule, pairs: &[u16]) -> Option<(usize, (u8, u8))>
     requires { All (λ p. p < pair_count rule.now) pairs.now }
     ensures { MatchOption result
@@ -103,7 +106,8 @@ fn first_leaving(rule: &Rule, pairs: &[u16]) -> Option<(usize, (u8, u8))>
     None
 }
 
-/// Returns the first letters, by the first and then the second, that reach an unmarked pair from a pair.
+/// Returns the first two letters that lead from a pair to an unmarked pair, or None if there are no such letters.
+/// Lesser first letters come first, and then lesser second letters.
 fn first_step_out(rule: &Rule, listed: &Marks, pair: u16) -> Option<(u8, u8)>
     requires { pair < pair_count rule.now }
     ensures { (pairs : List ℕ) → AreMarked listed.now.rows pairs → MatchOption result
@@ -118,7 +122,8 @@ fn first_step_out(rule: &Rule, listed: &Marks, pair: u16) -> Option<(u8, u8)>
     None
 }
 
-/// Returns the least `b` for which the letters `a` and `b` reach an unmarked pair from a pair.
+/// Returns the least `b` for which the letters `a` and `b` lead from a pair to an unmarked pair, or None if there is
+/// none.
 fn first_letter_out(rule: &Rule, listed: &Marks, pair: u16, a: u8) -> Option<u8>
     requires pair { pair < pair_count rule.now }
     requires letter { a < rule.now.states }
@@ -133,7 +138,8 @@ fn first_letter_out(rule: &Rule, listed: &Marks, pair: u16, a: u8) -> Option<u8>
     None
 }
 
-/// Returns whether the pair that two letters reach from a pair is marked, if there is one.
+/// Returns whether the pair to which two letters lead from a pair is marked. Returns true if the two letters lead to
+/// no pair.
 fn leads_within(rule: &Rule, listed: &Marks, pair: u16, a: u8, b: u8) -> bool
     requires pair { pair < pair_count rule.now }
     requires first { a < rule.now.states }

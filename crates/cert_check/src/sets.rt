@@ -1,4 +1,5 @@
-//! Listed sets that prove a rule surjective.
+//! The checks of listed sets of nodes, which prove that a rule is surjective. The condition of the version on a step
+//! of a listed set is that it leads to a listed set, or from version 2 on to a set that contains a listed set.
 
 ghost use Rattle.std.specs.Prelude.{◌≢◌, ◌<◌, ℕ, List, length, slice_index, MatchOption, ◌↔◌, IsTrue};
 ghost use Rattle.word_image.specs.Graphs.{full_set};
@@ -13,11 +14,11 @@ use cert_conditions::{Condition, Refusal};
 use cert_values::{Cert, CertVersion, SurjectivePart};
 use word_image::{EdgeRows, Rule, Side, edge_rows, step};
 
-/// The greatest number of listed sets that are all compared with each step. For more sets, marks on the sets that
-/// contain a listed one take less time: they are made once, for all 65,536 sets.
+/// The greatest number of listed sets that are all compared with each step. If there are more sets, marks on the sets
+/// that contain a listed set take less time. They are made only once, for all 65,536 sets.
 const FEW: usize = 256;
 
-/// Checks that the set of all nodes is listed.
+/// Checks that the set of all nodes is listed. Otherwise returns the refusal `NoFull`.
 pub fn full_listed(cert: &Cert) -> Result<(), Refusal>
     ensures { IsChecked cert.now Condition.FullListed result }
 {
@@ -33,7 +34,7 @@ pub fn full_listed(cert: &Cert) -> Result<(), Refusal>
     }
 }
 
-/// Checks that no listed set is empty. Returns the first place of an empty one otherwise.
+/// Checks that no listed set is empty. Otherwise returns a refusal with the place of the first empty set.
 pub fn none_empty(cert: &Cert) -> Result<(), Refusal>
     ensures { IsChecked cert.now Condition.NoneEmpty result }
 {
@@ -46,8 +47,9 @@ pub fn none_empty(cert: &Cert) -> Result<(), Refusal>
     }
 }
 
-/// Checks that the steps of each listed set meet the condition of the version. Returns the first place of a set with
-/// another step, and the first letter of such a step, otherwise.
+/// Checks that each step of a listed set meets the condition of the version: it leads to a listed set, or from
+/// version 2 on to a set that contains one. Otherwise returns a refusal with the place of the first set with another
+/// step, and with the first letter of such a step.
 pub fn closed(cert: &Cert) -> Result<(), Refusal>
     ensures { IsChecked cert.now Condition.Closed result }
 {
@@ -63,7 +65,7 @@ pub fn closed(cert: &Cert) -> Result<(), Refusal>
     }
 }
 
-/// Returns the place of the first empty set.
+/// Returns the place of the first empty set of a list, or None if no set is empty.
 fn first_empty(sets: &[u16]) -> Option<usize>
     ensures { FirstBreach (length sets.now) (λ i. slice_index sets.now i ≢ 0) result }
 {
@@ -76,7 +78,7 @@ fn first_empty(sets: &[u16]) -> Option<usize>
 }
 
 /// Returns the place of the first set with a step that doesn't meet the condition of the version, and the first
-/// letter of such a step.
+/// letter of such a step. Returns None if all steps meet the condition.
 fn first_open(
     version: CertVersion,
     rule: &Rule,
@@ -106,7 +108,7 @@ fn first_open(
     None
 }
 
-/// Returns the first letter on which the step of a set isn't marked.
+/// Returns the first letter on which the step of a set leads to an unmarked set, or None if there is no such letter.
 fn first_not_kept(rule: &Rule, edges: &EdgeRows, kept: &Marks, set: u16) -> Option<u8>
     requires { AreEdgeRows Side.Right rule.now edges.now }
     ensures { (version : CertVersion) (sets : List ℕ) → AreKept version (full_set rule.now) sets kept.now.rows → FirstBreach rule.now.states (StepIsKept version rule.now sets set) result }
@@ -119,7 +121,7 @@ fn first_not_kept(rule: &Rule, edges: &EdgeRows, kept: &Marks, set: u16) -> Opti
     None
 }
 
-/// Does the same as `first_open`, and compares each step with each listed set.
+/// Returns the same as `first_open`, but compares each step with each listed set.
 fn first_open_of_few(
     version: CertVersion,
     rule: &Rule,
@@ -140,7 +142,8 @@ fn first_open_of_few(
     None
 }
 
-/// Returns the first letter on which the step of a set doesn't meet the condition of the version.
+/// Returns the first letter on which the step of a set doesn't meet the condition of the version, or None if there is
+/// none.
 fn first_outside(
     version: CertVersion,
     rule: &Rule,
@@ -159,7 +162,8 @@ fn first_outside(
     None
 }
 
-/// Returns whether a set meets the condition of the version on steps.
+/// Returns whether a step may lead to this set: whether the set is listed, or from version 2 on contains a listed
+/// set.
 fn is_kept(version: CertVersion, sets: &[u16], set: u16) -> bool
     ensures { IsTrue result ↔ IsKept version sets.now set }
 {
@@ -169,7 +173,7 @@ fn is_kept(version: CertVersion, sets: &[u16], set: u16) -> bool
     }
 }
 
-/// Returns whether a set contains a listed one.
+/// Returns whether a set contains a listed set.
 fn has_part(sets: &[u16], set: u16) -> bool
     ensures { IsTrue result ↔ HasPart sets.now set }
 {

@@ -1,4 +1,4 @@
-//! Two configurations that share an image and agree on a side.
+//! The check of a split: two configurations that share an image and agree on a side.
 
 ghost use Rattle.std.specs.Prelude.{◌≡◌, ◌↔◌, IsTrue, MatchOption};
 ghost use Rattle.tail_config.specs.Tails.{Different, ShareImage};
@@ -12,8 +12,8 @@ use cert_values::{Cert, SidePart};
 use tail_config::{Tail, agree_left, agree_right, differ, share};
 use word_image::{Rule, Side};
 
-/// Checks that the configurations differ, agree on the other side and share an image. Returns the first of these that
-/// fails otherwise.
+/// Checks that the two configurations of a split of this side differ, agree on the other side and share an image.
+/// Otherwise returns a refusal with the first of these three that isn't true.
 pub fn side_split(cert: &Cert, side: Side) -> Result<(), Refusal>
     ensures { IsChecked cert.now (Condition.SideSplit side) result }
 {
@@ -26,7 +26,7 @@ pub fn side_split(cert: &Cert, side: Side) -> Result<(), Refusal>
     }
 }
 
-/// Returns why two configurations aren't a split of this side, if they aren't.
+/// Returns the first reason why two configurations aren't a split of this side, or None if they are one.
 fn lacks(rule: &Rule, side: Side, x: &Tail, y: &Tail) -> Option<SplitCause>
     requires first { x.now.states ≡ rule.now.states }
     requires second { y.now.states ≡ rule.now.states }
@@ -46,7 +46,7 @@ fn lacks(rule: &Rule, side: Side, x: &Tail, y: &Tail) -> Option<SplitCause>
     None
 }
 
-/// Returns whether two configurations agree on the other side.
+/// Returns whether two configurations agree on the side opposite to this one.
 fn agree_behind(side: Side, x: &Tail, y: &Tail) -> bool
     ensures { IsTrue result ↔ AgreeBehind side x.now.config y.now.config }
 {

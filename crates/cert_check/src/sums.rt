@@ -1,4 +1,4 @@
-//! A flux that balances, or a ring whose image has another sum.
+//! The checks of a flux that balances, and of a ring whose image has another sum.
 
 ghost use Rattle.std.specs.Prelude.{◌≡◌, ◌↔◌, ◌^◌, ◌<◌, length, slice_index, IsTrue};
 ghost use Rattle.word_image.specs.LocalRules.{node_count, word_of};
@@ -9,7 +9,8 @@ use cert_conditions::{Condition, Refusal};
 use cert_values::{Cert, SumPart};
 use word_image::{Rule, Side, Weights, keeps_sum};
 
-/// Checks that the flux balances the gain of each window. Returns the least other window otherwise.
+/// Checks that the flux balances at each window. Otherwise returns a refusal with the least window at which it
+/// doesn't balance.
 pub fn flux_flows(cert: &Cert) -> Result<(), Refusal>
     ensures { IsChecked cert.now Condition.FluxFlows result }
 {
@@ -22,7 +23,8 @@ pub fn flux_flows(cert: &Cert) -> Result<(), Refusal>
     }
 }
 
-/// Checks that the ring has letters, and its image another sum.
+/// Checks that the ring has at least one letter, and that its image has another sum. Otherwise returns the refusal
+/// `Ring`.
 pub fn ring_lossy(cert: &Cert) -> Result<(), Refusal>
     ensures { IsChecked cert.now Condition.RingLossy result }
 {
@@ -36,7 +38,7 @@ pub fn ring_lossy(cert: &Cert) -> Result<(), Refusal>
     Ok(())
 }
 
-/// Returns the value of the first window at which the flux doesn't balance.
+/// Returns the value of the first window at which the flux doesn't balance, or None if it balances at all windows.
 fn first_unbalanced(rule: &Rule, weights: &Weights, flux: &[i32]) -> Option<u16>
     requires letters { length weights.now ≡ rule.now.states }
     requires nodes { length flux.now ≡ node_count rule.now }
@@ -50,7 +52,7 @@ fn first_unbalanced(rule: &Rule, weights: &Weights, flux: &[i32]) -> Option<u16>
     None
 }
 
-/// Returns whether the flux balances the gain of the window with this value.
+/// Returns whether the flux balances at the window with this value.
 fn flows(rule: &Rule, weights: &Weights, flux: &[i32], window: u16) -> bool
     requires letters { length weights.now ≡ rule.now.states }
     requires nodes { length flux.now ≡ node_count rule.now }

@@ -1,4 +1,4 @@
-//! Two words whose rings have the same image.
+//! The check of twins: two words whose rings have the same image.
 
 ghost use Rattle.std.specs.Prelude.{◌≡◌, ◌≢◌, ◌↔◌, ◌≤◌, length, IsTrue, MatchOption};
 ghost use Rattle.word_image.specs.LocalRules.{IsWord};
@@ -10,8 +10,8 @@ use cert_conditions::{Condition, Refusal, TwinCause};
 use cert_values::{Cert, InjectivePart};
 use word_image::{Rule, ring_apply};
 
-/// Checks that the twins have the same length of at least 1, differ, and have rings with the same image. Returns the
-/// first of these that fails otherwise.
+/// Checks that the twins have the same length of at least 1, are different, and have rings with the same image.
+/// Otherwise returns a refusal with the first of these three that isn't true.
 pub fn twins_alike(cert: &Cert) -> Result<(), Refusal>
     ensures { IsChecked cert.now Condition.TwinsAlike result }
 {
@@ -24,7 +24,7 @@ pub fn twins_alike(cert: &Cert) -> Result<(), Refusal>
     }
 }
 
-/// Returns why two words aren't twins, if they aren't.
+/// Returns the first reason why two words aren't twins, or None if they are twins.
 fn lacks(rule: &Rule, x: &[u8], y: &[u8]) -> Option<TwinCause>
     requires first { IsWord rule.now.states x.now }
     requires second { IsWord rule.now.states y.now }
@@ -44,8 +44,8 @@ fn lacks(rule: &Rule, x: &[u8], y: &[u8]) -> Option<TwinCause>
     None
 }
 
-/// Returns whether two rings of the same length have the same image: whether the rule gives the same letter for their
-/// windows at each place.
+/// Returns whether two rings of the same length have the same image. This is so if at each place the rule gives the
+/// same letter for the windows of both rings.
 fn have_one_image(rule: &Rule, x: &[u8], y: &[u8]) -> bool
     requires first { IsRing rule.now.states x.now }
     requires second { IsRing rule.now.states y.now }

@@ -1,4 +1,4 @@
-//! Windows whose letter the claims of ranks determine.
+//! The check that claims of ranks determine the letter of a window.
 
 ghost use Rattle.std.specs.Prelude.{◌≡◌, ◌↔◌, ◌+◌, ◌-◌, ◌<◌, ◌≤◌, length, IsTrue};
 ghost use Rattle.word_image.specs.Graphs.{pair_count};
@@ -10,8 +10,8 @@ use cert_conditions::{Condition, Refusal};
 use cert_values::{Cert, InjectivePart};
 use word_image::{Rule, Side};
 
-/// Checks that the claims of ranks determine the letter of the window. Returns the first pair whose claims don't
-/// otherwise.
+/// Checks that the claims of ranks show that the window (n, c) determines its letter. Otherwise returns a refusal
+/// with the first pair of nodes that the claims don't exclude.
 pub fn window_claims(cert: &Cert) -> Result<(), Refusal>
     ensures { IsChecked cert.now Condition.WindowClaims result }
 {
@@ -25,7 +25,8 @@ pub fn window_claims(cert: &Cert) -> Result<(), Refusal>
     }
 }
 
-/// Returns the first pair whose nodes differ in the letter of the window (n, c) and that the claims don't exclude.
+/// Returns the first pair of nodes that have different letters at the place of the window (n, c) and that the claims
+/// don't exclude. Returns None if there is no such pair.
 fn first_not_told(
     rule: &Rule,
     forward: &[Option<u16>],
@@ -46,8 +47,10 @@ fn first_not_told(
     None
 }
 
-/// Returns whether the nodes of a pair have the same letter in the window (n, c), or the claims exclude the pair. j =
-/// min(c, n) letters of the image come before these nodes, and n - j after.
+/// Returns whether the claims show for a pair of nodes that the window (n, c) determines its letter. Let j = min(c,
+/// n). The letter is at place c - j of the nodes, with j letters of the image before the nodes and n - j after them.
+/// So the two nodes must have the same letter there, or a number below j is claimed backward, or a number below n - j
+/// is claimed forward.
 fn is_told(
     rule: &Rule,
     forward: &[Option<u16>],

@@ -1,36 +1,39 @@
-//! The conditions on a certificate.
+//! The type `Condition`: the conditions that a certificate must meet.
 
 use word_image::Side;
 
-/// A condition on a certificate. Most conditions only concern evidence of one kind.
+/// A condition on a certificate. Most conditions only concern evidence of one kind. A certificate without this
+/// evidence meets them.
 #[derive(Clone, Copy, Debug, PartialEq, Eq)]
 pub enum Condition {
-    /// The claim of each pair is greater than the claims of all pairs that a step on this side reaches from it.
+    /// If a number is claimed for a pair on this side, a lesser number is claimed for each pair to which a step on
+    /// this side leads from the pair.
     SideClaims(Side),
-    /// The set of all nodes is listed.
+    /// The set of all nodes is a listed set.
     FullListed,
     /// No listed set is empty.
     NoneEmpty,
-    /// Each step of a listed set is a listed set, or from version 2 on contains a listed set.
+    /// Each step of a listed set leads to a listed set. From version 2 on, it only needs to lead to a set that
+    /// contains a listed set.
     Closed,
-    /// Each first pair on the right is listed.
+    /// Each first pair on the right is a listed pair.
     FirstsListed,
     /// No listed pair has two equal nodes.
     OffDiagonal,
-    /// Each pair that a step reaches from a listed pair is listed.
+    /// Each pair to which a step leads from a listed pair is a listed pair.
     PairsClosed,
-    /// The steps of the orphan lead from the set of all nodes to the empty set.
+    /// The steps on the letters of the orphan lead from the set of all nodes to the empty set.
     OrphanRead,
-    /// The claims determine the letter of the window.
+    /// The claims show that the window determines its letter.
     WindowClaims,
-    /// The twins have the same length, differ, and have rings with the same image.
+    /// The twins have the same length of at least 1, are different, and have rings with the same image.
     TwinsAlike,
-    /// The claims of the first pairs on this side are small enough for the look-ahead.
+    /// For each first pair on this side a number below the look-ahead minus 1 is claimed.
     SideAhead(Side),
-    /// The configurations differ, agree on the other side and share an image.
+    /// The two configurations of the split differ, agree on the other side and share an image.
     SideSplit(Side),
-    /// The flux balances the gain of each window.
+    /// The flux balances at each window.
     FluxFlows,
-    /// The ring has at least one letter, and its image has another sum.
+    /// The ring has at least one letter, and its image has another sum of weights.
     RingLossy,
 }

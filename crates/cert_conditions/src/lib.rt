@@ -1,35 +1,53 @@
-//! The conditions on a certificate, and which bytes are accepted or refused: values and their laws. This crate finds
-//! and judges nothing. The judge is the crate `cert_check`.
+//! The conditions on a certificate, and which bytes are accepted or refused. This crate has only values and laws. It
+//! finds no evidence and judges nothing. The judge is the crate `cert_check`.
 //!
 //! A node is a word of m - 1 letters. A window leads from the node of its first letters to the node of its last
 //! letters, and its label is the letter that the rule gives for it (Sutner 1991). The step of a set of nodes on a
 //! label leads to all nodes that windows with this label reach from the set. A step of a pair of nodes follows two
-//! windows with equal labels. A claim for a pair is a bound on the number of steps that can follow each other from
-//! the pair, forward or backward.
+//! windows with equal labels, one from each node.
+//!
+//! - A *claim* is a number for a pair of nodes: at most so many steps can follow each other from the pair. Forward
+//!   claims are about steps forward, and backward claims about steps backward. A pair may have no claim. On the right
+//!   forward claims count, and on the left backward claims.
+//! - A *first pair on the right* is a pair to which two different letters lead from the same node, by windows with
+//!   equal labels. A *first pair on the left* is a pair of nodes that differ only in their first letter, from which
+//!   two windows with equal labels and with the same last letter lead.
+//! - The *gain* of a window is the weight of the letter that the rule gives for it, minus the weight of its first
+//!   letter. A flux has a number for each node. It *balances* at a window if the gain is the number of the first node
+//!   minus the number of the last node.
+//!
+//! The evidence for a verdict has these kinds. An *orphan* is a word without a preimage. A *window* (n, c) says that
+//! n letters of an image determine the letter at place c of each preimage. *Twins* are two different words of the
+//! same length whose rings have the same image. A *look-ahead* says how many letters of the image determine the next
+//! letter of a word on a side. A *split* of a side is two different configurations that share an image and agree on
+//! the other side. A *flux* has a number for each node, and shows that each ring keeps the sum of its weights. A
+//! *ring* is a word that is read on from its end at its start.
 //!
 //! For each question a certificate has the evidence for one answer.
 //!
-//! - Surjective: listed sets, which contain the set of all nodes and not the empty set, and each step of a listed
-//!   set, or from version 2 on a part of it. In version 3 also listed pairs, which contain each pair that two
-//!   different letters reach from the same node, and each pair that a step reaches from a listed pair, and no pair of
-//!   equal nodes (Moore 1962, Myhill 1963).
+//! - Surjective: a list of sets of nodes. It has the set of all nodes, but not the empty set. Each step of a listed
+//!   set leads to a listed set, or from version 2 on to a set that contains one. In version 3 a list of pairs will do
+//!   instead. It has each first pair on the right, and each pair to which a step leads from a listed pair, but no
+//!   pair of equal nodes (Moore 1962, Myhill 1963).
 //! - Not surjective: a word whose steps lead from the set of all nodes to the empty set.
-//! - Injective: a window that the claims determine. Not injective: two words whose rings have the same image.
+//! - Injective: a window for which the claims show that it determines its letter. Not injective: two words whose
+//!   rings have the same image.
 //! - Closing on a side: a look-ahead that the claims allow. Not closing: two configurations that share an image and
 //!   agree on the other side.
 //! - Conserving: a flux that balances (Hattori and Takesue 1991). Not conserving: a ring whose image has another sum
 //!   of weights.
 //!
-//! The shift `2:2:0:t0101` has the nodes 0 and 1, and the label of a window is its last letter. The set of all nodes,
-//! 3, steps to 1 on 0 and to 2 on 1, and so do 1 and 2. The sets 3, 1, 2 prove that the rule is surjective. A
+//! The shift `2:2:0:t0101` has the nodes 0 and 1, and the label of a window is its last letter. The set of all nodes
+//! has the number 3. Its step on the label 0 leads to the set 1, and its step on the label 1 to the set 2. The steps
+//! of the sets 1 and 2 lead to the same two sets. So the sets 3, 1, 2 prove that the rule is surjective. A
 //! certificate with only the sets 3 and 1 is refused as `NotClosed(0, 1)`. The rule `2:2:0:t0011` gives the first
-//! cell. Two letters lead from each node with equal labels, to the pairs 1 and 2, which have no steps: these pairs
-//! prove that it is surjective.
+//! cell. From each node two different letters lead to the pairs 1 and 2 with equal labels. These pairs have no steps,
+//! so they prove that the rule is surjective.
 //!
-//! There are seventeen [`Condition`]s, and `Holds` of specs/Conditions.antt says when a certificate meets one.
-//! `IsAccepted` of specs/Accepted.antt says which bytes are accepted, with which [`Verdicts`]. `IsRefusal` of
-//! specs/Refusals.antt says which bytes are refused, with which [`Refusal`]. The law [`accepted_is_true`] says that
-//! accepted verdicts are true.
+//! There are seventeen conditions: three of the fourteen kinds of [`Condition`] exist for each of the two sides.
+//! `Holds` of specs/Conditions.antt says when a certificate meets a condition. `IsAccepted` of specs/Accepted.antt
+//! says which bytes are accepted, with which [`Verdicts`]. `IsRefusal` of specs/Refusals.antt says which bytes are
+//! refused, with which [`Refusal`]. The law [`accepted_is_true`] says that accepted verdicts are true.
 #![tactic(auto)]
 
 mod condition;

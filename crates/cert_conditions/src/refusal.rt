@@ -1,4 +1,4 @@
-//! Why bytes are refused.
+//! The type `Refusal`: why bytes are refused.
 
 use cert_values::ShapeFault;
 use std::alloc::AllocError;
@@ -7,60 +7,61 @@ use word_image::Side;
 /// Why two words aren't twins.
 #[derive(Clone, Copy, Debug, PartialEq, Eq)]
 pub enum TwinCause {
-    /// They have different lengths, or no letters.
+    /// The words have different lengths, or no letters.
     Length,
-    /// They are equal.
+    /// The words are equal.
     Same,
-    /// Their rings have different images.
+    /// The rings of the words have different images.
     Image,
 }
 
-/// Why two configurations aren't a split.
+/// Why two configurations aren't a split of a side.
 #[derive(Clone, Copy, Debug, PartialEq, Eq)]
 pub enum SplitCause {
-    /// They are equal.
+    /// The configurations are equal.
     Same,
-    /// They don't agree on the required side.
+    /// The configurations don't agree on the other side.
     Apart,
-    /// Their images differ.
+    /// The images of the configurations differ.
     Image,
 }
 
-/// Why bytes are refused: the first condition that they fail, with the place at which they do.
+/// Why bytes are refused: the fault of the text, or the first condition that the certificate doesn't meet, with the
+/// place at which it doesn't.
 #[derive(Clone, Copy, Debug, PartialEq, Eq)]
 pub enum Refusal {
-    /// They aren't the text of a certificate, because of this first fault.
+    /// The bytes aren't the text of a certificate, because of this first fault.
     Format(ShapeFault),
-    /// The claim of this pair isn't greater than the claims that follow it: forward on the right, backward on the
-    /// left. It is the first such pair.
+    /// A number is claimed for this pair on this side, but no lesser number for some pair to which a step leads from
+    /// it. It is the first such pair.
     Rank(Side, u16),
-    /// The set of all nodes isn't listed.
+    /// The set of all nodes isn't a listed set.
     NoFull,
-    /// The set at this place is empty. It is the first empty set.
+    /// The listed set at this place is empty. It is the first such place.
     EmptySet(usize),
-    /// The step of the set at this place on this letter isn't listed, or from version 2 on contains no listed set. It
-    /// is the first such place, with its first such letter.
+    /// The step of the set at this place on this letter leads to a set that isn't listed. From version 2 on, it leads
+    /// to a set that contains no listed set. It is the first such place, with its first such letter.
     NotClosed(usize, u8),
-    /// This first pair on the right isn't listed. It is the least such pair.
+    /// This first pair on the right isn't a listed pair. It is the least such pair.
     NoFirst(u16),
-    /// The pair at this place has two equal nodes. It is the first such pair.
+    /// The listed pair at this place has two equal nodes. It is the first such place.
     Diagonal(usize),
-    /// The pair at this place has a step on these letters to a pair that isn't listed. It is the first such place,
-    /// with its first such letters.
+    /// From the listed pair at this place a step on these two letters leads to a pair that isn't listed. It is the
+    /// first such place, with its first such letters.
     Leaves(usize, u8, u8),
-    /// The steps of the orphan lead to some node.
+    /// The steps of the orphan lead from the set of all nodes to a set that isn't empty.
     Orphan,
-    /// The claims of this pair don't determine the letter of the window. It is the first such pair.
+    /// For this pair the claims don't show that the window determines its letter. It is the first such pair.
     Window(u16),
-    /// The words aren't twins, for the first of these causes that applies.
+    /// The words aren't twins. The cause is the first one that applies.
     Twins(TwinCause),
-    /// The claim of this first pair on the side is too great for the look-ahead. It is the least such pair.
+    /// For this first pair on this side no number below the look-ahead minus 1 is claimed. It is the least such pair.
     Ahead(Side, u16),
-    /// The configurations aren't a split of this side, for the first of these causes that applies.
+    /// The configurations aren't a split of this side. The cause is the first one that applies.
     Split(Side, SplitCause),
     /// The flux doesn't balance at the window with this value. It is the least such window.
     Flux(u16),
-    /// The ring has no letter, or its image has the same sum.
+    /// The ring has no letter, or its image has the same sum of weights.
     Ring,
     /// There is not enough memory.
     Memory(AllocError),

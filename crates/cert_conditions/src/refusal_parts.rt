@@ -1,4 +1,4 @@
-//! The parts of a refusal in texts and in JSON: words and numbers.
+//! The parts of a refusal, words and numbers, from which its text and its JSON are made.
 ghost use Rattle.std.specs.Prelude.{◌≡◌, IfOk};
 ghost use Rattle.cert_conditions.specs.RefusalParts as parts;
 ghost use Rattle.cert_conditions.specs.RefusalParts.{parts_of, said_in};
@@ -9,7 +9,7 @@ use rule_text::{fault_name, fault_place};
 use std::alloc::AllocError;
 use word_image::Side;
 
-/// The numbers of a refusal, at most three.
+/// The numbers of a refusal, from none to three.
 #[derive(Clone, Copy)]
 pub enum RefusalNumbers {
     None,
@@ -18,20 +18,20 @@ pub enum RefusalNumbers {
     Three(u64, u64, u64),
 }
 
-/// The parts of a refusal. A text joins them in this order, and JSON names them.
+/// The parts of a refusal. Its text joins them in this order, and its JSON has a key for each part.
 #[derive(Clone, Copy)]
 pub struct RefusalParts {
-    /// The condition that isn't met, or `format` if the bytes aren't the text of a certificate.
+    /// The word for the condition that isn't met, or `format` if the bytes aren't the text of a certificate.
     pub cause: &'static str,
-    /// The side of the condition.
+    /// The word for the side of the condition, if it has one.
     pub side: Option<&'static str>,
-    /// Why the condition isn't met, if there are several reasons.
+    /// The word for the reason why the condition isn't met, if there are several reasons.
     pub because: Option<&'static str>,
-    /// The key of the part that has the wrong shape.
+    /// The word for the part of the certificate that has the wrong shape, if there is one.
     pub key: Option<&'static str>,
-    /// The fault of the rule's text.
+    /// The word for the fault of the rule's text, if it has one.
     pub fault: Option<&'static str>,
-    /// The pair, the place and letters, the window, the version, or the place in the rule's text.
+    /// The numbers of the refusal, for example a pair, a place and letters, a window, or a version.
     pub numbers: RefusalNumbers,
 }
 
@@ -75,7 +75,7 @@ impl RefusalParts {
         Ok(parts)
     }
 
-    /// Adds a side.
+    /// Adds the word for a side to the parts.
     fn on(self, side: Side) -> RefusalParts
         ensures { said_in result ≡ parts.on side (said_in self) }
     {
@@ -89,7 +89,7 @@ impl RefusalParts {
         }
     }
 
-    /// Adds a reason.
+    /// Adds the word for a reason to the parts.
     fn because(self, why: &'static str) -> RefusalParts
         ensures { said_in result ≡ parts.because why.now (said_in self) }
     {
@@ -104,7 +104,7 @@ impl RefusalParts {
     }
 }
 
-/// Returns a cause with numbers and no other parts.
+/// Returns the parts that have only this word for the condition and these numbers.
 fn with(cause: &'static str, numbers: RefusalNumbers) -> RefusalParts
     ensures { said_in result ≡ parts.with cause.now numbers }
 {

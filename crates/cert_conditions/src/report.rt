@@ -1,4 +1,4 @@
-//! The verdicts of a rule with their evidence.
+//! The type `Report`: the verdicts of a rule with their evidence.
 ghost use Rattle.std.specs.Prelude.{◌≡◌};
 ghost use Rattle.cert_values.specs.Evidence.{says_open};
 ghost use Rattle.cert_values.specs.Parts.{side_of};
@@ -13,20 +13,21 @@ pub struct Report {
     pub rule: Rule,
     /// The weight of each letter.
     pub weights: Weights,
-    /// A word without a preimage, or None if the rule is surjective.
+    /// The evidence about surjectivity: a word without a preimage, or None if the rule is surjective.
     pub orphan: Option<Word>,
-    /// A window if the rule is injective, otherwise twins.
+    /// The evidence about injectivity: a window if the rule is injective, and twins if it isn't.
     pub injective: InjectivePart,
-    /// A right look-ahead if the rule is right-closing, otherwise a split.
+    /// The evidence about closing on the right: a look-ahead if the rule is right-closing, and a split if it isn't.
     pub right: SidePart,
-    /// A left look-ahead if the rule is left-closing, otherwise a split.
+    /// The evidence about closing on the left: a look-ahead if the rule is left-closing, and a split if it isn't.
     pub left: SidePart,
-    /// A flux if the rule is conserving, otherwise a ring that doesn't keep its sum.
+    /// The evidence about the sum: a flux if the rule is conserving, and a ring whose image has another sum if it
+    /// isn't.
     pub conserving: SumPart,
 }
 
 impl Report {
-    /// Returns whether the rule is open: whether both sides have a look-ahead.
+    /// Returns whether the rule is open: whether the evidence for both sides is a look-ahead.
     pub fn is_open(&self) -> bool
         ensures { result ≡ says_open (side_of self.now.right) (side_of self.now.left) }
     {

@@ -1,4 +1,4 @@
-//! The verdicts of a certificate.
+//! The type `Verdicts`: the verdicts of a certificate.
 
 ghost use Rattle.std.specs.Prelude.{◌≡◌};
 ghost use Rattle.cert_conditions.specs.Accepted.{verdicts_of, is_open};
@@ -6,7 +6,7 @@ ghost use Rattle.cert_conditions.specs.Accepted.{verdicts_of, is_open};
 use cert_values::{Cert, InjectivePart, SidePart, SumPart, SurjectivePart};
 use word_image::{Rule, Weights};
 
-/// The verdicts of an accepted certificate, which are true of its rule.
+/// The verdicts of a certificate about its rule. If the certificate is accepted, they are true.
 #[derive(Clone, Copy, Debug, PartialEq, Eq)]
 pub struct Verdicts {
     /// The rule.
@@ -26,7 +26,8 @@ pub struct Verdicts {
 }
 
 impl Verdicts {
-    /// Returns the verdicts of a certificate: yes for sets, pairs, a window, a look-ahead or a flux.
+    /// Returns the verdicts of a certificate. A verdict is yes if its evidence is sets, pairs, a window, a look-ahead
+    /// or a flux.
     pub fn of(cert: &Cert) -> Verdicts
         ensures { result ≡ verdicts_of cert.now }
     {
@@ -41,7 +42,7 @@ impl Verdicts {
         }
     }
 
-    /// Returns whether the rule is open, which means that it closes on both sides.
+    /// Returns whether the rule is open: whether it closes on both sides.
     pub fn is_open(&self) -> bool
         ensures { result ≡ is_open self.now }
     {

@@ -1,4 +1,4 @@
-//! Reads the evidence for each question, which is a JSON object.
+//! Functions that read the evidence for each question. The evidence is a JSON object.
 ghost use Rattle.std.specs.Prelude.{◌≡◌, ℕ, ◌+◌, ◌≤◌, ◌↔◌, List, Option, ℤ, length, All, IfOk, IfErr, IfSome, IfNone, IsTrue};
 ghost use Rattle.serde_json.specs.View.{view};
 ghost use Rattle.word_image.specs.Graphs.{pair_count};
@@ -15,7 +15,8 @@ use serde_json::Value;
 use std::alloc::Global;
 use word_image::{FluxRow, RankRow, Rule, SetList, Weights};
 
-/// Reads `{"sets":[..]}` or `{"orphan":".."}`, or `{"pairs":[..]}` if the version may list pairs.
+/// Reads the evidence about surjectivity: `{"sets":[..]}` or `{"orphan":".."}`, or `{"pairs":[..]}` if this version
+/// may list pairs. Returns `Shape` for any other value.
 pub fn surjective(
     alloc: Global,
     version: CertVersion,
@@ -42,14 +43,14 @@ pub fn surjective(
     Ok(SurjectivePart::Orphan(word(alloc, rule.k(), orphan)?))
 }
 
-/// Returns the greatest pair of nodes of a rule.
+/// Returns the greatest number of a pair of nodes of a rule.
 fn last_pair(rule: &Rule) -> u16
     ensures { result + 1 ≡ pair_count rule.now }
 {
     rule.pairs() - 1
 }
 
-/// Reads an array of numbers of at most `most`.
+/// Reads an array of numbers that are at most `most`. Returns `Shape` for any other value.
 fn numbers(alloc: Global, most: u16, value: &Value) -> Result<SetList, Misread>
     ensures numbers { IfOk result (AreNumbers most (view value.now)) }
     ensures none { IfErr result (λ f. f ≡ Misread.Shape
@@ -74,7 +75,8 @@ fn are_within(most: u16, numbers: &[u16]) -> bool
     true
 }
 
-/// Reads `{"c":C,"n":N}` or `{"twins":["..",".."]}`.
+/// Reads the evidence about injectivity: `{"c":C,"n":N}` or `{"twins":["..",".."]}`. Returns `Shape` for any other
+/// value.
 pub fn injective(alloc: Global, rule: &Rule, value: &Value) -> Result<InjectivePart, Misread>
     ensures part { IfOk result (λ p. IsInjectiveFor rule.now (view value.now) (injective_of p)) }
     ensures none { IfErr result (λ f. f ≡ Misread.Shape
@@ -93,7 +95,8 @@ pub fn injective(alloc: Global, rule: &Rule, value: &Value) -> Result<InjectiveP
     Ok(InjectivePart::Twins { x, y })
 }
 
-/// Reads a window: n letters of an image, at least one, and a place c among the n + m - 1 letters of a preimage.
+/// Reads a window: the number n of letters of an image, at least 1, and a place c among the n + m - 1 letters of a
+/// preimage. Returns None for other values.
 fn window(rule: &Rule, length: &Value, place: &Value) -> Option<(u16, u16)>
     ensures some { IfSome result (λ w.
         IsWindowFor rule.now (view length.now) (view place.now) w.0 w.1) }
@@ -108,7 +111,8 @@ fn window(rule: &Rule, length: &Value, place: &Value) -> Option<(u16, u16)>
     Some((n, c))
 }
 
-/// Reads `{"ahead":A}` or `{"split":["..",".."]}`.
+/// Reads the evidence about closing on a side: `{"ahead":A}` or `{"split":["..",".."]}`. Returns `Shape` for any
+/// other value.
 pub fn side(alloc: Global, rule: &Rule, value: &Value) -> Result<SidePart, Misread>
     ensures states { IfOk result (IsOver (rule.now).states) }
     ensures part { IfOk result (λ p. IsSideFor rule.now (view value.now) (side_of p)) }
@@ -128,7 +132,7 @@ pub fn side(alloc: Global, rule: &Rule, value: &Value) -> Result<SidePart, Misre
     Ok(SidePart::Split(x, y))
 }
 
-/// Reads a look-ahead, which is at least 1.
+/// Reads a look-ahead, which is a number of at least 1. Returns None for other values.
 fn ahead(value: &Value) -> Option<u16>
     ensures some { IfSome result (IsAhead (view value.now)) }
     ensures none { IfNone result ((n : ℕ) → ¬ IsAhead (view value.now) n) }
@@ -140,7 +144,7 @@ fn ahead(value: &Value) -> Option<u16>
     Some(n)
 }
 
-/// Reads `{"flux":[..]}` or `{"ring":".."}`.
+/// Reads the evidence about the sum: `{"flux":[..]}` or `{"ring":".."}`. Returns `Shape` for any other value.
 pub fn conserving(alloc: Global, rule: &Rule, value: &Value) -> Result<SumPart, Misread>
     ensures part { IfOk result (λ p. IsSumFor rule.now (view value.now) (sum_of p)) }
     ensures none { IfErr result (λ f. f ≡ Misread.Shape
@@ -155,7 +159,7 @@ pub fn conserving(alloc: Global, rule: &Rule, value: &Value) -> Result<SumPart, 
     Ok(SumPart::Ring(word(alloc, rule.k(), ring)?))
 }
 
-/// Reads a flux: a number for each node of a rule.
+/// Reads a flux, which is an array with a number for each node of a rule. Returns `Shape` for any other value.
 fn flux(alloc: Global, rule: &Rule, value: &Value) -> Result<FluxRow, Misread>
     ensures flux { IfOk result (IsFluxFor rule.now (view value.now)) }
     ensures none { IfErr result (λ f. f ≡ Misread.Shape
@@ -165,7 +169,7 @@ fn flux(alloc: Global, rule: &Rule, value: &Value) -> Result<FluxRow, Misread>
     Ok(FluxRow::of(flows))
 }
 
-/// Reads a weight for each letter of a rule.
+/// Reads an array with a weight for each letter of a rule. Returns `Shape` for any other value.
 pub fn weights(alloc: Global, rule: &Rule, value: &Value) -> Result<Weights, Misread>
     ensures weights { IfOk result (IsWeightsFor rule.now (view value.now)) }
     ensures none { IfErr result (λ f. f ≡ Misread.Shape
@@ -178,7 +182,8 @@ pub fn weights(alloc: Global, rule: &Rule, value: &Value) -> Result<Weights, Mis
     }
 }
 
-/// Reads `{"backward":[..],"forward":[..]}`. Returns the forward claims first.
+/// Reads the ranks: `{"backward":[..],"forward":[..]}`. Returns the forward claims first. Returns `Shape` for any
+/// other value.
 pub fn ranks(alloc: Global, rule: &Rule, value: &Value) -> Result<(RankRow, RankRow), Misread>
     ensures rows { IfOk result (λ p. AreRanksFor rule.now (view value.now) p.0 p.1) }
     ensures none { IfErr result (λ f. f ≡ Misread.Shape → (forward backward : List (Option ℕ))
@@ -192,7 +197,8 @@ pub fn ranks(alloc: Global, rule: &Rule, value: &Value) -> Result<(RankRow, Rank
     Ok((forward, backward))
 }
 
-/// Reads a claim for each pair of nodes of a rule.
+/// Reads an array with a claim for each pair of nodes of a rule: a number, or null for no claim. Returns `Shape` for
+/// any other value.
 fn row(alloc: Global, rule: &Rule, value: &Value) -> Result<RankRow, Misread>
     ensures row { IfOk result (IsRowFor rule.now (view value.now)) }
     ensures none { IfErr result (λ f. f ≡ Misread.Shape

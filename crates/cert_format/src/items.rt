@@ -1,4 +1,4 @@
-//! Arrays of numbers.
+//! The trait `Item`, and functions that read arrays of items.
 ghost use Rattle.std.specs.Prelude.{◌≡◌, ◌≢◌, List, length, IfOk, IfErr, IfSome, IfNone};
 ghost use Rattle.serde_json.specs.Data.{Data, array, item, no_items};
 ghost use Rattle.serde_json.specs.View.{view};
@@ -13,7 +13,7 @@ use std::alloc::Global;
 pub trait Item: Sized {
     ghost is_item: { Data → Self → Type 0 };
 
-    /// Reads an item, or returns None if the value has another shape.
+    /// Reads an item, or returns None if the value isn't an item of this type.
     fn read(value: &Value) -> Option<Self>
         ensures some { IfSome result (is_item (view value.now)) }
         ensures none { IfNone result ((x : Self) → ¬ is_item (view value.now) x) };
@@ -66,7 +66,7 @@ impl Item for i32 {
     }
 }
 
-/// Reads the items of an array, in their order.
+/// Reads the items of an array, in their order. Returns `Shape` if the value isn't an array of such items.
 pub fn array<T: Item + Drop>(alloc: Global, value: &Value) -> Result<Vec<T>, Misread>
     ensures items { IfOk result (λ v. IsArrayOf T.is_item (view value.now) v.items) }
     ensures none { IfErr result (λ e. e ≡ Misread.Shape
@@ -85,7 +85,7 @@ pub fn array<T: Item + Drop>(alloc: Global, value: &Value) -> Result<Vec<T>, Mis
     Ok(items)
 }
 
-/// Reads the items of an array of this length.
+/// Reads the items of an array with `count` items. Returns `Shape` if the value isn't an array of so many items.
 pub fn array_of<T: Item + Drop>(
     alloc: Global,
     count: usize,
@@ -103,7 +103,7 @@ pub fn array_of<T: Item + Drop>(
     Ok(items)
 }
 
-/// Returns the two items of an array of length 2.
+/// Returns the two items of an array of length 2, or None if the value isn't such an array.
 pub fn pair(value: &Value) -> Option<(&Value, &Value)>
     ensures some { IfSome result (λ p. view value.now
         ≡ array (item (view p.0.now) (item (view p.1.now) no_items))) }

@@ -1,11 +1,13 @@
 //! Reads and writes the texts of certificates.
 //!
-//! `from_bytes` reads a text that the crate [`cert_values`] describes. For other bytes it returns the first fault, in
-//! the order JSON, object, version, rule, surjective, injective, right, left, conserving, weights, ranks, and other
-//! keys. `to_bytes` writes a certificate with ascending keys and without blanks. It writes the weights only if they
-//! aren't the letters' own values. Whether the claims are true is tested by the crate `cert_check`.
-//! [`certificate_value`] makes the JSON object that is written, and other functions make the values of some of its
-//! parts.
+//! `from_bytes` reads a text that the crate [`cert_values`] describes. For other bytes it returns the first fault. It
+//! looks for faults in this order: JSON, object, version, rule, surjective, injective, right, left, conserving,
+//! weights, ranks, and other keys. In the comments the *shape* of a value means whether it is the object, array,
+//! number or string that the place needs, within its limits. For example, a look-ahead of 0 has the wrong shape.
+//!
+//! `to_bytes` writes a certificate with ascending keys and without blanks. It writes the weights only if some letter
+//! doesn't weigh its own value. The crate `cert_check` tests whether the claims are true. [`certificate_value`] makes
+//! the JSON object that is written, and other functions make the values of some of its parts.
 //!
 //! To read n bytes takes time O(n log n), since an object is a map, and O(n) for the lists in it. Both calls take
 //! space O(n).

@@ -1,4 +1,4 @@
-//! The members of a JSON object.
+//! Functions that look up the members of a JSON object.
 ghost use Rattle.std.specs.Prelude.{◌≡◌, ◌↔◌, Contains, IfSome, IfNone, IsTrue, string_bytes};
 ghost use Rattle.std.specs.Option.{option_map};
 ghost use Rattle.serde_json.specs.Data.{Data};
@@ -10,7 +10,7 @@ ghost use Rattle.cert_format.specs.Readings.{members_in};
 use cert_values::CertVersion;
 use serde_json::Value;
 
-/// The keys of each certificate.
+/// The keys that certificates of all versions have.
 const KEYS: [&str; 8] = [
     "conserving",
     "injective",
@@ -22,7 +22,7 @@ const KEYS: [&str; 8] = [
     "version",
 ];
 
-/// Returns the member with this key.
+/// Returns the value of the member with this key, or None if there is no such member.
 pub fn member<'a>(value: &'a Value, key: &str) -> Option<&'a Value>
     ensures { option_map (λ v. view v.now) result
         ≡ get_member key.now (members_in (view value.now)) }
@@ -30,7 +30,7 @@ pub fn member<'a>(value: &'a Value, key: &str) -> Option<&'a Value>
     value.get(key)
 }
 
-/// Returns the member with this key if the object has no other member.
+/// Returns the value of the member with this key, or None if the object doesn't have it or has another member.
 pub fn only<'a>(value: &'a Value, key: &str) -> Option<&'a Value>
     ensures some { IfSome result (λ v. HasOnly key.now (view v.now) (view value.now)) }
     ensures none { IfNone result ((d : Data) → ¬ HasOnly key.now d (view value.now)) }
@@ -46,7 +46,8 @@ pub fn only<'a>(value: &'a Value, key: &str) -> Option<&'a Value>
     Some(member)
 }
 
-/// Returns the members with these two keys, in ascending order, if the object has no other members.
+/// Returns the values of the members with these two keys, which are in ascending order. Returns None if the object
+/// doesn't have both members or has another member.
 pub fn only_both<'a>(value: &'a Value, first: &str, second: &str) -> Option<(&'a Value, &'a Value)>
     ensures some { IfSome result (λ p.
         HasOnlyBoth first.now (view p.0.now) second.now (view p.1.now) (view value.now)) }
@@ -65,7 +66,7 @@ pub fn only_both<'a>(value: &'a Value, first: &str, second: &str) -> Option<(&'a
     None
 }
 
-/// Returns whether an object has only keys of a certificate of this version.
+/// Returns whether an object has only keys that a certificate of this version may have.
 pub fn has_no_other(version: CertVersion, value: &Value) -> bool
     ensures { IsTrue result ↔ HasNoOther version (members_in (view value.now)) }
 {
@@ -80,14 +81,14 @@ pub fn has_no_other(version: CertVersion, value: &Value) -> bool
     true
 }
 
-/// Returns whether a name is this key.
+/// Returns whether a name has the same bytes as this key.
 fn is_named(name: &String, key: &str) -> bool
     ensures { IsTrue result ↔ (string_bytes name.now ≡ key.now) }
 {
     name.as_str() == key
 }
 
-/// Returns whether a name is a key of a certificate of this version.
+/// Returns whether a certificate of this version may have this name as a key.
 fn is_key(version: CertVersion, name: &String) -> bool
     ensures { IsTrue result ↔ Contains (keys_of version) (string_bytes name.now) }
 {

@@ -1,4 +1,4 @@
-//! Why a value couldn't be read.
+//! The error `Misread`: why a JSON value couldn't be read.
 ghost use Rattle.std.specs.Prelude.{◌≡◌, alloc_error};
 ghost use Rattle.cert_format.specs.declared.misread.Misread.TheVariants as misread;
 
@@ -6,17 +6,17 @@ use crate::cert_fault::CertFault;
 use cert_values::{Key, ShapeFault};
 use std::alloc::{AllocError, AllocFailed};
 
-/// Why a value couldn't be read.
+/// Why a JSON value couldn't be read.
 #[derive(Clone, Copy, Debug, PartialEq, Eq)]
 pub enum Misread {
-    /// It has the wrong shape.
+    /// The value has the wrong shape.
     Shape,
     /// There is not enough memory.
     Memory(AllocError),
 }
 
 impl Misread {
-    /// Returns the fault of the step for this key.
+    /// Returns this error as the fault of the part of a certificate with this key.
     pub fn at(self, key: Key) -> CertFault
         ensures shape { self ≡ Misread.Shape → result ≡ CertFault.Format (ShapeFault.Shape key) }
         ensures memory { self ≡ Misread.Memory alloc_error → result ≡ CertFault.Memory alloc_error }

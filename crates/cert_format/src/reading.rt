@@ -1,4 +1,4 @@
-//! Reads a certificate from bytes.
+//! The function `from_bytes`, which reads a certificate from bytes.
 ghost use Rattle.std.specs.Prelude.{◌≡◌, ℕ, ◌⊎◌, List, alloc_error, IfOk, IfErr, IfSome, IfNone};
 ghost use Rattle.serde_json.specs.View.{view};
 ghost use Rattle.word_image.specs.LocalRules.{IsRule};
@@ -21,8 +21,8 @@ use serde_json::Value;
 use std::alloc::{AllocError, Global};
 use word_image::Rule;
 
-/// Reads the certificate whose text the bytes are, or returns their first fault. The text may have blanks and its
-/// keys in any order; if a key occurs twice, the last member counts.
+/// Reads the certificate whose text the bytes are, or returns the first fault of the bytes. The text may have blanks,
+/// and its keys in any order. If a key occurs twice, the last member counts.
 pub fn from_bytes(alloc: Global, bytes: &[u8]) -> Result<Cert, CertFault>
     ensures cert { IfOk result (IsCertificateText bytes.now) }
     ensures fault { IfErr result (IsCertFault bytes.now) }
@@ -34,7 +34,7 @@ pub fn from_bytes(alloc: Global, bytes: &[u8]) -> Result<Cert, CertFault>
     read_certificate(alloc, bytes)
 }
 
-/// Does the same, before the certificate is checked for other keys.
+/// Reads a certificate, which may have other keys. Otherwise returns the first fault of the bytes.
 fn read_certificate(alloc: Global, bytes: &[u8]) -> Result<Cert, CertFault>
     ensures cert { IfOk result (IsCertificateText bytes.now) }
     ensures fault { IfErr result (IsCertFault bytes.now) }
@@ -47,7 +47,7 @@ fn read_certificate(alloc: Global, bytes: &[u8]) -> Result<Cert, CertFault>
     read_parts(alloc, version, rule, &value)
 }
 
-/// Reads bytes as a JSON object.
+/// Reads bytes as a JSON object, or returns the fault that they aren't JSON or not an object.
 fn read_object(alloc: Global, bytes: &[u8]) -> Result<Value, CertFault>
     ensures object { IfOk result (λ v. IsObject bytes.now (members_in (view v))) }
     ensures fault { IfErr result (IsCertFault bytes.now) }
@@ -63,7 +63,7 @@ fn read_object(alloc: Global, bytes: &[u8]) -> Result<Value, CertFault>
     Ok(value)
 }
 
-/// Reads the version of a certificate and its rule.
+/// Reads the version of a certificate and its rule, or returns the first fault of these two.
 fn read_head(value: &Value) -> Result<(CertVersion, Rule), ShapeFault>
     ensures version { IfOk result (λ h. HasVersion (members_in (view value.now)) (number_of h.0)) }
     ensures rule { IfOk result (λ h. (text : List ℕ)
@@ -81,7 +81,7 @@ fn read_head(value: &Value) -> Result<(CertVersion, Rule), ShapeFault>
     }
 }
 
-/// Reads the version of a certificate.
+/// Reads the version of a certificate, or returns its fault.
 fn read_version(value: &Value) -> Result<CertVersion, ShapeFault>
     ensures version { IfOk result (λ v. HasVersion (members_in (view value.now)) (number_of v)) }
     ensures fault { (bytes : List ℕ) → IsObject bytes (members_in (view value.now))
@@ -96,7 +96,7 @@ fn read_version(value: &Value) -> Result<CertVersion, ShapeFault>
     }
 }
 
-/// Returns the number of the version if it is a whole number.
+/// Returns the number of the version, or None if it is missing or isn't a whole number.
 fn version(value: &Value) -> Option<u64>
     ensures some { IfSome result (HasVersion (members_in (view value.now))) }
     ensures none { IfNone result ((v : ℕ) → ¬ HasVersion (members_in (view value.now)) v) }
@@ -104,7 +104,7 @@ fn version(value: &Value) -> Option<u64>
     member(value, "version")?.as_u64()
 }
 
-/// Returns the text of the rule if it is a string.
+/// Returns the text of the rule, or None if it is missing or isn't a string.
 fn rule_text(value: &Value) -> Option<&str>
     ensures some { IfSome result (λ t. HasRuleText (members_in (view value.now)) t.now) }
     ensures none { IfNone result ((text : List ℕ)
@@ -113,7 +113,8 @@ fn rule_text(value: &Value) -> Option<&str>
     member(value, "rule")?.as_str()
 }
 
-/// Reads the parts of a certificate step by step.
+/// Reads the evidence, the weights and the ranks of a certificate, one after another. Returns the fault of the first
+/// of these parts that has one.
 fn read_parts(
     alloc: Global,
     version: CertVersion,

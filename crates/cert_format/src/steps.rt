@@ -1,4 +1,4 @@
-//! The steps of reading a certificate: each finds the member with a key, and reads its evidence.
+//! The steps of reading a certificate. Each step finds the member with a key, and reads its value.
 ghost use Rattle.std.specs.Prelude.{ℕ, List, Option, IfOk, IfErr};
 ghost use Rattle.serde_json.specs.View.{view};
 ghost use Rattle.cert_values.specs.Evidence.{SurjectiveEvidence, InjectiveEvidence, SideEvidence, SumEvidence};
@@ -15,7 +15,7 @@ use serde_json::Value;
 use std::alloc::Global;
 use word_image::{RankRow, Rule, Weights};
 
-/// Reads the evidence for surjective.
+/// Reads the evidence about surjectivity, or returns the fault that it is missing or has the wrong shape.
 pub fn surjective_step(
     alloc: Global,
     version: CertVersion,
@@ -31,7 +31,7 @@ pub fn surjective_step(
     surjective(alloc, version, rule, part).map_err(|fault| fault.at(Key::Surjective))
 }
 
-/// Reads the evidence for injective.
+/// Reads the evidence about injectivity, or returns the fault that it is missing or has the wrong shape.
 pub fn injective_step(alloc: Global, rule: &Rule, value: &Value) -> Result<InjectivePart, CertFault>
     ensures part { IfOk result (λ p.
         HasInjective rule.now (members_in (view value.now)) (injective_of p)) }
@@ -42,7 +42,8 @@ pub fn injective_step(alloc: Global, rule: &Rule, value: &Value) -> Result<Injec
     injective(alloc, rule, part).map_err(|fault| fault.at(Key::Injective))
 }
 
-/// Reads the evidence for closing on the side with this key.
+/// Reads the evidence about closing on a side, which is under the key `name`. Otherwise returns the fault that it is
+/// missing or has the wrong shape. `key` names the side in this fault.
 pub fn side_step(
     alloc: Global,
     rule: &Rule,
@@ -60,7 +61,7 @@ pub fn side_step(
     side(alloc, rule, part).map_err(|fault| fault.at(key))
 }
 
-/// Reads the evidence for conserving.
+/// Reads the evidence about the sum, or returns the fault that it is missing or has the wrong shape.
 pub fn conserving_step(alloc: Global, rule: &Rule, value: &Value) -> Result<SumPart, CertFault>
     ensures part { IfOk result (λ p.
         HasConserving rule.now (members_in (view value.now)) (sum_of p)) }
@@ -71,7 +72,8 @@ pub fn conserving_step(alloc: Global, rule: &Rule, value: &Value) -> Result<SumP
     conserving(alloc, rule, part).map_err(|fault| fault.at(Key::Conserving))
 }
 
-/// Reads the weights, or returns the letters' own values if none are named or the version may not name any.
+/// Reads the weights. If there are none, or if the version may not name any, returns the weights by which each letter
+/// weighs its own value. Returns the fault if the weights have the wrong shape.
 pub fn weights_step(
     alloc: Global,
     version: CertVersion,
@@ -94,7 +96,8 @@ pub fn weights_step(
     }
 }
 
-/// Reads the ranks of all pairs of nodes. Returns the forward ones first.
+/// Reads the claims for all pairs of nodes, and returns the forward claims first. Otherwise returns the fault that
+/// they are missing or have the wrong shape.
 pub fn ranks_step(
     alloc: Global,
     rule: &Rule,

@@ -1,4 +1,4 @@
-//! Writes the text of a certificate.
+//! Functions that make the JSON of a certificate and write its text.
 ghost use Rattle.std.specs.Prelude.{◌≡◌, ℕ, List, map, IfOk, OnOk, IsUtf8};
 ghost use Rattle.serde_json.specs.Data.{string, no_members};
 ghost use Rattle.serde_json.specs.View.{view, members_view};
@@ -17,7 +17,7 @@ use std::alloc::{AllocError, Global};
 use tail_config::Tail;
 use word_image::{FluxRow, RankRow, Rule, SetList, Weights, word_text};
 
-/// Returns the text of a certificate: compact JSON with ascending keys. The only error is lack of memory.
+/// Returns the text of a certificate: JSON without blanks, with ascending keys. The only error is lack of memory.
 pub fn to_bytes(alloc: Global, cert: &Cert) -> Result<Vec<u8>, AllocError>
     ensures text { IfOk result (λ text. text.items ≡ certificate_text cert.now) }
     ensures read_back { IfOk result (λ text. IsCertificateText text.items cert.now) }
@@ -25,14 +25,15 @@ pub fn to_bytes(alloc: Global, cert: &Cert) -> Result<Vec<u8>, AllocError>
     certificate_value(alloc, cert)?.to_vec(alloc)
 }
 
-/// Law: bytes are the text of at most one certificate. So `from_bytes` reads the text that `to_bytes` writes as the
-/// same certificate, unless memory runs out.
+/// Law: bytes are the text of at most one certificate. So if `from_bytes` reads the text that `to_bytes` writes, it
+/// returns the same certificate, unless memory runs out.
 pub fn text_has_one_certificate()
     ensures { (bytes : List ℕ) (c d : Certificate)
         → IsCertificateText bytes c → IsCertificateText bytes d → c ≡ d }
 {}
 
-/// Returns a certificate as a JSON object. The only error, here and below, is lack of memory.
+/// Returns a certificate as a JSON object. The only error of this function and of the functions below is lack of
+/// memory.
 pub fn certificate_value(alloc: Global, cert: &Cert) -> Result<Value, AllocError>
     ensures value { IfOk result (λ v. view v ≡ written.certificate_value cert.now) }
     ensures shaped { OnOk result (IsShaped cert.now) }
@@ -46,7 +47,7 @@ pub fn certificate_value(alloc: Global, cert: &Cert) -> Result<Value, AllocError
     Ok(Value::from(members))
 }
 
-/// Returns the members that each certificate has.
+/// Returns the members of the JSON object of a certificate that each certificate has.
 fn common_members(alloc: Global, cert: &Cert) -> Result<Map<String, Value>, AllocError>
     ensures { IfOk result (λ ms. members_view ms.entries ≡ members_before no_members cert.now) }
 {
@@ -70,7 +71,7 @@ fn common_members(alloc: Global, cert: &Cert) -> Result<Map<String, Value>, Allo
     Ok(members)
 }
 
-/// Returns the sets, the pairs or the orphan as JSON.
+/// Returns the evidence about surjectivity as JSON: sets, pairs or an orphan.
 fn surjective_value(alloc: Global, cert: &Cert) -> Result<Value, AllocError>
     ensures { IfOk result (λ v. view v ≡ written.surjective_value (cert.now).surjective) }
 {
@@ -90,7 +91,7 @@ fn surjective_value(alloc: Global, cert: &Cert) -> Result<Value, AllocError>
     }
 }
 
-/// Returns the window or the twins as JSON.
+/// Returns the evidence about injectivity as JSON: a window or twins.
 fn injective_value(alloc: Global, cert: &Cert) -> Result<Value, AllocError>
     ensures { IfOk result (λ v. view v ≡ written.injective_value (cert.now).injective) }
 {
@@ -104,7 +105,7 @@ fn injective_value(alloc: Global, cert: &Cert) -> Result<Value, AllocError>
     }
 }
 
-/// Returns the look-ahead or the split of a side as JSON.
+/// Returns the evidence about closing on a side as JSON: a look-ahead or a split.
 fn side_value(alloc: Global, side: &SidePart) -> Result<Value, AllocError>
     ensures { IfOk result (λ v. view v ≡ written.side_value (side_of side.now)) }
 {
@@ -118,7 +119,7 @@ fn side_value(alloc: Global, side: &SidePart) -> Result<Value, AllocError>
     }
 }
 
-/// Returns the flux or the ring as JSON.
+/// Returns the evidence about the sum as JSON: a flux or a ring.
 fn sum_value(alloc: Global, cert: &Cert) -> Result<Value, AllocError>
     ensures { IfOk result (λ v. view v ≡ written.sum_value (cert.now).conserving) }
 {
@@ -134,7 +135,7 @@ fn sum_value(alloc: Global, cert: &Cert) -> Result<Value, AllocError>
     }
 }
 
-/// Returns the claims of both directions as JSON.
+/// Returns the forward and the backward claims as JSON.
 fn ranks_value(alloc: Global, cert: &Cert) -> Result<Value, AllocError>
     ensures { IfOk result (λ v. view v
         ≡ written.ranks_value (cert.now).forward (cert.now).backward) }
@@ -144,7 +145,7 @@ fn ranks_value(alloc: Global, cert: &Cert) -> Result<Value, AllocError>
     json!(in alloc; {"backward": backward, "forward": forward})
 }
 
-/// Returns sets as an array of numbers.
+/// Returns the numbers of sets or of pairs as an array of numbers.
 fn sets_value(alloc: Global, sets: &SetList) -> Result<Value, AllocError>
     ensures { IfOk result (λ v. view v ≡ array_from (map written.whole_value sets.now)) }
 {
@@ -153,7 +154,7 @@ fn sets_value(alloc: Global, sets: &SetList) -> Result<Value, AllocError>
     Ok(Value::from(values))
 }
 
-/// Returns claims as an array of numbers, with null if nothing is claimed.
+/// Returns claims as an array, with a number for each claim and null for each pair without a claim.
 fn claims_value(alloc: Global, claims: &RankRow) -> Result<Value, AllocError>
     ensures { IfOk result (λ v. view v ≡ array_from (map written.claim_value claims.now)) }
 {
@@ -188,7 +189,7 @@ pub fn word_value(alloc: Global, letters: &[u8]) -> Result<Value, AllocError>
     Ok(text_value(word_text(alloc, letters)?))
 }
 
-/// Returns the text of a Tail as a string.
+/// Returns the text of a configuration as a string.
 fn tail_value(alloc: Global, tail: &Tail) -> Result<Value, AllocError>
     ensures { IfOk result (λ v. view v ≡ written.tail_value (tail.now).config) }
 {

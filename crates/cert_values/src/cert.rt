@@ -1,31 +1,39 @@
-//! A certificate whose parts are within their limits.
+//! The type `Cert`: a certificate whose parts are within their limits.
 use crate::cert_version::CertVersion;
 use crate::parts::{InjectivePart, SidePart, SumPart, SurjectivePart};
 use std::marker::Model;
 use word_image::{RankRow, Rule, Weights};
 
-/// A certificate of a rule: its claims with their evidence, each part within its limits. The claims need not be true.
+/// A certificate of a rule: its claims with their evidence. Each part is within its limits, but the claims need not
+/// be true.
 #[derive(Debug, Drop)]
 pub struct Cert {
-    /// The version, which says by which conditions the certificate is judged.
+    /// The version of the certificate. It says which conditions the certificate must meet.
     pub version: CertVersion,
     /// The rule of the certificate.
     pub rule: Rule,
-    /// Whether the rule is surjective: sets or pairs of its nodes, or a word over its letters.
+    /// The evidence that the rule is surjective, or that it isn't: sets of nodes, pairs of nodes, or a word over the
+    /// letters of the rule.
     pub surjective: SurjectivePart,
-    /// Whether it is injective: a window with 1 ≤ n and c ≤ n + m - 2, or two words.
+    /// The evidence that the rule is injective, or that it isn't: a window with 1 ≤ n and c ≤ n + m - 2, or two
+    /// words.
     pub injective: InjectivePart,
-    /// Whether it closes on the right: a look-ahead of at least 1, or two Tails over its letters.
+    /// The evidence that the rule closes on the right, or that it doesn't: a look-ahead of at least 1, or two
+    /// configurations over the letters of the rule.
     pub right: SidePart,
-    /// Whether it closes on the left, in the same form.
+    /// The evidence that the rule closes on the left, or that it doesn't. It has the same form as the evidence for
+    /// the right.
     pub left: SidePart,
-    /// Whether it conserves the sum: a flux with numbers from -1,000,000 to 1,000,000 for each node, or a word.
+    /// The evidence that the rule conserves the sum, or that it doesn't: a flux with a number from -1,000,000 to
+    /// 1,000,000 for each node, or a word.
     pub conserving: SumPart,
-    /// The weight of each letter in sums. In version One each letter weighs its own value.
+    /// The weight of each letter in a sum. In version 1 each letter weighs its own value.
     pub weights: Weights,
-    /// For each pair of nodes a bound of its forward rank, or None if nothing is claimed.
+    /// The forward claim for each pair of nodes: a number that its forward rank doesn't exceed, or None if nothing is
+    /// claimed.
     pub forward: RankRow,
-    /// For each pair of nodes a bound of its backward rank, or None if nothing is claimed.
+    /// The backward claim for each pair of nodes: a number that its backward rank doesn't exceed, or None if nothing
+    /// is claimed.
     pub backward: RankRow,
 }
 

@@ -1,20 +1,22 @@
-//! The version of a certificate.
+//! The versions of certificates.
 ghost use Rattle.std.specs.Prelude.{◌≡◌, ◌≢◌, IfSome, IfNone};
 ghost use Rattle.cert_values.specs.Versions.{number_of, names_weights, lists_pairs};
 
-/// The version of a certificate: what it may contain, and by which conditions it is judged.
+/// The version of a certificate. It says what the certificate may contain, and which conditions it must meet.
 #[derive(Clone, Copy, Debug, PartialEq, Eq)]
 pub enum CertVersion {
-    /// Each step of a listed set is a listed set, and each letter weighs its own value.
+    /// The certificate may list sets of nodes. Each step of a listed set leads to a listed set. Each letter weighs
+    /// its own value.
     One,
-    /// Each step of a listed set contains a listed set, and the certificate may name weights.
+    /// Each step of a listed set leads to a set that contains a listed set. The certificate may name weights of the
+    /// letters.
     Two,
-    /// Like `Two`, and the certificate may list pairs of nodes instead of sets.
+    /// Like version 2, but the certificate may list pairs of nodes instead of sets.
     Three,
 }
 
 impl CertVersion {
-    /// Returns the version with this number.
+    /// Returns the version with this number, or None if the number isn't 1, 2 or 3.
     pub fn of(number: u64) -> Option<CertVersion>
         ensures some { IfSome result (λ v. number ≡ number_of v) }
         ensures none { IfNone result ((v : CertVersion) → number ≢ number_of v) }
@@ -27,7 +29,7 @@ impl CertVersion {
         }
     }
 
-    /// Returns the number of the version.
+    /// Returns the number of the version: 1, 2 or 3.
     pub fn number(self) -> u64
         ensures { result ≡ number_of self }
     {
@@ -38,7 +40,7 @@ impl CertVersion {
         }
     }
 
-    /// Returns whether the certificate may name the weights of the letters.
+    /// Returns whether a certificate of this version may name the weights of the letters.
     pub fn names_weights(self) -> bool
         ensures { result ≡ names_weights self }
     {
@@ -48,7 +50,7 @@ impl CertVersion {
         }
     }
 
-    /// Returns whether the certificate may list pairs of nodes.
+    /// Returns whether a certificate of this version may list pairs of nodes.
     pub fn lists_pairs(self) -> bool
         ensures { result ≡ lists_pairs self }
     {

@@ -1,22 +1,46 @@
-//! The certificate of a rule: what it claims, as a type, and which JSON texts say it.
+//! The certificate of a rule as a type: what it claims, and which JSON texts say it.
 //!
-//! A certificate answers for one rule whether it is surjective, injective, right-closing and
-//! left-closing, and whether it conserves the sum of its cells, each with evidence that is tested
-//! without a search. Its text is one JSON object. With k states, width m and N = k^(m - 1) nodes:
+//! A certificate answers for one rule whether it is surjective, injective, right-closing and left-closing, and whether
+//! it conserves the sum of its cells. Each answer comes with *evidence*, which can be tested without a search. The
+//! text of a certificate is one JSON object. Let the rule have k states, width m and N = k^(m - 1) nodes. Then the
+//! answers have these keys:
 //!
-//! | Key | If the answer is yes | If it is no |
+//! | Key | If the answer is yes | If the answer is no |
 //! |---|---|---|
-//! | `surjective` | `{"sets":[..]}`, sets of nodes, each a number below 2^N in which node u is bit u | `{"orphan":WORD}` |
-//! | `injective` | `{"c":C,"n":L}`, a window of L letters from 1 on, with a place C of at most L + m - 2 | `{"twins":[WORD,WORD]}` |
-//! | `right`, `left` | `{"ahead":A}`, a look-ahead from 1 on | `{"split":[TAIL,TAIL]}` |
-//! | `conserving` | `{"flux":[..]}`, a number of at most a million either way for each node | `{"ring":WORD}` |
+//! | `surjective` | `{"sets":[..]}` with sets of nodes | `{"orphan":WORD}` |
+//! | `injective` | `{"c":C,"n":L}` with a window | `{"twins":[WORD,WORD]}` |
+//! | `right`, `left` | `{"ahead":A}` with a look-ahead | `{"split":[TAIL,TAIL]}` |
+//! | `conserving` | `{"flux":[..]}` with a number for each node | `{"ring":WORD}` |
 //!
-//! `version` is 1, 2 or 3, `rule` is a text of the rule, and `ranks` is `{"backward":[..],"forward":[..]}`,
-//! in each a number or `null` for each pair of nodes. From version 2 on `weights` may stand: an array
-//! with a number from 0 to 255 for each letter, by which it counts in a sum; else it counts by its own
-//! value. In version 3 `surjective` may be `{"pairs":[..]}` too, where pair (u, v) is u N + v. All
-//! numbers but those of a flux are below 2^16, a WORD is a string of hexadecimal digits, and a TAIL is the
-//! text of a configuration over the rule's letters.
+//! - A set of nodes is a number below 2^N. Node u is in the set if bit u of the number is 1.
+//! - A window has L letters of an image, at least one, and a place C, which is at most L + m - 2.
+//! - A look-ahead is at least 1.
+//! - A number of a flux is from -1,000,000 to 1,000,000.
+//! - A WORD is a string of hexadecimal digits, and a TAIL is the text of a configuration over the rule's letters.
+//!
+//! The evidence for the verdicts has these kinds:
+//!
+//! - An *orphan* is a word without a preimage.
+//! - A *window* (n, c) is determined if n letters of an image determine the letter at place c of each preimage,
+//!   counted from 0. *Twins* are two different words of the same length whose rings have the same image.
+//! - A number n is a right *look-ahead* if the first m - 1 letters of a word and the first n letters of its image
+//!   determine the next letter of the word. A left look-ahead is a right look-ahead of the mirrored rule. A *split*
+//!   of a side is two different configurations that share an image and agree on the other side.
+//! - A *flux* has a number for each node, which is a word of m - 1 letters. At each window, the weight of the letter
+//!   that the rule gives minus the weight of the window's first letter is the number of its first node minus the
+//!   number of its last node. If there is a flux, each ring keeps its sum. A *ring* is a word that is read on from
+//!   its end at its start.
+//!
+//! A certificate has three other keys. `version` is 1, 2 or 3, and `rule` is a text of the rule. `ranks` is
+//! `{"backward":[..],"forward":[..]}`. Each of the two arrays has a number or `null` for each pair of nodes. The
+//! *forward rank* of a pair of nodes is the greatest n for which two words of n + m - 1 letters with the same image
+//! begin with these nodes. The *backward rank* is the same number for words that end with these nodes. A number in an
+//! array is a *claim*: the rank of the pair is at most this number. `null` claims nothing.
+//!
+//! From version 2 on, a certificate may have the key `weights`: an array with a number from 0 to 255 for each letter.
+//! This is the weight of the letter in a sum. Without this key each letter weighs its own value. In version 3
+//! `surjective` may also be `{"pairs":[..]}`, where the pair (u, v) has the number u N + v. All numbers except those
+//! of a flux are below 2^16.
 //!
 //! The shift to the left by one cell has this certificate, here in two lines:
 //!
@@ -25,8 +49,8 @@
 //! "forward":[null,null,null,null]},"right":{"ahead":1},"rule":"2:2:0:t0101","surjective":{"sets":[3,1,2]},"version":1}
 //! ```
 //!
-//! Bytes that are no such text have one first fault, a [`ShapeFault`]. The crate `cert_format` reads and writes these
-//! texts, and the crate `cert_conditions` says which claims a certificate must meet.
+//! Bytes that aren't the text of a certificate have exactly one first fault, a [`ShapeFault`]. The crate `cert_format`
+//! reads and writes these texts. The crate `cert_conditions` says which conditions a certificate must meet.
 #![tactic(auto)]
 
 mod cert;

@@ -1,30 +1,30 @@
 //! Why bytes aren't the text of a certificate.
 use rule_text::TextFault;
 
-/// The part of a certificate that has the wrong shape.
+/// A part of a certificate, to say which part has the wrong shape.
 #[derive(Clone, Copy, Debug, PartialEq, Eq)]
 pub enum Key {
-    /// The whole isn't a JSON object.
+    /// The whole text, which isn't a JSON object.
     Top,
-    /// The version is missing or isn't a whole number.
+    /// The version, which is missing or isn't a whole number.
     Version,
-    /// The rule is missing or isn't a string.
+    /// The rule, which is missing or isn't a string.
     Rule,
-    /// Whether the rule is surjective.
+    /// The evidence about surjectivity.
     Surjective,
-    /// Whether it is injective.
+    /// The evidence about injectivity.
     Injective,
-    /// Whether it closes to the right.
+    /// The evidence about closing on the right.
     Right,
-    /// Whether it closes to the left.
+    /// The evidence about closing on the left.
     Left,
-    /// Whether it conserves the sum of its cells.
+    /// The evidence about the sum.
     Conserving,
     /// The weights of the letters.
     Weights,
-    /// The ranks of all pairs of nodes.
+    /// The ranks of the pairs of nodes.
     Ranks,
-    /// There is a key that no certificate of this version has.
+    /// Another key, which no certificate of this version has.
     Unknown,
 }
 
@@ -33,10 +33,10 @@ pub enum Key {
 pub enum ShapeFault {
     /// The bytes aren't JSON.
     NotJson,
-    /// The version has this number, which isn't 1, 2 or 3.
+    /// The version is a whole number, but not 1, 2 or 3.
     Version(u64),
     /// This part is missing or has the wrong shape.
     Shape(Key),
-    /// The text of the rule has this fault.
+    /// The rule is a string, but not the text of a rule. It has this fault.
     Rule(TextFault),
 }

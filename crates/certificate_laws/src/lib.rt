@@ -1,13 +1,16 @@
 //! Laws of the certificate that the program writes for a rule.
 //!
-//! A certificate answers five questions about a rule, each with evidence. The certificate that the program writes for
-//! a rule and weights of its letters has the least evidence for each answer, the flux that is 0 at node 0, and the
-//! exact rank of each pair of nodes. If the rule is surjective, version 2 has its cover list, and version 3 the pairs
-//! that are reached from the first pairs on the right. Such a certificate meets the conditions of the judge and keeps
-//! its limits, so its text is accepted. The text has fewer than 450,000 bytes: there are at most 65,537 sets of five
-//! digits each, 256 pairs, or an orphan of at most 65,536 letters, and everything else together has fewer than 20,000
-//! bytes.
+//! A certificate answers five questions about a rule, each with evidence. The program writes a certificate for a rule
+//! and weights of its letters. It has the least evidence for each answer, the flux that is 0 at node 0, and the exact
+//! rank of each pair of nodes. If the rule is surjective, the certificate also has a list that proves it. In version
+//! 2 this is the *cover list*. It has the set of all nodes, and each other set of nodes that is reached from it and
+//! contains no other reached set. In version 3 this is the list of the *reached pairs*: the pairs of nodes that are
+//! reached from first pairs on the right. Rule 106, for example, has the cover list 15, 1, 2, 4, 8.
 //!
-//! This crate has no functions. Its laws are only about the definitions of rules and certificates and about no
-//! decider, so they hold whoever finds the evidence.
+//! Such a certificate meets the conditions of the judge and keeps its limits, so the judge accepts its text. The text
+//! has fewer than 450,000 bytes. At most it has 65,537 sets of five digits each, or 256 pairs, or an orphan of 65,536
+//! letters. Everything else together has fewer than 20,000 bytes.
+//!
+//! This crate has no functions. Its laws are only about the definitions of rules and certificates. They aren't about
+//! the code that decides questions, so they hold no matter who finds the evidence.
 #![tactic(auto)]

@@ -1,4 +1,5 @@
-//! The classes of equivalent words, found breadth first by the closures of their sets.
+//! The type `Minimal`: the least automaton of a rule, whose classes are found breadth first by the closures of their
+//! sets.
 
 ghost use Rattle.std.specs.Prelude.{◌≡◌, ◌+◌, ◌*◌, ◌<◌, ◌≤◌, ℕ, length, slice_get, slice_index, Some, IfOk};
 ghost use Rattle.word_image.specs.LocalRules.{LocalRule, IsRule, most_sets};
@@ -13,16 +14,16 @@ use std::alloc::{AllocError, Global};
 use std::marker::Model;
 use word_image::Rule;
 
-/// The least automaton of a rule: its classes of equivalent words, numbered in the order of their least words, and
-/// the class that follows each class on each letter. In contracts it is the rule, which has exactly one least
-/// automaton.
+/// The least automaton of a rule. It has the classes of equivalent words, which are numbered in the order of their
+/// least words, and the class that follows each class on each letter. In contracts it is the rule, which has exactly
+/// one least automaton.
 #[derive(Debug, Drop)]
 pub struct Minimal {
     // The steps between the sets of nodes of the rule.
     subsets: Subsets,
     // The closure of each set of nodes.
     closures: Vec<u16>,
-    // The closure of each class.
+    // The closure of each class, in the order of the classes.
     classes: Listed,
 }
 
@@ -37,7 +38,7 @@ impl Model for Minimal {
     ghost invariant = { λ m. HasClasses m.subsets m.closures.items m.classes };
 }
 
-/// Computes the least automaton of this rule.
+/// Computes the least automaton of this rule. The only error is lack of memory.
 pub fn least(alloc: Global, rule: &Rule) -> Result<Minimal, AllocError>
     ensures rule { IfOk result (λ minimal. minimal ≡ rule.now) }
     ensures some { IfOk result (λ _. (a : Automaton) × IsLeastAutomaton rule.now a) }
@@ -68,13 +69,13 @@ impl Minimal {
         self.classes.len()
     }
 
-    /// Returns the class that follows each class on each letter, in the order of the classes and then of the letters:
-    /// `len` times `k` numbers.
+    /// Returns the class that follows each class on each letter, first for class 0 and all letters, then for class 1,
+    /// and so on. These are `len` times `k` numbers.
     pub fn rows(&self, alloc: Global) -> Result<Vec<u16>, AllocError>
         ensures { IfOk result (λ rows. (a : Automaton) → IsLeastAutomaton self.now a → rows.items ≡ a.next) }
     {
         let classes = self.classes.len();
-        // Borrowed once, so that the loop reads one pointer less for each letter.
+        // This is borrowed once, so that the loop reads one pointer less for each letter.
         let closures: &[u16] = &self.closures;
         let mut rows = Vec::with_capacity(alloc, classes as usize * usize::from(self.k()))?;
         for class in 0..classes {
@@ -88,7 +89,8 @@ impl Minimal {
         Ok(rows)
     }
 
-    /// Returns the class of a word of class `i` followed by letter `a`.
+    /// Returns the class that follows class `i` on the letter `a`: the class of a word of class `i` with this letter
+    /// appended.
     pub fn next(&self, i: u32, a: u8) -> u32
         requires class { (m : Automaton) → IsLeastAutomaton self.now m → i < m.classes }
         requires letter { a < self.now.states }
@@ -101,7 +103,7 @@ impl Minimal {
         u32::from(class_of(&self.closures, &self.classes, after))
     }
 
-    /// Returns the class of the orphans, or None if the rule is surjective.
+    /// Returns the number of the class of the orphans, or None if the rule is surjective.
     pub fn dead(&self) -> Option<u32>
         ensures { (m : Automaton) → IsLeastAutomaton self.now m → result ≡ m.dead }
     {
@@ -120,7 +122,7 @@ impl Minimal {
     }
 }
 
-/// Returns the class with the closure of this set.
+/// Returns the number of the class whose closure is the closure of this set.
 fn class_of(closures: &[u16], classes: &Listed, set: u16) -> u16
     requires set { set < length closures.now }
     requires class { (j : ℕ) × (slice_get classes.now j ≡ Some (slice_index closures.now set)) }
@@ -130,7 +132,7 @@ fn class_of(closures: &[u16], classes: &Listed, set: u16) -> u16
     class.unwrap()
 }
 
-/// Finds the closures of the classes breadth first, starting with the closure of the set of all nodes.
+/// Finds the closures of all classes breadth first, starting with the closure of the set of all nodes.
 fn search(alloc: Global, subsets: &Subsets, closures: &[u16]) -> Result<Listed, AllocError>
     requires { AreClosures subsets.now closures.now }
     ensures { IfOk result (HasClasses subsets.now closures.now) }

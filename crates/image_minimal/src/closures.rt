@@ -1,4 +1,4 @@
-//! Unread sets, and the closure of each set of nodes.
+//! Functions that compute the unread sets, and the closure of each set of nodes.
 
 ghost use Rattle.std.specs.Prelude.{◌+◌, ◌^◌, ◌<◌, IfOk};
 ghost use Rattle.word_image.specs.LocalRules.{node_count};
@@ -9,7 +9,7 @@ use crate::listed::Listed;
 use debruijn::Graph;
 use std::alloc::{AllocError, Global};
 
-/// Returns the closure of each set of nodes.
+/// Returns the closure of each set of nodes, in the order of the numbers of the sets.
 pub fn closures(alloc: Global, graph: &Graph) -> Result<Vec<u16>, AllocError>
     ensures { IfOk result (λ closures. AreClosures graph.now closures.items) }
 {
@@ -27,7 +27,8 @@ pub fn closures(alloc: Global, graph: &Graph) -> Result<Vec<u16>, AllocError>
     Ok(closures)
 }
 
-/// Returns the closure of a set that isn't unread, from the closures of the sets with one node more.
+/// Returns the closure of a set that isn't unread. `closures` has the closures of all greater sets, also of those
+/// with one node more.
 fn closure_above(graph: &Graph, closures: &[u16], set: u16) -> u16
     requires set { set < 2 ^ node_count graph.now }
     requires closures { AreClosuresFrom graph.now (set + 1) closures.now }
@@ -43,7 +44,7 @@ fn closure_above(graph: &Graph, closures: &[u16], set: u16) -> u16
     closure
 }
 
-/// Returns the unread sets, each once.
+/// Returns the list of the unread sets, each of them once.
 fn unread_sets(alloc: Global, graph: &Graph) -> Result<Listed, AllocError>
     ensures { IfOk result (AreUnreadSets graph.now) }
 {

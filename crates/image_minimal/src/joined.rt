@@ -1,4 +1,5 @@
-//! Disjoint classes of numbers that are joined two at a time (union-find, Galler and Fischer 1964).
+//! The type `Joined`: numbers in disjoint classes, of which two at a time are joined (union-find, Galler and Fischer
+//! 1964).
 
 ghost use Rattle.std.specs.Prelude.{◌≡◌, ◌<◌, length, slice_index, IfOk};
 ghost use Rattle.std.specs.List.{range_with_len};
@@ -7,8 +8,8 @@ ghost use Rattle.image_minimal.specs.Joins.{IsFalling, IsOnWay, IsJoin};
 use std::alloc::{AllocError, Global};
 use std::marker::Model;
 
-/// Numbers in classes. In contracts it is the parent of each number: a lesser number of its class, or the number
-/// itself if it is the root of its class.
+/// Numbers in disjoint classes. In contracts it is the list of the parents of the numbers. The parent of a number is
+/// a lesser number of its class, or the number itself if it is the root of its class.
 #[derive(Debug, Drop)]
 pub struct Joined {
     parents: Vec<u32>,
@@ -26,7 +27,7 @@ impl Model for Joined {
 }
 
 impl Joined {
-    /// Puts each number below `count` in a class of its own.
+    /// Makes a class for each number below `count`, which has only this number.
     pub fn new(alloc: Global, count: u32) -> Result<Joined, AllocError>
         ensures { IfOk result (λ joined. joined ≡ range_with_len 0 count) }
     {
@@ -37,7 +38,7 @@ impl Joined {
         Ok(Joined { parents })
     }
 
-    /// Joins the classes of two numbers, and returns whether they were different.
+    /// Joins the classes of two numbers, and returns whether the classes were different.
     pub fn join(&mut self, x: u32, y: u32) -> bool
         requires first { x < length self.old }
         requires second { y < length self.old }
@@ -53,7 +54,7 @@ impl Joined {
     }
 }
 
-/// Returns the root of the class of a number, and halves the path to it.
+/// Returns the root of the class of a number, and halves the path from the number to the root.
 fn root(parents: &mut Vec<u32>, number: u32) -> u32
     requires number { number < length parents.old.items }
     requires falling { IsFalling parents.old.items }

@@ -1,15 +1,15 @@
-//! Links: pairs of sets that the same word reaches under two rules.
+//! The type `Link`: a pair of sets that the same word reaches under two rules.
 
-/// A set under the first rule and a set under the second.
+/// A set of nodes of the first rule and a set of nodes of the second rule, which the same word reaches.
 #[derive(Clone, Copy, Debug)]
 pub struct Link {
-    // The widest field is first, so that a link takes 16 bytes.
-    /// The place of the link from which the pair was reached, or 0 for the first link.
+    // The widest field is first, so a link takes 16 bytes.
+    /// The place of the link from which this link was reached, or 0 for the first link.
     pub parent: usize,
-    /// The set under the first rule.
+    /// The set of nodes of the first rule.
     pub first: u16,
-    /// The set under the second rule.
+    /// The set of nodes of the second rule.
     pub second: u16,
-    /// The letter by which it was reached.
+    /// The letter on which this link was reached from its parent.
     pub letter: u8,
 }

@@ -1,4 +1,5 @@
-//! Different sets of nodes in the order in which they were found, and an index to look them up.
+//! The type `Listed`: a list of different sets of nodes in the order in which they were found, and an index to look
+//! them up.
 
 ghost use Rattle.std.specs.Prelude.{◌≡◌, ◌<◌, ◌≤◌, [], length, slice_index, IfOk};
 ghost use Rattle.word_image.specs.LocalRules.{most_sets};
@@ -7,12 +8,12 @@ ghost use Rattle.image_minimal.specs.Indexes.{IsInserted, IsPlaceOf};
 use std::alloc::{AllocError, Global};
 use std::marker::Model;
 
-/// A list of different sets. In contracts it is that list.
+/// A list of different sets of nodes. In contracts it is the list of their numbers.
 #[derive(Debug, Drop)]
 pub struct Listed {
     // The sets in their order.
     sets: Vec<u16>,
-    // For each set of nodes its place, if it is in the list.
+    // For each set of nodes its place in the list, or None if it isn't in the list.
     places: Vec<Option<u16>>,
 }
 
@@ -61,7 +62,7 @@ impl Listed {
         self.places[usize::from(set)]
     }
 
-    /// Appends the set if it isn't in the list.
+    /// Appends the set if it isn't in the list yet.
     pub fn insert(&mut self, set: u16) -> Result<(), AllocError>
         ensures { IfOk result (λ _. IsInserted self.old self.new set) }
     {

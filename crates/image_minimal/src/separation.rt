@@ -1,4 +1,4 @@
-//! The least word that is an orphan of exactly one of two rules.
+//! The function `separate`, which finds the least word that is an orphan of exactly one of two rules.
 
 ghost use Rattle.std.specs.Prelude.{◌≡◌, ◌≢◌, ◌↔◌, ◌∷◌, [], ◌++◌, ◌<◌, List, ℕ, length, slice_get, Some, IfOk, IsErrOf, MatchOption};
 ghost use Rattle.image_minimal.specs.ImageLanguages.{HaveSameOrphans, Separates};
@@ -11,7 +11,7 @@ use crate::subsets::Subsets;
 use std::alloc::{AllocError, Global};
 use word_image::{Rule, Word};
 
-/// Why no word is searched for.
+/// Why two rules aren't compared.
 #[derive(Debug, Drop)]
 pub enum SepFault {
     /// The two rules have different numbers of states.
@@ -45,8 +45,9 @@ pub fn separate(alloc: Global, first: &Rule, second: &Rule) -> Result<Option<Wor
     Ok(search(alloc, &one, &other)?)
 }
 
-/// Searches for the word; the rules have the same number of states. Follows links breadth first, with letters
-/// ascending, until a letter leads to two sets of which exactly one is empty.
+/// Searches for the least word that is an orphan of exactly one rule. The rules have the same number of states. It
+/// follows links breadth first, with letters ascending, until a letter leads to two sets of which exactly one is
+/// empty.
 fn search(alloc: Global, first: &Subsets, second: &Subsets) -> Result<Option<Word>, AllocError>
     requires { first.now.states ≡ second.now.states }
     ensures { IfOk result (λ word. MatchOption word (HaveSameOrphans first.now second.now) (Separates first.now second.now)) }
@@ -71,7 +72,7 @@ fn search(alloc: Global, first: &Subsets, second: &Subsets) -> Result<Option<Wor
             if (s == 0) != (t == 0) {
                 return Ok(Some(word_to(alloc, &links, place, letter)?));
             }
-            // Earlier links may already join the two sets.
+            // If earlier links already join the two sets, they aren't made a link.
             if joined.join(u32::from(s), below + u32::from(t)) {
                 links.push(Link {
                     first: s,
@@ -86,7 +87,7 @@ fn search(alloc: Global, first: &Subsets, second: &Subsets) -> Result<Option<Wor
     Ok(None)
 }
 
-/// Returns the word on the way to the link at this place, followed by a letter.
+/// Returns the word that reaches the link at place `at`, followed by the letter `last`.
 fn word_to(alloc: Global, links: &[Link], at: usize, last: u8) -> Result<Word, AllocError>
     requires at { at < length links.now }
     requires earlier { (i : ℕ) (x : Link) → 0 < i → slice_get links.now i ≡ Some x → x.parent < i }

@@ -1,4 +1,4 @@
-//! The sets of nodes of a rule, and the steps between them.
+//! The type `Subsets`: the sets of nodes of a rule, and the steps between them.
 
 ghost use Rattle.std.specs.Prelude.{◌≡◌, ◌^◌, ◌<◌, ℕ, slice_index, IfOk};
 ghost use Rattle.word_image.specs.LocalRules.{IsRule, node_count};
@@ -11,11 +11,12 @@ use std::alloc::{AllocError, Global};
 use std::marker::Model;
 use word_image::{MOST_STATES, Rule};
 
-/// The subset automaton of a rule. In contracts it is the rule.
+/// The sets of nodes of a rule and their steps, which are the subset automaton of the rule. In contracts it is the
+/// rule.
 #[derive(Debug, Drop)]
 pub struct Subsets {
     graph: Graph,
-    // The steps of its sets.
+    // The tables from which the steps of each set are read.
     tables: StepTables,
 }
 
@@ -56,7 +57,7 @@ impl Subsets {
         &self.graph
     }
 
-    /// Returns the number of sets of nodes.
+    /// Returns the number of sets of nodes, which is 2 to the power of the number of nodes.
     pub fn count(&self) -> u32
         ensures count { result ≡ 2 ^ node_count self.now }
         ensures rule { IsRule self.now }
@@ -72,7 +73,8 @@ impl Subsets {
         self.graph.full()
     }
 
-    /// Returns the steps of the set, in the order of the letters.
+    /// Returns for each letter the set to which the step of this set on the letter leads, in the order of the
+    /// letters.
     pub fn steps(&self, set: u16) -> [u16; MOST_STATES]
         requires { set < 2 ^ node_count self.now }
         ensures { (a : ℕ) → a < self.now.states → IsStep self.now set a (slice_index result a) }

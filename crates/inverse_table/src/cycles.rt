@@ -1,7 +1,7 @@
-//! Numbers that start again at 0, as the letters of the words in their order do.
+//! Functions that count up to a number and then start again at 0, like the last letters of words in their order.
 ghost use Rattle.std.specs.Prelude.{◌≡◌, ℕ, ◌+◌, ◌*◌, ◌%◌, ◌<◌, ◌≤◌};
 
-/// Returns the number after `i`, or 0 after the last number below `count`.
+/// Returns i + 1, or 0 if i is the last number below `count`.
 pub(crate) fn after(i: usize, count: usize) -> usize
     requires { i < count }
     ensures next { (n : ℕ) → i ≡ n % count → result ≡ (n + 1) % count }
@@ -10,8 +10,8 @@ pub(crate) fn after(i: usize, count: usize) -> usize
     if i + 1 == count { 0 } else { i + 1 }
 }
 
-/// Returns the first place of the next row, or 0 after the last one. A list of `count` numbers is cut into rows of
-/// `row` numbers, and one row begins at `place`.
+/// Returns the first place of the next row of a list, or 0 after the last row. The list has `count` numbers, in rows
+/// of `row` numbers. One row begins at `place`.
 pub(crate) fn after_row(place: usize, row: usize, count: usize) -> usize
     requires some { 0 < row }
     requires inside { place + row ≤ count }

@@ -1,4 +1,4 @@
-//! The images of all words of one length.
+//! The function `image_values`: the images of all words of one length.
 ghost use Rattle.std.specs.Prelude.{◌≡◌, ℕ, ◌+◌, ◌*◌, ◌^◌, ◌<◌, ◌≤◌, ◌++◌, All, length, map, slice_range, vec_len, vec_capacity, IfOk};
 ghost use Rattle.inverse_table.specs.MapLimits.{most_map_entries};
 ghost use Rattle.inverse_table.specs.ImageValues.{AreImageValues};
@@ -7,7 +7,7 @@ use crate::cycles::after_row;
 use std::alloc::{AllocError, Global};
 use word_image::Rule;
 
-/// Returns the values of the images of all words of n + m - 1 letters, in the order of the words.
+/// Returns the value of the image of each word of n + m - 1 letters, in the order of the values of the words.
 pub(crate) fn image_values(alloc: Global, rule: &Rule, n: u16) -> Result<Vec<u16>, AllocError>
     requires fits { rule.now.states ^ n ≤ most_map_entries }
     ensures { IfOk result (λ v. AreImageValues rule.now n v.items) }
@@ -19,8 +19,8 @@ pub(crate) fn image_values(alloc: Global, rule: &Rule, n: u16) -> Result<Vec<u16
     Ok(images)
 }
 
-/// Returns the images of the words that are one letter longer. The last nodes of the words come in their order again
-/// and again, and so do the rows of the table. It isn't inlined, since the loop would keep more on the stack.
+/// Returns the values of the images of all words that are one letter longer. The last nodes of the words repeat in
+/// their order, and so do the rows of the table. It isn't inlined, since otherwise the loop keeps more on the stack.
 #[inline(never)]
 fn longer(alloc: Global, rule: &Rule, images: &[u16]) -> Result<Vec<u16>, AllocError>
     requires fits { All (λ image. image * rule.now.states + rule.now.states ≤ most_map_entries) images.now }
@@ -40,7 +40,7 @@ fn longer(alloc: Global, rule: &Rule, images: &[u16]) -> Result<Vec<u16>, AllocE
     Ok(values)
 }
 
-/// Returns the letters of a row of the table.
+/// Returns the `row` letters of the table that begin at `place`.
 fn row_at(table: &[u8], place: usize, row: usize) -> &[u8]
     requires { place + row ≤ length table.now }
     ensures { result.now ≡ slice_range table.now place (place + row) }
@@ -48,7 +48,7 @@ fn row_at(table: &[u8], place: usize, row: usize) -> &[u8]
     &table[place..place + row]
 }
 
-/// Appends the values of the images that are one letter longer. `first` is the least of them.
+/// Appends the values of the images that are one letter longer: `first` plus each of these labels.
 fn push_all(values: &mut Vec<u16>, first: u16, labels: &[u8])
     requires fits { All (λ label. first + label < most_map_entries) labels.now }
     requires room { vec_len values.old + length labels.now ≤ vec_capacity values.old }

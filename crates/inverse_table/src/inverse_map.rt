@@ -1,4 +1,4 @@
-//! The inverse map as a value and as a rule.
+//! The type `InverseMap`, and the function `as_rule`, which makes a rule of an inverse map.
 ghost use Rattle.std.specs.Prelude.{◌≡◌, ◌<◌, ◌^◌, ◌↔◌, slice_index, IfOk, IsOk};
 ghost use Rattle.std.specs.Result.{result_err};
 ghost use Rattle.word_image.specs.LocalRules.{IsRule};
@@ -9,14 +9,14 @@ use std::marker::Model;
 use word_image::{Rule, RuleFault, check_shape};
 
 /// A map that computes a letter of a word from n letters of its image. It has a letter for each word of n letters, in
-/// the order of their values.
+/// the order of the values of these words.
 #[derive(Debug, Drop)]
 pub struct InverseMap {
-    // The number of letters k.
+    // The number k of letters.
     k: u8,
-    // The number of letters of the image that are read.
+    // The number n of letters of the image that the map reads.
     n: u16,
-    // The place at which they begin, for cell 0.
+    // The place of the first of these letters, if the map computes cell 0.
     offset: i32,
     // The letter for each of the k^n words of n letters.
     letters: Vec<u8>,
@@ -34,7 +34,7 @@ impl Model for InverseMap {
 }
 
 impl InverseMap {
-    /// Makes the map with these letters.
+    /// Makes the map for k letters that reads n letters, with this offset and these letters.
     pub(crate) fn of(k: u8, n: u16, offset: i32, letters: Vec<u8>) -> Self
         requires { IsWindowMap (record { states = k; width = n; offset = offset; table = letters.items }) }
         ensures { result ≡ record { states = k; width = n; offset = offset; table = letters.items } }
@@ -55,7 +55,7 @@ impl InverseMap {
         self.k
     }
 
-    /// Returns the number of letters of the image that are read, from 1 to 16.
+    /// Returns how many letters of the image the map reads, from 1 to 16.
     pub fn n(&self) -> u16
         ensures width { result ≡ self.now.width }
         ensures map { IsWindowMap self.now }
@@ -63,7 +63,8 @@ impl InverseMap {
         self.n
     }
 
-    /// Returns the offset: the letter of cell i is computed from the cells of the image that begin at i + offset.
+    /// Returns the offset. The letter of cell i is computed from the cells of the image that begin at place i +
+    /// offset.
     pub fn offset(&self) -> i32
         ensures offset { result ≡ self.now.offset }
         ensures map { IsWindowMap self.now }
@@ -80,11 +81,11 @@ impl InverseMap {
     }
 }
 
-/// Returns the map as a rule of width n, whose table is the map's. A map with n = 1 becomes a rule of width 2 that
-/// ignores its second cell.
+/// Returns the map as a rule of width n, whose table has the letters of the map. A map with n = 1 becomes a rule of
+/// width 2 that ignores its second cell.
 ///
-/// Returns `Width`, `Nodes` or `Offset` if the rule would break this limit, the first one in this order. Needs no
-/// memory.
+/// If the rule would break limits of rules, returns the first of `Width`, `Nodes` and `Offset` that applies. It needs
+/// no memory.
 pub fn as_rule(map: &InverseMap) -> Result<Rule, RuleFault>
     ensures rule { IfOk result (λ r. r ≡ map_rule map.now) }
     ensures fault { result_err result ≡ rule_limit_fault (map_rule map.now) }
@@ -96,7 +97,8 @@ pub fn as_rule(map: &InverseMap) -> Result<Rule, RuleFault>
     Ok(Rule::by(map.k(), m, o, |window| letter_of(map, window)))
 }
 
-/// Returns the map's letter for a window of the rule. If one letter is read, the second cell is ignored.
+/// Returns the letter that the map gives for a window of its rule. If the map reads one letter, the second cell is
+/// ignored.
 fn letter_of(map: &InverseMap, window: u16) -> u8
     requires { window < map.now.states ^ (map_rule map.now).width }
     ensures { result ≡ slice_index (map_rule map.now).table window }

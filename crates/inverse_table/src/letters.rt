@@ -1,20 +1,20 @@
-//! The letters at one place of all words of one length, read from the images of the words.
+//! Functions that read the letter at one place of all words of one length, by the images of the words.
 ghost use Rattle.std.specs.Prelude.{◌≡◌, ℕ, ◌+◌, ◌*◌, ◌%◌, ◌<◌, ◌≤◌, All, length, replicate, slice_index, MatchOption};
 ghost use Rattle.word_image.specs.LocalRules.{most_states};
 ghost use Rattle.inverse_table.specs.ImageValues.{AreUndetermined, AreReadBack, HasApart, IsRead, letter_by_unit};
 
 use crate::cycles::after;
 
-/// Stands for a letter that hasn't been read yet.
+/// The entry for a letter that hasn't been read yet.
 pub(crate) const UNREAD: u8 = 16;
 
-/// A place in words of one length, which are given by their values.
+/// A place in words of the same length, which are given by their values.
 #[derive(Clone, Copy)]
 pub(crate) struct Place {
     /// The number of letters.
     pub k: usize,
-    /// How much one more at this place adds to the value of a word: k to the power of the number of letters after the
-    /// place.
+    /// How much the value of a word grows if the letter at this place grows by 1. This is k to the power of the
+    /// number of letters after the place.
     pub unit: usize,
     ghost some: { 0 < k },
     ghost most: { k ≤ most_states },
@@ -22,7 +22,7 @@ pub(crate) struct Place {
 }
 
 impl Place {
-    /// Returns the letter of the word with this value at this place.
+    /// Returns the letter at this place of the word with this value.
     fn letter(self, word: usize) -> u8
         ensures { result ≡ letter_by_unit self.k self.unit word }
     {
@@ -30,9 +30,9 @@ impl Place {
     }
 }
 
-/// Writes for each image the letter at this place of the words that have it. The letter is the same for runs of
-/// `unit` words and then changes. If two words with the same image have different letters there, it stops and returns
-/// two such words.
+/// Writes for each image the letter at this place that the words with this image have. If two words with the same
+/// image have different letters there, it stops and returns two such words. The letter is the same for runs of `unit`
+/// words, and then it changes.
 pub(crate) fn read_letters(
     letters: &mut [u8],
     images: &[u16],
@@ -56,7 +56,9 @@ pub(crate) fn read_letters(
     None
 }
 
-/// Continues with the words of a run, which have this letter at the place.
+/// Writes `letter` for each image of the words of one run, which begins with the word `start`. All words of the run
+/// have this letter at the place. If another letter was already read for an image, it stops and returns the word of
+/// the run that has this image.
 fn read_run(
     letters: &mut [u8],
     images: &[u16],
@@ -85,7 +87,8 @@ fn read_run(
     None
 }
 
-/// Returns a word with the same image as this one and another letter at this place, if there is one.
+/// Returns a word with the same image as this word and another letter at this place, or None if there is no such
+/// word.
 fn other_apart(images: &[u16], word: usize, place: Place) -> Option<usize>
     requires word { word < length images.now }
     ensures { MatchOption result

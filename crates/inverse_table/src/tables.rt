@@ -1,4 +1,4 @@
-//! The inverse map of a rule over a window.
+//! The function `table`, which computes the inverse map of a rule over a window.
 ghost use Rattle.std.specs.Prelude.{◌≡◌, ◌+◌, ◌-◌, ◌^◌, ◌<◌, ◌≤◌, neg_ℤ, ◌-ℤ◌, pos, IfOk, IsOk, MatchResult, SomeIff};
 ghost use Rattle.inverse_table.specs.MapLimits.{most_map_entries, longest_window};
 ghost use Rattle.word_image.specs.LocalRules.{IsRule, word_of};
@@ -16,7 +16,8 @@ use inverse_window::WindowAt;
 use std::alloc::{AllocError, Global};
 use word_image::{Rule, Word};
 
-/// The greatest number of words of n letters for which a map is computed. It has a letter for each.
+/// The greatest number of words of n letters for which a map is computed. The map has a letter for each of these
+/// words.
 const MOST_WORDS: u64 = 65536;
 
 /// Why a window has no inverse map.
@@ -24,7 +25,8 @@ const MOST_WORDS: u64 = 65536;
 pub enum InvFault {
     /// There are more than 65,536 words of n letters.
     Wide,
-    /// These two words of n + m - 1 letters have the same image and differ at c, so the window isn't determined.
+    /// The two words x and y of n + m - 1 letters have the same image and different letters at place c. So the window
+    /// isn't determined.
     NotDetermined { x: Word, y: Word },
     /// There is not enough memory.
     Memory(AllocError),
@@ -42,7 +44,7 @@ impl From<AllocError> for InvFault {
 /// each word of n letters: the letter at place c of every preimage of the word, or 0 if the word has no preimage.
 ///
 /// Returns `Wide` if there are more than 65,536 such words, and otherwise `NotDetermined` if the window isn't
-/// determined. `Memory` says nothing about the window.
+/// determined. Returns `Memory` if there isn't enough memory, whether the window is determined or not.
 pub fn table(alloc: Global, rule: &Rule, at: WindowAt) -> Result<InverseMap, InvFault>
     requires some { 1 ≤ at.n }
     requires most { at.n ≤ longest_window }
@@ -59,7 +61,8 @@ pub fn table(alloc: Global, rule: &Rule, at: WindowAt) -> Result<InverseMap, Inv
     read_back(alloc, rule, at, count, &images)
 }
 
-/// Computes the inverse map over a window from the images of all words of n + m - 1 letters.
+/// Returns the inverse map over a window, from the images of all words of n + m - 1 letters. `count` is the number of
+/// words of n letters. Returns `NotDetermined` if the window isn't determined.
 fn read_back(
     alloc: Global,
     rule: &Rule,
@@ -88,15 +91,14 @@ fn read_back(
     Ok(InverseMap::of(rule.k(), at.n, map_offset(rule, at.c), letters))
 }
 
-/// Returns the offset of the map for letter c: the image of a word begins o cells before the word, and letter c is c
-/// cells after the word's first letter.
+/// Returns the offset -o - c of the map for the letter at place c, if o is the offset of the rule.
 fn map_offset(rule: &Rule, c: u16) -> i32
     ensures { result ≡ neg_ℤ rule.now.offset -ℤ pos c }
 {
     -i32::from(rule.o()) - i32::from(c)
 }
 
-/// Returns the number of words of n letters if there are at most 65,536.
+/// Returns the number of words of n letters, or None if there are more than 65,536.
 fn word_count(rule: &Rule, n: u16) -> Option<usize>
     ensures { SomeIff result (rule.now.states ^ n ≤ most_map_entries) (rule.now.states ^ n) }
 {
@@ -106,7 +108,7 @@ fn word_count(rule: &Rule, n: u16) -> Option<usize>
     }
 }
 
-/// Returns the place of letter c in words of n + m - 1 letters.
+/// Returns the place c of words of n + m - 1 letters.
 fn place_of(rule: &Rule, at: WindowAt) -> Place
     requires inside { at.c ≤ at.n + rule.now.width - 2 }
     requires fits { rule.now.states ^ at.n ≤ most_map_entries }

@@ -1,4 +1,5 @@
-//! The calls of cert_format and cert_check.
+//! Functions that call the public functions of `cert_format` and `cert_check`, and that name the parts of
+//! certificates, of verdicts and of refusals.
 
 use cert_check::{Refusal, Side, SplitCause, TwinCause, Verdicts};
 use cert_format::{
@@ -9,22 +10,22 @@ use std::alloc::{AllocError, Global};
 use tail_config::Tail;
 use word_image::{FluxRow, RankRow, Rule, SetList, Weights, Word};
 
-/// The bytes of a certificate.
+/// Returns the bytes of the text of a certificate. The only error is lack of memory.
 pub fn write(alloc: Global, cert: &Cert) -> Result<Vec<u8>, AllocError> {
     cert_format::to_bytes(alloc, cert)
 }
 
-/// The certificate of bytes.
+/// Returns the certificate whose text the bytes are, or the reason why none could be read.
 pub fn read(alloc: Global, bytes: &[u8]) -> Result<Cert, CertFault> {
     cert_format::from_bytes(alloc, bytes)
 }
 
-/// What the judge says of bytes.
+/// Returns the verdicts of the certificate whose text the bytes are, or the reason why the judge refuses the bytes.
 pub fn judge(alloc: Global, bytes: &[u8]) -> Result<Verdicts, Refusal> {
     cert_check::judge(alloc, bytes)
 }
 
-/// What a certificate is of.
+/// Returns the version, the rule, the weights, the forward claims and the backward claims of a certificate.
 pub fn head(cert: &Cert) -> (&CertVersion, &Rule, &Weights, &RankRow, &RankRow) {
     (
         &cert.version,
@@ -35,7 +36,8 @@ pub fn head(cert: &Cert) -> (&CertVersion, &Rule, &Weights, &RankRow, &RankRow) 
     )
 }
 
-/// The evidence of a certificate.
+/// Returns the evidence of a certificate for each question: surjective, injective, closing on the right, closing on
+/// the left, and conserving.
 pub fn evidence(cert: &Cert) -> (&SurjectivePart, &InjectivePart, [&SidePart; 2], &SumPart) {
     (
         &cert.surjective,
@@ -45,7 +47,8 @@ pub fn evidence(cert: &Cert) -> (&SurjectivePart, &InjectivePart, [&SidePart; 2]
     )
 }
 
-/// The verdicts.
+/// Returns the rule and the weights of verdicts, and the five answers: surjective, injective, right, left and
+/// conserving.
 pub fn verdicts(of: &Verdicts) -> (&Rule, &Weights, [bool; 5]) {
     (
         &of.rule,
@@ -60,12 +63,13 @@ pub fn verdicts(of: &Verdicts) -> (&Rule, &Weights, [bool; 5]) {
     )
 }
 
-/// The kinds of evidence for and against surjective.
+/// Makes the two kinds of evidence of versions 1 and 2 about surjectivity: sets of nodes for a yes, and an orphan for
+/// a no.
 pub fn surjective_parts(sets: SetList, orphan: Word) -> [SurjectivePart; 2] {
     [SurjectivePart::Sets(sets), SurjectivePart::Orphan(orphan)]
 }
 
-/// The kinds of evidence for and against injective.
+/// Makes the two kinds of evidence about injectivity: the window (n, c) for a yes, and twins for a no.
 pub fn injective_parts(n: u16, c: u16, x: Word, y: Word) -> [InjectivePart; 2] {
     [
         InjectivePart::Window { n, c },
@@ -73,17 +77,17 @@ pub fn injective_parts(n: u16, c: u16, x: Word, y: Word) -> [InjectivePart; 2] {
     ]
 }
 
-/// The kinds of evidence for and against closing.
+/// Makes the two kinds of evidence about closing on a side: a look-ahead for a yes, and a split for a no.
 pub fn side_parts(ahead: u16, first: Tail, second: Tail) -> [SidePart; 2] {
     [SidePart::Ahead(ahead), SidePart::Split(first, second)]
 }
 
-/// The kinds of evidence for and against conserving.
+/// Makes the two kinds of evidence about conserving: a flux for a yes, and a ring for a no.
 pub fn sum_parts(flux: FluxRow, ring: Word) -> [SumPart; 2] {
     [SumPart::Flux(flux), SumPart::Ring(ring)]
 }
 
-/// The versions, and the keys.
+/// Returns all versions of certificates, and all keys that name a part of a certificate with the wrong shape.
 pub fn keys() -> ([CertVersion; 3], [Key; 11]) {
     (
         [CertVersion::One, CertVersion::Two, CertVersion::Three],
@@ -103,7 +107,7 @@ pub fn keys() -> ([CertVersion; 3], [Key; 11]) {
     )
 }
 
-/// The faults of a certificate's shape.
+/// Returns each kind of fault that bytes can have if they aren't the text of a certificate.
 pub fn shape_faults(version: u64, key: Key, fault: TextFault) -> [ShapeFault; 4] {
     [
         ShapeFault::NotJson,
@@ -113,12 +117,13 @@ pub fn shape_faults(version: u64, key: Key, fault: TextFault) -> [ShapeFault; 4]
     ]
 }
 
-/// The faults of reading one.
+/// Returns each kind of fault with which `read` can fail.
 pub fn cert_faults(fault: ShapeFault) -> [CertFault; 2] {
     [CertFault::Format(fault), CertFault::Memory(AllocError)]
 }
 
-/// The refusals of what is listed: of its shape, and of the ranks, the sets and the pairs.
+/// Returns a refusal for a fault of the text, and one refusal for each kind of condition on claims of ranks, on
+/// listed sets and on listed pairs.
 pub fn list_refusals(
     fault: ShapeFault,
     side: Side,
@@ -138,7 +143,7 @@ pub fn list_refusals(
     ]
 }
 
-/// The other refusals.
+/// Returns a refusal of each kind that `list_refusals` doesn't have.
 pub fn refusals(twins: TwinCause, split: SplitCause, pair: u16) -> [Refusal; 8] {
     [
         Refusal::Orphan,
@@ -152,7 +157,7 @@ pub fn refusals(twins: TwinCause, split: SplitCause, pair: u16) -> [Refusal; 8] 
     ]
 }
 
-/// The causes for which twins and splits are refused.
+/// Returns each reason why two words aren't twins, and each reason why two configurations aren't a split.
 pub fn causes() -> ([TwinCause; 3], [SplitCause; 3]) {
     (
         [TwinCause::Length, TwinCause::Same, TwinCause::Image],

@@ -1,4 +1,4 @@
-//! The calls of tail_config and tail_preimage.
+//! Functions that call the public functions of `tail_config` and `tail_preimage`, and that name their faults.
 
 ghost use Rattle.std.specs.Prelude.{◌≡◌, ◌≤◌, ◌^◌, unsigned_abs};
 ghost use Rattle.word_image.specs.LocalRules.{most_states};
@@ -8,7 +8,8 @@ use tail_config::{Part, Tail, TailFault, TailRefusal, TailTextFault};
 use tail_preimage::{Placed, Pre};
 use word_image::{Rule, Word};
 
-/// A configuration of its three parts, or what a refusal hands back.
+/// Makes the configuration with these three parts. If it has a fault, returns the fault and gives the three parts
+/// back.
 pub fn tail(
     k: u8,
     left: Vec<u8>,
@@ -31,12 +32,12 @@ pub fn tail(
     }
 }
 
-/// The parts of a configuration.
+/// Returns the number of letters of a configuration, its left period, its middle and its right period.
 pub fn parts(tail: &Tail) -> (u8, &[u8], &[u8], &[u8]) {
     (tail.k(), tail.left(), tail.middle(), tail.right())
 }
 
-/// A cell of a configuration, and one of its image.
+/// Returns the letter of a configuration at place `i`, and the letter of its image there.
 pub fn cells(tail: &Tail, rule: &Rule, i: i64) -> (u8, u8)
     requires place { unsigned_abs i ≤ 2 ^ 61 }
     requires one_k { rule.now.states ≡ tail.now.states }
@@ -44,12 +45,13 @@ pub fn cells(tail: &Tail, rule: &Rule, i: i64) -> (u8, u8)
     (tail.cell(i), tail.image_cell(rule, i))
 }
 
-/// The mirror image of a configuration.
+/// Returns the mirror image of a configuration.
 pub fn mirror(tail: Tail) -> Tail {
     tail.mirror()
 }
 
-/// Where two configurations differ, and on which sides they agree far out.
+/// Returns a place at which two configurations differ, if there is one, whether they agree far out on the left, and
+/// whether they agree far out on the right.
 pub fn compared(a: &Tail, b: &Tail) -> (Option<i64>, bool, bool) {
     (
         tail_config::differ(a, b),
@@ -58,7 +60,7 @@ pub fn compared(a: &Tail, b: &Tail) -> (Option<i64>, bool, bool) {
     )
 }
 
-/// Whether two configurations share an image.
+/// Returns whether two configurations have the same image.
 pub fn share(rule: &Rule, a: &Tail, b: &Tail) -> bool
     requires first { rule.now.states ≡ a.now.states }
     requires second { rule.now.states ≡ b.now.states }
@@ -66,7 +68,7 @@ pub fn share(rule: &Rule, a: &Tail, b: &Tail) -> bool
     tail_config::share(rule, a, b)
 }
 
-/// The configuration of a text.
+/// Returns the configuration with this text over the letters below k, or the first fault of the text.
 pub fn read(alloc: Global, k: u8, text: &[u8]) -> Result<Tail, TailTextFault>
     requires least { 2 ≤ k }
     requires most { k ≤ most_states }
@@ -74,12 +76,14 @@ pub fn read(alloc: Global, k: u8, text: &[u8]) -> Result<Tail, TailTextFault>
     tail_config::parse(alloc, k, text)
 }
 
-/// The text of a configuration.
+/// Returns the text of a configuration.
 pub fn print(alloc: Global, tail: &Tail) -> Result<Vec<u8>, AllocError> {
     tail_config::print(alloc, tail)
 }
 
-/// A preimage of a configuration: its place and its three parts, or the gap with two numbers and the orphan.
+/// Returns a preimage of a configuration: the place of its middle, and its three parts. If there is none, returns as
+/// the inner error the first stretch of the configuration that is an orphan: its number of left periods, its number
+/// of right periods, and the orphan.
 pub fn preimage(
     alloc: Global,
     rule: &Rule,
@@ -104,7 +108,7 @@ pub fn preimage(
     }
 }
 
-/// The faults of a configuration.
+/// Returns faults of each kind that the three parts of a configuration can have.
 pub fn tail_faults(place: usize) -> [TailFault; 6] {
     use TailFault::{LeftEmpty, Letter, Long, RightEmpty};
     [
@@ -117,7 +121,7 @@ pub fn tail_faults(place: usize) -> [TailFault; 6] {
     ]
 }
 
-/// The faults of a text.
+/// Returns each kind of fault that the text of a configuration can have.
 pub fn text_faults(place: usize, fault: TailFault) -> [TailTextFault; 3] {
     [
         TailTextFault::Form(place),

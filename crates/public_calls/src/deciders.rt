@@ -1,4 +1,4 @@
-//! The calls of inverse_window, closing_test, flux_conserve and eden_law.
+//! Functions that call the public functions of `inverse_window`, `closing_test`, `flux_conserve` and `eden_law`.
 
 ghost use Rattle.std.specs.Prelude.{◌≡◌, length};
 
@@ -13,7 +13,7 @@ use std::alloc::{AllocError, Global};
 use tail_config::Tail;
 use word_image::{Rule, SetList, Weights, Word};
 
-/// The least determined window.
+/// Returns the least determined window (n, c), or None if the rule isn't injective.
 pub fn window(rule: &Rule, ranks: &Ranks) -> Option<(u16, u16)>
     requires { ranks.now ≡ rule.now }
 {
@@ -23,7 +23,7 @@ pub fn window(rule: &Rule, ranks: &Ranks) -> Option<(u16, u16)>
     }
 }
 
-/// The least twins.
+/// Returns the least twins, or None if the rule is injective.
 pub fn twins(
     alloc: Global,
     rule: &Rule,
@@ -35,7 +35,8 @@ pub fn twins(
     }
 }
 
-/// The least look-aheads.
+/// Returns the least look-ahead on the right and the least look-ahead on the left, each only if the rule closes on
+/// this side.
 pub fn look_aheads(rule: &Rule, ranks: &Ranks) -> (Option<u16>, Option<u16>)
     requires { ranks.now ≡ rule.now }
 {
@@ -45,7 +46,7 @@ pub fn look_aheads(rule: &Rule, ranks: &Ranks) -> (Option<u16>, Option<u16>)
     )
 }
 
-/// Closing on the right, with its evidence.
+/// Returns the least look-ahead on the right, or a split if the rule isn't right-closing.
 pub fn right(
     alloc: Global,
     rule: &Rule,
@@ -57,7 +58,7 @@ pub fn right(
     closing_test::right(alloc, rule, ranks, walker)
 }
 
-/// Closing on the left, with its evidence.
+/// Returns the least look-ahead on the left, or a split if the rule isn't left-closing.
 pub fn left(
     alloc: Global,
     rule: &Rule,
@@ -69,12 +70,12 @@ pub fn left(
     closing_test::left(alloc, rule, ranks, walker)
 }
 
-/// The two kinds of evidence of a side.
+/// Makes both kinds of results of the tests for closing: a look-ahead, and a split.
 pub fn closings(ahead: u16, first: Tail, second: Tail) -> [Closing; 2] {
     [Closing::Ahead(ahead), Closing::Split(first, second)]
 }
 
-/// The flux, or the ring that loses its sum.
+/// Returns the flux of a conserving rule, or as the error a ring whose image has another sum.
 pub fn conserve(rule: &Rule, weights: &Weights) -> Result<[i32; 16], SmallRing>
     requires { length weights.now ≡ rule.now.states }
 {
@@ -84,12 +85,12 @@ pub fn conserve(rule: &Rule, weights: &Weights) -> Result<[i32; 16], SmallRing>
     }
 }
 
-/// The letters of a ring.
+/// Returns the letters of a ring.
 pub fn ring(ring: &SmallRing) -> &[u8] {
     ring.letters()
 }
 
-/// The least erasable pair.
+/// Returns the least erasable pair, or None if the rule is surjective.
 pub fn erasable(
     alloc: Global,
     rule: &Rule,
@@ -101,7 +102,7 @@ pub fn erasable(
     }
 }
 
-/// The pairs that the first pairs of the right reach.
+/// Returns the list of all pairs that the first pairs on the right reach.
 pub fn reached(alloc: Global, pairs: &Pairs) -> Result<SetList, AllocError> {
     eden_law::reached(alloc, pairs)
 }

@@ -1,4 +1,4 @@
-//! The calls of debruijn, image_subsets, orphan_search and image_minimal.
+//! Functions that call the public functions of `debruijn`, `image_subsets`, `orphan_search` and `image_minimal`.
 
 ghost use Rattle.std.specs.Prelude.{◌<◌, ◌≡◌, Contains, length, IfOk};
 ghost use Rattle.word_image.specs.LocalRules.{node_count};
@@ -10,18 +10,19 @@ use orphan_search::{Outcome, Search};
 use std::alloc::{AllocError, Global};
 use word_image::{Rule, Word};
 
-/// The graph of a rule, twice: graphs are copied.
+/// Returns the de Bruijn graph of a rule twice, which shows that graphs can be copied.
 pub fn graph(rule: &Rule) -> (Graph, Graph) {
     let graph = Graph::of(rule);
     (graph, graph)
 }
 
-/// The numbers of a graph, and the set of all its nodes.
+/// Returns the number of letters of a graph, its number of nodes, and the set of all its nodes.
 pub fn sizes(graph: &Graph) -> (u8, u8, u16) {
     (graph.k(), graph.nodes(), image_subsets::full(graph))
 }
 
-/// Where a letter leads from a node, what is read, and where a label leads.
+/// Returns the node to which the edge of node u with the letter a leads, the label of this edge, and the set of nodes
+/// to which the edges of node u with the label a lead.
 pub fn edges(graph: &Graph, u: u8, a: u8) -> (u8, u8, u16)
     requires node { u < node_count graph.now }
     requires letter { a < graph.now.states }
@@ -29,14 +30,14 @@ pub fn edges(graph: &Graph, u: u8, a: u8) -> (u8, u8, u16)
     (graph.next(u, a), graph.label(u, a), graph.ends(u, a))
 }
 
-/// Where a label leads from a set of nodes.
+/// Returns the set of nodes to which edges with the label a lead from a set of nodes.
 pub fn step(graph: &Graph, set: u16, a: u8) -> u16
     requires { a < graph.now.states }
 {
     image_subsets::step(graph, set, a)
 }
 
-/// A family of sets that explores a graph.
+/// Explores a graph, and returns the family of sets of nodes that it finds, and their number.
 pub fn family(alloc: Global, graph: &Graph) -> Result<(Family, u32), AllocError> {
     let mut family = Family::new(alloc)?;
     family.explore(graph);
@@ -44,14 +45,15 @@ pub fn family(alloc: Global, graph: &Graph) -> Result<(Family, u32), AllocError>
     Ok((family, count))
 }
 
-/// A set of a family, and whence it comes.
+/// Returns the set at place `i` of a family. If an earlier set leads to it, returns the place of this earlier set and
+/// the label, too.
 pub fn found(family: &Family, i: u32) -> (u16, Option<(u32, u8)>)
     requires { i < length family.now.sets }
 {
     (family.set(i), family.parent(i))
 }
 
-/// Whether no other set is within this one.
+/// Returns whether the set at place `i` contains no other set of the family.
 pub fn minimal(family: &Family, i: u32) -> bool
     requires place { i < length family.now.sets }
     requires nonempty { ¬ Contains family.now.sets 0 }
@@ -59,7 +61,7 @@ pub fn minimal(family: &Family, i: u32) -> bool
     family.minimal(i)
 }
 
-/// A search, and whether the rule is surjective.
+/// Searches for an orphan of a rule. Returns the search, and whether the rule is surjective.
 pub fn search(alloc: Global, rule: &Rule) -> Result<(Search, bool), AllocError> {
     let mut search = Search::new(alloc)?;
     match search.run(rule) {
@@ -68,24 +70,25 @@ pub fn search(alloc: Global, rule: &Rule) -> Result<(Search, bool), AllocError> 
     }
 }
 
-/// What a search has found.
+/// Returns what a search has found: the orphan, the sets and the cover list.
 pub fn evidence(search: &Search) -> (&[u8], &[u16], &[u16]) {
     (search.word(), search.sets(), search.cover())
 }
 
-/// The least automaton of the images, and its numbers.
+/// Returns the least automaton of a rule, its number of classes, its class of the orphans, if any, and its number of
+/// letters.
 pub fn language(alloc: Global, rule: &Rule) -> Result<(Minimal, u32, Option<u32>, u8), AllocError> {
     let minimal = image_minimal::least(alloc, rule)?;
     let (count, dead, k) = (minimal.len(), minimal.dead(), minimal.k());
     Ok((minimal, count, dead, k))
 }
 
-/// The first word that tells two rules apart.
+/// Returns the least word that is an orphan of exactly one of two rules, or None if there is none.
 pub fn separate(alloc: Global, first: &Rule, second: &Rule) -> Result<Option<Word>, SepFault> {
     image_minimal::separate(alloc, first, second)
 }
 
-/// The faults of two rules that are compared.
+/// Returns each kind of fault with which `separate` can fail.
 pub fn separation_faults() -> [SepFault; 2] {
     [SepFault::States, SepFault::Memory(AllocError)]
 }

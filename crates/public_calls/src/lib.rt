@@ -1,9 +1,29 @@
-//! A caller of each public call of the library and of each public type, with the types that callers
-//! rely on. It compiles only as long as none of them goes, moves to another crate or changes its type, so
-//! it stands in the way of whoever breaks a caller's code by accident. Nothing else uses it.
+//! Calls each public function of the library, and uses each public type, as callers of the library do. If a function
+//! goes away, moves to another crate or changes its types, this crate no longer compiles. So nobody can break the
+//! code of a caller by accident. Nothing else uses this crate.
 //!
-//! Each function asks for what the calls in it require, and no more: a call that asks for more than
-//! before isn't proved here.
+//! A function here has only the preconditions that its calls require. If a public function requires more than before,
+//! its call here can't be proved.
+//!
+//! The comments use the following terms.
+//!
+//! The evidence for a verdict has these kinds. An *orphan* is a word without a preimage. A *window* (n, c) says that
+//! n letters of an image determine the letter at place c of each preimage. *Twins* are two different words of the
+//! same length whose rings have the same image. A *look-ahead* says how many letters of the image determine the next
+//! letter of a word on a side. A *split* of a side is two different configurations that share an image and agree on
+//! the other side. A *flux* has a number for each node, and shows that each ring keeps the sum of its weights. A
+//! *ring* is a word that is read on from its end at its start.
+//!
+//! An *erasable pair* is two different words of the same length with the same image, the same first m - 1 letters and
+//! the same last m - 1 letters. So each of them can replace the other in any configuration without a change of the
+//! image. The *class* of a rule has the rules at offset 0 with its table or the table of its mirrored rule, with new
+//! names for the letters. The *second-order lift* of a rule is a reversible rule whose letters are pairs of its
+//! letters (crate rule_classes).
+//!
+//! A *node* is a word of m - 1 letters, and a *step* of a pair of nodes follows two edges of the de Bruijn graph with
+//! equal labels. In the *marked graph* each pair of nodes occurs twice, without a mark and with it. A step on two
+//! different letters sets the mark. A *first pair on the right* is a pair to which two different letters lead from
+//! the same node.
 #![tactic(auto)]
 
 pub mod certificates;

@@ -1,4 +1,5 @@
-//! The calls of rule_algebra, inverse_table and rule_classes.
+//! Functions that call the public functions of `rule_algebra`, `inverse_table` and `rule_classes`, and that name
+//! their faults.
 
 ghost use Rattle.std.specs.Prelude.{◌≤◌, ◌+◌, ◌-◌};
 
@@ -9,7 +10,8 @@ use rule_classes::{ClassFault, ClassPlace, LiftFault};
 use std::alloc::{AllocError, Global};
 use word_image::{Rule, RuleFault, Word};
 
-/// A rule that is moved, recoloured and widened.
+/// Returns three rules that are made of a rule: shifted by `by` cells, with new names for its letters, and widened to
+/// the width m. Returns the first fault if one of them can't be made.
 pub fn changed(rule: &Rule, by: i8, colours: &[u8], m: u8) -> Result<[Rule; 3], AlgebraFault> {
     let shifted = rule_algebra::shift(rule, by)?;
     let permuted = rule_algebra::permute(rule, colours)?;
@@ -17,17 +19,17 @@ pub fn changed(rule: &Rule, by: i8, colours: &[u8], m: u8) -> Result<[Rule; 3], 
     Ok([shifted, permuted, widened])
 }
 
-/// One rule after another.
+/// Returns the composition of two rules: the second rule after the first.
 pub fn compose(first: &Rule, second: &Rule) -> Result<Rule, AlgebraFault> {
     rule_algebra::compose(first, second)
 }
 
-/// A rule without the cells that it ignores.
+/// Returns a rule without the cells at its ends that it ignores.
 pub fn trim(rule: &Rule) -> Rule {
     rule_algebra::trim(rule)
 }
 
-/// The inverse map over a window.
+/// Returns the inverse map of a rule over a window, or the reason why there is none.
 pub fn inverse(alloc: Global, rule: &Rule, at: WindowAt) -> Result<InverseMap, InvFault>
     requires some { 1 ≤ at.n }
     requires most { at.n ≤ 480 }
@@ -36,28 +38,29 @@ pub fn inverse(alloc: Global, rule: &Rule, at: WindowAt) -> Result<InverseMap, I
     inverse_table::table(alloc, rule, at)
 }
 
-/// The parts of a map.
+/// Returns the number of letters of an inverse map, how many letters it reads, its offset and its letters.
 pub fn map(map: &InverseMap) -> (u8, u16, i32, &[u8]) {
     (map.k(), map.n(), map.offset(), map.table())
 }
 
-/// A map as a rule.
+/// Returns an inverse map as a rule, or the limit of rules that it breaks.
 pub fn map_rule(map: &InverseMap) -> Result<Rule, RuleFault> {
     inverse_table::as_rule(map)
 }
 
-/// The rule that stands for a class.
+/// Returns the rule with the least Wolfram number in the class of a rule, and whether the mirrored rule is needed to
+/// get it.
 pub fn class(rule: &Rule) -> Result<(Rule, bool), ClassFault> {
     let ClassPlace { least, mirrored } = rule_classes::class_of(rule)?;
     Ok((least, mirrored))
 }
 
-/// The reversible rule of pairs, and what undoes it.
+/// Returns the second-order lift of a rule, and the rule that undoes the lift.
 pub fn lifts(rule: &Rule) -> Result<[Rule; 2], LiftFault> {
     Ok([rule_classes::lift(rule)?, rule_classes::unlift(rule)?])
 }
 
-/// The faults of rules that are made of rules.
+/// Returns each kind of fault of the rules that can't be made: of shifts and other changes, of lifts, and of classes.
 pub fn faults() -> ([AlgebraFault; 5], [LiftFault; 3], ClassFault) {
     (
         [
@@ -72,7 +75,7 @@ pub fn faults() -> ([AlgebraFault; 5], [LiftFault; 3], ClassFault) {
     )
 }
 
-/// The faults of a map.
+/// Returns each kind of fault of an inverse map that can't be computed.
 pub fn map_faults(x: Word, y: Word) -> [InvFault; 3] {
     [
         InvFault::Wide,

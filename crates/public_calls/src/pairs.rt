@@ -1,4 +1,4 @@
-//! The calls of pair_graph, pair_rank and least_walk.
+//! Functions that call the public functions of `pair_graph`, `pair_rank` and `least_walk`.
 
 ghost use Rattle.std.specs.Prelude.{◌≡◌, ◌<◌, ◌*◌, length};
 ghost use Rattle.word_image.specs.LocalRules.{node_count};
@@ -10,19 +10,21 @@ use pair_rank::Ranks;
 use std::alloc::{AllocError, Global};
 use word_image::Rule;
 
-/// The pairs of a rule, and how many there are.
+/// Returns the graph of the pairs of nodes of a rule, and the number of pairs.
 pub fn pairs(rule: &Rule) -> (Pairs, u16) {
     let pairs = Pairs::of(rule);
     let count = pairs.count();
     (pairs, count)
 }
 
-/// The rule of pairs.
+/// Returns the rule whose pairs of nodes these are.
 pub fn rule(pairs: &Pairs) -> &Rule {
     pairs.rule()
 }
 
-/// Where two letters lead from a pair, and whence they lead to it.
+/// Returns three pairs, each if it exists: the pair to which the letters a and b lead from pair p, the pair whose
+/// nodes begin with a and b and that leads to pair p, and the marked pair to which a and b lead from p in the marked
+/// graph.
 pub fn steps(pairs: &Pairs, p: u16, a: u8, b: u8) -> (Option<u16>, Option<u16>, Option<u16>)
     requires pair { p < pair_count pairs.now }
     requires first { a < pairs.now.states }
@@ -35,7 +37,7 @@ pub fn steps(pairs: &Pairs, p: u16, a: u8, b: u8) -> (Option<u16>, Option<u16>, 
     )
 }
 
-/// The set of all pairs, trimmed.
+/// Returns the set of all pairs after one trim: forward, backward, and the same two by the slow plain trims.
 pub fn trims(pairs: &Pairs) -> [PairSet; 4] {
     let all = PairSet::all(pairs);
     [
@@ -46,31 +48,31 @@ pub fn trims(pairs: &Pairs) -> [PairSet; 4] {
     ]
 }
 
-/// Whether a set has a pair.
+/// Returns whether a set contains pair p.
 pub fn holds(set: &PairSet, p: u16) -> bool
     requires { p < length set.now }
 {
     set.holds(p)
 }
 
-/// Whether two sets are the same.
+/// Returns whether two sets have the same pairs.
 pub fn same(set: &PairSet, other: &PairSet) -> bool
     requires { length set.now ≡ length other.now }
 {
     set.same(other)
 }
 
-/// The ranks of a rule.
+/// Returns the ranks of the pairs of nodes of a rule.
 pub fn ranks(rule: &Rule) -> Ranks {
     Ranks::of(rule)
 }
 
-/// The rule of ranks.
+/// Returns the rule whose ranks these are.
 pub fn ranked(ranks: &Ranks) -> &Rule {
     ranks.rule()
 }
 
-/// The two ranks of two nodes.
+/// Returns the forward rank and the backward rank of the pair of nodes u and v. A rank is None if it has no bound.
 pub fn rank(ranks: &Ranks, u: u8, v: u8) -> (Option<u16>, Option<u16>)
     requires first { u < node_count ranks.now }
     requires second { v < node_count ranks.now }
@@ -78,12 +80,12 @@ pub fn rank(ranks: &Ranks, u: u8, v: u8) -> (Option<u16>, Option<u16>)
     (ranks.forward(u, v), ranks.backward(u, v))
 }
 
-/// A walker.
+/// Makes a walker, which can search for walks between marked pairs.
 pub fn walker(alloc: Global) -> Result<Walker, AllocError> {
     Walker::new(alloc)
 }
 
-/// The least walk between two marked pairs.
+/// Returns the letters of the least walk between two marked pairs, or None if there is no walk.
 pub fn walk<'a>(walker: &'a mut Walker, pairs: &Pairs, from: u16, to: u16) -> Option<&'a [u8]>
     requires from { from < 2 * pair_count pairs.now }
     requires to { to < 2 * pair_count pairs.now }

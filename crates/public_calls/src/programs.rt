@@ -1,10 +1,10 @@
-//! The calls of ca_cli.
+//! Functions that call the public functions of `ca_cli`.
 
 use ca_cli::Status;
 use ca_io::{Sink, Source};
 use std::alloc::Global;
 
-/// The program on these words, and the code with which it ends.
+/// Runs the program on these words, and returns its status and the exit code of the status.
 pub fn run<S: Source, T: Sink>(
     alloc: Global,
     words: &[String],
@@ -16,7 +16,7 @@ pub fn run<S: Source, T: Sink>(
     (status, code)
 }
 
-/// The statuses.
+/// Returns all statuses of the program.
 pub fn statuses() -> [Status; 9] {
     [
         Status::Done,

@@ -1,4 +1,4 @@
-//! The calls of word_image and rule_text.
+//! Functions that call the public functions of `word_image` and `rule_text`, and that name their faults.
 
 ghost use Rattle.std.specs.Prelude.{◌≡◌, ◌<◌, ◌≤◌, ◌^◌, length};
 ghost use Rattle.word_image.specs.LocalRules.{IsWord, most_states};
@@ -9,13 +9,15 @@ use word_image::{
     FluxRow, ImageFault, RankRow, RingFault, Rule, RuleFault, SetList, WeightFault, Weights, Word,
 };
 
-/// A rule, twice: rules are copied.
+/// Makes a rule and returns it twice, which shows that rules can be copied. Returns the first fault if there is no
+/// such rule.
 pub fn rule(k: u8, m: u8, o: i8, table: &[u8]) -> Result<(Rule, Rule), RuleFault> {
     let rule = Rule::new(k, m, o, table)?;
     Ok((rule, rule))
 }
 
-/// The numbers of a rule, and its mirror image.
+/// Returns the number of states of a rule, its width, its offset, the length of its table, its number of nodes, and
+/// the mirrored rule.
 pub fn parts(rule: &Rule) -> (u8, u8, i8, u16, u8, Rule) {
     (
         rule.k(),
@@ -27,19 +29,19 @@ pub fn parts(rule: &Rule) -> (u8, u8, i8, u16, u8, Rule) {
     )
 }
 
-/// Whether two rules are equal.
+/// Returns whether two rules are equal.
 pub fn equal(rule: &Rule, other: &Rule) -> bool {
     rule == other
 }
 
-/// The letter of the table at a value.
+/// Returns the letter that the rule gives for the window with this value.
 pub fn at(rule: &Rule, value: u16) -> u8
     requires { value < rule.now.states ^ rule.now.width }
 {
     rule.at(value)
 }
 
-/// What a rule gives on a window.
+/// Returns the letter that the rule gives for a window.
 pub fn apply(rule: &Rule, window: &[u8]) -> u8
     requires word { IsWord rule.now.states window.now }
     requires long { length window.now ≡ rule.now.width }
@@ -47,24 +49,25 @@ pub fn apply(rule: &Rule, window: &[u8]) -> u8
     rule.apply(window)
 }
 
-/// The image of a word.
+/// Returns the image of a word, or the first fault of the word.
 pub fn image(alloc: Global, rule: &Rule, word: &[u8]) -> Result<Vec<u8>, ImageFault> {
     word_image::image(alloc, rule, word)
 }
 
-/// The image of a ring.
+/// Returns the image of a ring, or the first fault of the ring.
 pub fn ring_image(alloc: Global, rule: &Rule, ring: &[u8]) -> Result<Vec<u8>, RingFault> {
     word_image::ring_image(alloc, rule, ring)
 }
 
-/// The digit of a letter, and the letter of a byte.
+/// Returns the digit of `letter`, and the letter whose digit is `byte`, if `byte` is a digit.
 pub fn digits(letter: u8, byte: u8) -> (u8, Option<u8>)
     requires { letter < most_states }
 {
     (word_image::digit(letter), word_image::letter(byte))
 }
 
-/// Weights, and those of the letters' own values.
+/// Makes two lists of weights for k letters: the weights of this list, and the weights by which each letter weighs
+/// its own value. Returns the fault if the list doesn't have k weights.
 pub fn weights(k: u8, list: &[u8]) -> Result<(Weights, Weights), WeightFault>
     requires least { 2 ≤ k }
     requires most { k ≤ most_states }
@@ -72,14 +75,14 @@ pub fn weights(k: u8, list: &[u8]) -> Result<(Weights, Weights), WeightFault>
     Ok((Weights::new(k, list)?, Weights::own(k)))
 }
 
-/// What a letter weighs.
+/// Returns how many letters have a weight, and the weight of `letter`.
 pub fn weight(weights: &Weights, letter: u8) -> (u8, u8)
     requires { letter < length weights.now }
 {
     (weights.k(), weights.at(letter))
 }
 
-/// The four types of lists.
+/// Makes a value of each type of list: a word, a list of sets, a row of ranks and a flux.
 pub fn lists(
     word: Vec<u8>,
     sets: Vec<u16>,
@@ -94,7 +97,7 @@ pub fn lists(
     )
 }
 
-/// What they hold.
+/// Returns the items of a word, of a list of sets, of a row of ranks and of a flux.
 pub fn held<'a>(
     word: &'a Word,
     sets: &'a SetList,
@@ -109,24 +112,25 @@ pub fn held<'a>(
     )
 }
 
-/// The rule of a text, and its number.
+/// Reads a rule from its text. Returns the rule and its Wolfram number, if it has one, or the first fault of the
+/// text.
 pub fn read(text: &[u8]) -> Result<(Rule, Option<u128>), TextFault> {
     let rule = rule_text::parse(text)?;
     Ok((rule, rule_text::number(&rule)))
 }
 
-/// The text of a rule.
+/// Returns the text of a rule.
 pub fn print(alloc: Global, rule: &Rule) -> Result<Vec<u8>, AllocError> {
     rule_text::print(alloc, rule)
 }
 
-/// The faults of a rule.
+/// Returns each kind of fault with which a rule can be refused.
 pub fn rule_faults(window: u16) -> [RuleFault; 6] {
     use RuleFault::{Length, Letter, Nodes, Offset, States, Width};
     [States, Width, Nodes, Offset, Length, Letter(window)]
 }
 
-/// The faults of a text.
+/// Returns each kind of fault that the text of a rule can have.
 pub fn text_faults(place: usize) -> [TextFault; 9] {
     use TextFault::{Form, Kind, Length, Letter, Nodes, Number, Offset, States, Width};
     [
@@ -142,7 +146,7 @@ pub fn text_faults(place: usize) -> [TextFault; 9] {
     ]
 }
 
-/// The faults of words, of rings and of weights.
+/// Returns each kind of fault of a word, of a ring and of weights.
 pub fn word_faults(place: usize) -> ([ImageFault; 3], [RingFault; 3], WeightFault) {
     (
         [

@@ -1,4 +1,4 @@
-//! Compositions: one rule after another.
+//! The function `compose`: two rules are carried out one after the other.
 ghost use Rattle.std.specs.Prelude.{◌≡◌, ◌≤◌, ◌+◌, ◌-◌, ◌<◌, ◌^◌, IfOk, slice_index};
 ghost use Rattle.std.specs.Result.{result_err};
 ghost use Rattle.word_image.specs.LocalRules.{IsRule, value, word_of, most_windows};
@@ -12,10 +12,10 @@ use crate::fault::{AlgebraFault, check_limits};
 use word_image::{Rule, value_by};
 
 /// Returns the composition of two rules: its image is the second rule's image of the first rule's image. Its width is
-/// the sum of the two widths minus 1, and its offset the sum of the two offsets.
+/// the sum of the two widths minus 1, and its offset is the sum of the two offsets.
 ///
-/// Returns `States` if the rules have different numbers of states, and otherwise the first of `Width`, `Nodes` and
-/// `Offset` whose limit the composition breaks, if any.
+/// Returns `States` if the rules have different numbers of states. Otherwise, if the composition breaks a limit of
+/// accepted rules, returns the first of `Width`, `Nodes` and `Offset` that applies.
 pub fn compose(first: &Rule, second: &Rule) -> Result<Rule, AlgebraFault>
     ensures fault { result_err result ≡ compose_fault first.now second.now }
     ensures composed { IfOk result (IsComposed first.now second.now) }
@@ -25,7 +25,7 @@ pub fn compose(first: &Rule, second: &Rule) -> Result<Rule, AlgebraFault>
     Ok(composed_rule(first, second))
 }
 
-/// Returns the offset of the composition of two rules, or its first fault.
+/// Returns the offset of the composition of two rules, or the first fault of `compose`.
 fn check_composed(first: &Rule, second: &Rule) -> Result<i8, AlgebraFault>
     ensures fault { result_err result ≡ compose_fault first.now second.now }
     ensures rules { IsRule first.now × IsRule second.now }
@@ -52,7 +52,7 @@ fn composed_rule(first: &Rule, second: &Rule) -> Rule
     )
 }
 
-/// Returns the value of the image of a window. The image has `n` letters.
+/// Returns the value of the image of the window with this value. The image has `n` letters.
 fn image_value(rule: &Rule, n: u8, window: u16) -> u16
     requires some { 1 ≤ n }
     requires fits { rule.now.states ^ (rule.now.width + n - 1) ≤ most_windows }
@@ -64,7 +64,7 @@ fn image_value(rule: &Rule, n: u8, window: u16) -> u16
     value_by(rule.k(), n, |start| image_letter(rule, n, window, start))
 }
 
-/// Returns the letter at place `start` of the image of a window. The image has `n` letters.
+/// Returns the letter at place `start` of the image of the window with this value. The image has `n` letters.
 fn image_letter(rule: &Rule, n: u8, window: u16, start: u8) -> u8
     requires fits { rule.now.states ^ (rule.now.width + n - 1) ≤ most_windows }
     requires window { window < rule.now.states ^ (rule.now.width + n - 1) }

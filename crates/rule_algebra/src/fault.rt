@@ -1,4 +1,4 @@
-//! Why no rule can be made of rules, and the limits of a made rule.
+//! The type `AlgebraFault`, and the tests whether a new rule is within the limits of accepted rules.
 ghost use Rattle.std.specs.Prelude.{◌≡◌, ◌≤◌, IfOk};
 ghost use Rattle.std.specs.Result.{result_err};
 ghost use Rattle.word_image.specs.LocalRules.{most_states};
@@ -7,22 +7,22 @@ ghost use Rattle.rule_algebra.specs.FaultTexts.{algebra_text};
 
 use word_image::{MOST_NODES, MOST_WIDTH};
 
-/// Why no rule can be made of rules: the first of these that applies.
+/// Why no rule can be made of the given rules. It is the first of these faults that applies.
 #[derive(Clone, Copy, Debug, PartialEq, Eq)]
 pub enum AlgebraFault {
     /// The two rules have different numbers of states.
     States,
-    /// The list isn't a permutation of the k letters.
+    /// The list of new names isn't a permutation of the k letters.
     NotPermutation,
-    /// The width would be above 5, or below that of the rule.
+    /// The width of the new rule would be above 5, or below the width of the given rule.
     Width,
-    /// There would be more than 16 words of m - 1 letters.
+    /// The new rule would have more than 16 words of m - 1 letters.
     Nodes,
-    /// The window would reach further than 16 cells to the left or to the right.
+    /// The window of the new rule would reach further than 16 cells to the left or to the right.
     Offset,
 }
 
-/// Returns the offset if a window of m cells may have it.
+/// Returns the offset o if a window of m cells may have it, and `Offset` if it may not.
 pub(crate) fn check_offset(m: u8, o: i16) -> Result<i8, AlgebraFault>
     requires { 1 ≤ m }
     ensures fault { result_err result ≡ offset_fault m o }
@@ -34,8 +34,8 @@ pub(crate) fn check_offset(m: u8, o: i16) -> Result<i8, AlgebraFault>
     Ok(o as i8)
 }
 
-/// Returns the offset if a rule of k states may have width m and this offset, and otherwise the first of `Width`,
-/// `Nodes` and `Offset` that applies.
+/// Returns the offset o if a rule of k states may have the width m and this offset. Otherwise returns the first of
+/// `Width`, `Nodes` and `Offset` that applies.
 pub(crate) fn check_limits(k: u8, m: u8, o: i16) -> Result<i8, AlgebraFault>
     requires states { k ≤ most_states }
     requires width { 1 ≤ m }
@@ -51,7 +51,7 @@ pub(crate) fn check_limits(k: u8, m: u8, o: i16) -> Result<i8, AlgebraFault>
     check_offset(m, o)
 }
 
-/// Returns the word for a fault in texts.
+/// Returns the word that texts use for a fault.
 pub fn algebra_name(fault: AlgebraFault) -> &'static str
     ensures { result.now ≡ algebra_text fault }
 {

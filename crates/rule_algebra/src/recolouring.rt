@@ -1,4 +1,4 @@
-//! Rules with new names for their letters.
+//! The function `permute`: rules with new names for their letters.
 ghost use Rattle.std.specs.Prelude.{◌≡◌, ◌<◌, ◌≤◌, ◌^◌, ◌↔◌, length, IfOk, IfErr, IsOk, IsTrue};
 ghost use Rattle.word_image.specs.LocalRules.{IsWord, value, word_of, most_states};
 ghost use Rattle.rule_algebra.specs.Algebra.{IsRecolouring, IsRecoloured, recoloured};
@@ -8,9 +8,9 @@ ghost use Rattle.rule_algebra.specs.Tables.{AreOldLetters};
 use crate::fault::AlgebraFault;
 use word_image::{MOST_STATES, Rule, letter_of, value_by};
 
-/// Returns the rule g of the same width and offset with g(colours of w) = colours[f(w)] for every window w. So the
-/// image of every renamed word is the renamed image. Returns `NotPermutation` if the colours aren't a permutation of
-/// the k letters.
+/// Returns the rule g of the same width and offset with g(colours of w) = colours[f(w)] for every window w, if f is
+/// the given rule. `colours` has the new name of each letter. So the image of every renamed word is the renamed
+/// image. Returns `NotPermutation` if the colours aren't a permutation of the k letters.
 pub fn permute(rule: &Rule, colours: &[u8]) -> Result<Rule, AlgebraFault>
     ensures accepted { IsOk result ↔ IsRecolouring rule.now.states colours.now }
     ensures refused { IfErr result (λ fault. fault ≡ AlgebraFault.NotPermutation) }
@@ -28,7 +28,7 @@ pub fn permute(rule: &Rule, colours: &[u8]) -> Result<Rule, AlgebraFault>
     }))
 }
 
-/// Returns whether the colours are a permutation of the k letters.
+/// Returns whether `colours` is a permutation of the k letters.
 fn is_recolouring(k: u8, colours: &[u8]) -> bool
     ensures { IsTrue result ↔ IsRecolouring k colours.now }
 {
@@ -43,7 +43,7 @@ fn is_recolouring(k: u8, colours: &[u8]) -> bool
     true
 }
 
-/// Returns for each colour the letter that has it.
+/// Returns for each new name the letter that gets it.
 fn old_letters(k: u8, colours: &[u8]) -> [u8; MOST_STATES]
     requires some { 0 < k }
     requires few { k ≤ most_states }
@@ -57,7 +57,7 @@ fn old_letters(k: u8, colours: &[u8]) -> [u8; MOST_STATES]
     letters
 }
 
-/// Returns the value of a window in other letters.
+/// Returns the value of the window that has the letter `colours[a]` in place of each letter a of this window.
 fn recoloured_value(rule: &Rule, colours: &[u8], window: u16) -> u16
     requires colours { IsWord rule.now.states colours.now }
     requires enough { rule.now.states ≤ length colours.now }

@@ -1,4 +1,4 @@
-//! Rules without the cells that they ignore.
+//! The function `trim`: rules without the cells that they ignore.
 ghost use Rattle.std.specs.Prelude.{◌≡◌, ◌<◌, ◌↔◌, IsTrue};
 ghost use Rattle.word_image.specs.LocalRules.{IsRule};
 ghost use Rattle.rule_algebra.specs.Algebra.{Ignores, IsTrimmed};
@@ -8,8 +8,8 @@ use crate::parts::rule_of_parts;
 use word_image::{Rule, Side};
 
 /// Returns the rule without the cells at its ends that it ignores. While the width is above 2, it drops the first
-/// cell if the rule ignores it, and adds 1 to the offset. Then it drops ignored cells at the right end. The image of
-/// every configuration stays the same.
+/// cell if the rule ignores this cell, and adds 1 to the offset. Then it drops ignored cells at the right end in the
+/// same way. The width stays at least 2. The image of every configuration stays the same.
 pub fn trim(rule: &Rule) -> Rule
     ensures { IsTrimmed rule.now result }
 {
@@ -17,7 +17,7 @@ pub fn trim(rule: &Rule) -> Rule
     without_firsts(&trimmed.reflect()).reflect()
 }
 
-/// Drops as many first cells as the rule ignores, down to a width of 2.
+/// Returns the rule after its first cell was dropped as often as the rule ignores it. The width stays at least 2.
 fn without_firsts(rule: &Rule) -> Rule
     ensures dropped { DropsFirsts rule.now result }
     ensures rules { IsRule rule.now × IsRule result }
@@ -45,7 +45,8 @@ fn ignores_first(rule: &Rule) -> bool
     true
 }
 
-/// Returns the rule that is left if the first cell is always 0.
+/// Returns the rule without its first cell. Its letter for a window is the old letter for this window with a 0 before
+/// it.
 fn without_first(rule: &Rule) -> Rule
     requires { 2 < rule.now.width }
     ensures { result ≡ without_first rule.now }

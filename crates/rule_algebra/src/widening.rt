@@ -1,4 +1,4 @@
-//! Rules with ignored cells on the right.
+//! The function `widen`: rules with ignored cells on the right.
 ghost use Rattle.std.specs.Prelude.{◌≡◌, ◌≤◌, IfOk};
 ghost use Rattle.std.specs.Result.{result_err};
 ghost use Rattle.word_image.specs.LocalRules.{IsShape};
@@ -24,7 +24,8 @@ pub fn widen(rule: &Rule, m: u8) -> Result<Rule, AlgebraFault>
     Ok(widened_rule(rule, m))
 }
 
-/// Returns the rule at a width that it may have.
+/// Returns the rule at the width m, with ignored cells on the right. The rule of width m is within the limits of
+/// rules.
 fn widened_rule(rule: &Rule, m: u8) -> Rule
     requires wider { rule.now.width ≤ m }
     requires shape { IsShape rule.now.states m rule.now.offset }

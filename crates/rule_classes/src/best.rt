@@ -1,4 +1,4 @@
-//! The least rule found so far.
+//! The type `Best`: the least rule that the search has found so far.
 ghost use Rattle.std.specs.Prelude.{◌≡◌, ◌≤◌, false};
 ghost use Rattle.word_image.specs.LocalRules.{IsRule};
 ghost use Rattle.rule_classes.specs.Colourings.{IsColouring, in_colours};
@@ -7,17 +7,17 @@ ghost use Rattle.rule_classes.specs.Best.{IsBest};
 use crate::colourings::Colouring;
 use word_image::{MOST_ENTRIES, Rule};
 
-/// The least rule found so far.
+/// The least rule that the search has found so far.
 #[derive(Clone, Copy)]
 pub struct Best {
-    /// The colouring that makes it.
+    /// The colouring that makes the rule.
     pub colouring: Colouring,
-    /// The letters of its table, followed by zeros.
+    /// The letters of the table of the rule, followed by zeros.
     pub entries: [u8; MOST_ENTRIES],
 }
 
 impl Best {
-    /// Returns the rule itself, in which each letter keeps its name.
+    /// Returns the given rule as the best one so far: each letter keeps its name.
     pub fn own(rule: &Rule) -> Best
         requires states { rule.now.states ≤ 6 }
         ensures straight { result.colouring.mirrored ≡ false }
@@ -32,7 +32,7 @@ impl Best {
         }
     }
 
-    /// Replaces it by the rule that another colouring makes.
+    /// Replaces the best rule by the rule that another colouring makes.
     pub fn take(&mut self, rule: &Rule, colouring: Colouring)
         requires rule { IsRule rule.now }
         requires states { rule.now.states ≤ 6 }
@@ -45,7 +45,7 @@ impl Best {
         colouring.fill(rule, &mut self.entries);
     }
 
-    /// Returns the least rule found so far, at offset 0.
+    /// Returns the best rule, with offset 0. `rule` is the rule whose class is searched.
     pub fn rule(&self, rule: &Rule) -> Rule
         requires { IsBest rule.now self.now }
         ensures { result ≡ in_colours rule.now self.now.colouring }

@@ -1,4 +1,4 @@
-//! The place of a rule in its class.
+//! The function `class_of`, which finds the least rule in the class of a rule.
 ghost use Rattle.std.specs.Prelude.{◌≡◌, ◌≤◌, ◌↔◌, Bool, IfOk, IsOk};
 ghost use Rattle.word_image.specs.LocalRules.{LocalRule, IsRule};
 ghost use Rattle.rule_classes.specs.Classes.{IsLeastOfClass};
@@ -9,28 +9,29 @@ use crate::colourings::Colouring;
 use crate::search::least_of;
 use word_image::Rule;
 
-/// The greatest number of states of a rule whose class is computed.
+/// The greatest number of states of a rule whose class can be searched.
 pub const MOST_COLOURS: usize = 6;
 
-/// The place of a rule in its class.
+/// The least rule in the class of a rule, and how the rule leads to it.
 #[derive(Clone, Copy, Debug)]
 pub struct ClassPlace {
     /// The rule of the class with the least Wolfram number.
     pub least: Rule,
-    /// Whether the mirrored rule is needed: no renaming of the letters of the rule's own table gives the least rule.
+    /// Whether only the mirrored rule leads to the least rule: no renaming of the letters of the rule's own table
+    /// gives it.
     pub mirrored: bool,
 }
 
-/// Why the class of a rule isn't computed.
+/// Why the class of a rule can't be searched.
 #[derive(Clone, Copy, Debug, PartialEq, Eq)]
 pub enum ClassFault {
-    /// There are more than 6 states.
+    /// The rule has more than 6 states.
     Colours,
 }
 
-/// Returns the least rule of a rule's class, and whether the mirrored rule is needed to get it. Returns `Colours` if
-/// there are 7 states or more. The least rule has the same verdicts as the rule, with right and left exchanged if it
-/// is mirrored.
+/// Returns the rule with the least Wolfram number in the class of a rule, and whether the mirrored rule is needed to
+/// get it. Returns `Colours` if the rule has 7 states or more. The least rule has the same verdicts as the rule. If
+/// it is mirrored, right and left are exchanged.
 pub fn class_of(rule: &Rule) -> Result<ClassPlace, ClassFault>
     ensures accepted { IsOk result ↔ (rule.now.states ≤ 6) }
     ensures least { IfOk result (λ place. IsLeastOfClass rule.now place.mirrored place.least) }
@@ -50,7 +51,7 @@ pub fn class_of(rule: &Rule) -> Result<ClassPlace, ClassFault>
     })
 }
 
-/// Law: a class has exactly one least rule, and the mirrored rule is either needed for it or not.
+/// Law: a class has exactly one least rule, and either it needs the mirrored rule or it doesn't.
 pub fn one_least_of_class()
     ensures rule { (r g h : LocalRule) (a b : Bool) → IsRule r → IsLeastOfClass r a g → IsLeastOfClass r b h → g ≡ h }
     ensures mirrored { (r g h : LocalRule) (a b : Bool) → IsRule r → IsLeastOfClass r a g → IsLeastOfClass r b h → a ≡ b }

@@ -1,4 +1,4 @@
-//! Rules with new names for their letters, mirrored or not.
+//! The type `Colouring`: new names for the letters of a rule, which may be mirrored first.
 ghost use Rattle.std.specs.Prelude.{◌≡◌, ◌≢◌, ◌+◌, ◌*◌, ◌^◌, ◌<◌, ◌≤◌, ℕ, slice_index, if◌then◌else◌};
 ghost use Rattle.word_image.specs.LocalRules.{IsRule, node_count, most_windows};
 ghost use Rattle.word_image.specs.Ends.{end_node, window_with};
@@ -9,17 +9,17 @@ ghost use Rattle.rule_classes.specs.Tables.{AreFilled, HasZeros, IsRow};
 use crate::classes::MOST_COLOURS;
 use word_image::{MOST_ENTRIES, Rule, Side};
 
-/// The values of windows that differ in one letter.
+/// The values of the windows that are equal except in one letter.
 #[derive(Clone, Copy)]
 pub struct Row {
-    /// The value if the letter is 0.
+    /// The value of the window in which this letter is 0.
     pub start: u8,
-    /// How much each further letter adds to the value.
+    /// How much the value grows if this letter grows by 1.
     pub step: u8,
 }
 
 impl Row {
-    /// Returns the value if this is the letter.
+    /// Returns the value of the window in which this letter is `letter`.
     pub fn window(self, letter: u8) -> u8
         requires { self.start + letter * self.step < most_windows }
         ensures { result ≡ self.start + letter * self.step }
@@ -33,14 +33,14 @@ impl Row {
 pub struct Colouring {
     /// Whether windows are read from right to left.
     pub mirrored: bool,
-    /// The new name of each letter, called its colour.
+    /// The new name of each letter, which is called its colour.
     pub colours: [u8; MOST_COLOURS],
-    /// The letter that has each colour.
+    /// For each colour, the letter that has it.
     pub letters: [u8; MOST_COLOURS],
 }
 
 impl Colouring {
-    /// Returns the colouring in which each letter keeps its name.
+    /// Returns the colouring in which each letter keeps its name. `mirrored` says whether the rule is mirrored first.
     pub fn unchanged(mirrored: bool) -> Colouring
         ensures mirrored { result.mirrored ≡ mirrored }
         ensures colouring { (k : ℕ) → k ≤ 6 → IsColouring k result }
@@ -53,7 +53,7 @@ impl Colouring {
         }
     }
 
-    /// Exchanges two of the k colours.
+    /// Returns the colouring in which the letters of two of the k colours are exchanged.
     pub fn exchanged(self, k: u8, first: u8, second: u8) -> Colouring
         requires few { k ≤ 6 }
         requires colouring { IsColouring k self }
@@ -74,7 +74,7 @@ impl Colouring {
         new
     }
 
-    /// Writes the table of the renamed rule over another table of the same length.
+    /// Writes the table of the rule that this colouring makes to `entries`, over another table of the same length.
     pub fn fill(&self, rule: &Rule, entries: &mut [u8; MOST_ENTRIES])
         requires rule { IsRule rule.now }
         requires states { rule.now.states ≤ 6 }
@@ -90,7 +90,7 @@ impl Colouring {
         }
     }
 
-    /// Writes the entries of the windows of one node.
+    /// Writes the entries of the table for the windows that begin with one node, that is for each last letter.
     fn fill_row(
         &self,
         rule: &Rule,
@@ -114,8 +114,9 @@ impl Colouring {
         }
     }
 
-    /// Returns the old value of the window of a node and this last letter, and the colour that the rule gives for it.
-    /// `row` belongs to the node.
+    /// Returns two numbers for the window that begins with a node and ends with this letter, both in new names: its
+    /// value in old names, and the colour that the rule gives for it. `row` has the values of the windows of this
+    /// node.
     pub fn read(&self, rule: &Rule, row: Row, letter: u8) -> (u8, u8)
         requires rule { IsRule rule.now }
         requires states { rule.now.states ≤ 6 }
@@ -130,8 +131,9 @@ impl Colouring {
         (old, self.colours[usize::from(given)])
     }
 
-    /// Returns the old values of the windows of a node. `back` is the old value of the window one letter earlier: its
-    /// first letter is dropped, and one more letter is appended. For a mirrored rule both happen at the other end.
+    /// Returns the values in old names of the windows of a node, which differ in one letter. `back` is the value in
+    /// old names of a window that ends with the node. So its first letter is dropped, and one more letter is
+    /// appended. For a mirrored rule this happens at the other end.
     pub fn row(&self, rule: &Rule, back: u8) -> Row
         requires states { rule.now.states ≤ 6 }
         requires back { back < rule.now.states ^ rule.now.width }
@@ -151,7 +153,8 @@ impl Colouring {
         }
     }
 
-    /// Returns the value of the window in the old letters, read from right to left if the rule is mirrored.
+    /// Returns the value in old names of the window that has this value in new names. If the rule is mirrored, the
+    /// window is read from right to left.
     pub fn old_window(&self, rule: &Rule, window: u16) -> u8
         requires states { rule.now.states ≤ 6 }
         requires colouring { IsColouring rule.now.states self.now }
@@ -173,7 +176,8 @@ impl Colouring {
         old as u8
     }
 
-    /// Returns the value of some letters and one more letter before them, or after them if the rule is mirrored.
+    /// Returns the value of a word with one more letter, which stands before the word, or after it if the rule is
+    /// mirrored.
     fn with_letter(&self, k: u16, old: u16, power: u16, letter: u8) -> u16
         requires k { k ≤ 6 }
         requires old { old < most_windows }

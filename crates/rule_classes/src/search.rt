@@ -1,4 +1,4 @@
-//! The search for the least rule among those that permutations of the letters make.
+//! The search for the least rule that colourings make from a rule.
 ghost use Rattle.std.specs.Prelude.{◌≡◌, ◌⊎◌, ◌<◌, ◌≤◌, ◌+◌, ◌*◌, IfSome, IsNone, IsTrue, IsFalse};
 ghost use Rattle.word_image.specs.LocalRules.{IsRule, node_count};
 ghost use Rattle.rule_classes.specs.Best.{IsBest};
@@ -9,9 +9,10 @@ use crate::best::Best;
 use crate::colourings::Colouring;
 use word_image::{Rule, Side};
 
-/// Replaces the best rule by the least of it and of the rules whose colourings have the letters of this one at the
-/// chosen colours. The colours from `low` to `high - 1` are free. It chooses a letter for the greatest and the least
-/// of them in turn, and leaves a branch as soon as none of its rules can be less.
+/// Replaces the best rule by a lesser one if some colouring makes it. The colourings have the same letters as this
+/// colouring at the colours that aren't free. The colours from `low` to `high - 1` are free. The search chooses a
+/// letter for the greatest and for the least free colour in turn. It leaves a branch as soon as none of its rules can
+/// be less than the best one.
 pub fn least_of(rule: &Rule, colouring: Colouring, low: u8, high: u8, best: &mut Best)
     requires states { rule.now.states ≤ 6 }
     requires colouring { IsColouring rule.now.states colouring }
@@ -40,7 +41,7 @@ pub fn least_of(rule: &Rule, colouring: Colouring, low: u8, high: u8, best: &mut
     }
 }
 
-/// Replaces the best colouring by this one if it makes a lesser rule.
+/// Replaces the best rule by the rule of this colouring if that rule is less.
 fn take_lesser(rule: &Rule, colouring: Colouring, best: &mut Best)
     requires rule { IsRule rule.now }
     requires states { rule.now.states ≤ 6 }
@@ -54,9 +55,9 @@ fn take_lesser(rule: &Rule, colouring: Colouring, best: &mut Best)
     }
 }
 
-/// Returns whether a rule whose colouring has the letters of this one at the chosen colours may be less than the best
-/// one. It compares windows that have only the greatest letter except for a last letter with a chosen colour, since
-/// all their letters are known.
+/// Returns whether a colouring with the same letters at the colours that aren't free may make a lesser rule than the
+/// best one. It compares only windows all of whose letters are known: windows with the greatest colour everywhere,
+/// except for a last letter whose colour isn't free.
 fn may_be_less(rule: &Rule, colouring: &Colouring, low: u8, high: u8, best: &Best) -> bool
     requires states { rule.now.states ≤ 6 }
     requires colouring { IsColouring rule.now.states colouring.now }
@@ -92,9 +93,10 @@ fn is_less(rule: &Rule, colouring: &Colouring, best: &Best) -> bool
     false
 }
 
-/// Compares a colouring with the best one on the windows of a node, starting at this last letter. If they differ,
-/// returns whether the colouring may make the lesser rule. The greatest window comes first, and a letter without a
-/// colour gets at least the least free colour.
+/// Compares the tables of a colouring and of the best colouring for the windows that begin with this node. The last
+/// letters go from k - 1 down to `first`. At the first difference it returns whether the colouring may make the
+/// lesser rule. If it finds no difference, it returns None. An entry without a known colour is at least the least
+/// free colour.
 fn told(
     rule: &Rule,
     colouring: &Colouring,
@@ -135,7 +137,7 @@ fn told(
     None
 }
 
-/// Returns whether a colour is free.
+/// Returns whether a colour is free: whether it is at least `low` and below `high`.
 fn is_free(low: u8, high: u8, colour: u8) -> bool
     ensures free { IsTrue result → (low ≤ colour) × (colour < high) }
     ensures chosen { IsFalse result → IsChosen low high colour }

@@ -1,4 +1,4 @@
-//! The least evidence for each verdict, and the certificate made of it.
+//! The type `Evidence`: the least evidence for each verdict, and the certificate that is made of it.
 ghost use Rattle.std.specs.Prelude.{◌≡◌, ◌≤◌, ◌↔◌, All, length, slice_index, true, IsTrue, IfOk, OnOk};
 ghost use Rattle.word_image.specs.LocalRules.{IsRule};
 ghost use Rattle.word_image.specs.Weights.{AreWeights};
@@ -22,10 +22,11 @@ use word_image::{Rule, Side, Weights};
 /// The verdicts of a rule, each with the least evidence for it.
 #[derive(Drop)]
 pub struct Evidence {
-    /// The least orphan, the least window or twins, the least look-ahead or normal split of each side, and the flux
-    /// that is 0 at node 0 or the least ring that doesn't keep its sum.
+    /// The report with the least evidence: the least orphan, the least window or the least twins, the least
+    /// look-ahead or the normal split of each side, and the flux that is 0 at node 0 or the least ring that doesn't
+    /// keep its sum.
     pub report: Report,
-    // The ranks of the rule, from which the evidence was found.
+    // The ranks of the pairs of nodes of the rule, from which the evidence was found.
     ranks: Ranks,
 }
 
@@ -51,7 +52,8 @@ impl Model for Evidence {
 }
 
 impl Evidence {
-    /// Decides all questions about a rule and weights of its letters. The only error is lack of memory.
+    /// Decides all questions about a rule under these weights of its letters, and finds the least evidence. The only
+    /// error is lack of memory.
     pub fn of(alloc: Global, rule: &Rule, weights: &Weights) -> Result<Evidence, AllocError>
         requires { length weights.now ≡ rule.now.states }
         ensures least { IfOk result (IsLeastEvidence (slice_index weights.now) rule.now) }
@@ -81,8 +83,8 @@ impl Evidence {
         self.report.is_open()
     }
 
-    /// Returns the certificate of this version, which is 2 or 3: this evidence, the cover list or the reached pairs
-    /// of a surjective rule, and the exact ranks.
+    /// Makes the certificate of this version, which is 2 or 3. It has this evidence and the exact ranks. If the rule
+    /// is surjective, it also has the cover list in version 2, or the reached pairs in version 3.
     pub fn certificate(self, alloc: Global, version: CertVersion) -> Result<Cert, AllocError>
         requires { names_weights version ≡ true }
         ensures accepted { OnOk result (IsRule self.rule) }
@@ -108,7 +110,7 @@ impl Evidence {
     }
 }
 
-/// States that bytes have eight bits each, as weights must. It does nothing.
+/// States that each byte is at most 255, since weights must be. It does nothing else.
 fn have_eight_bits(bytes: &[u8])
     ensures { All (λ w. w ≤ 255) bytes.now }
 {

@@ -7,20 +7,43 @@
 //! | is it right-closing, is it left-closing | the least look-ahead | the least normal split |
 //! | is it conserving | the flux that is 0 at node 0 | the least ring that doesn't keep its sum |
 //!
-//! Rule 110 isn't surjective: its least orphan is 01010. So it is neither injective nor closing on a side: the rings
-//! 0 and 1 both become the ring 0. It isn't conserving, since this changes the sum of the ring 1.
+//! The *cover list* has the set of all nodes, and each other set of nodes that words lead to and that contains no
+//! other such set. The *reached pairs* are the pairs of nodes that are reached from the first pairs on the right,
+//! which are the pairs to which two different letters lead from the same node.
 //!
-//! [`Truths::of`] decides without evidence and needs no memory. [`verdict_bytes`] does the same for many rules with
-//! consecutive numbers, with a byte for each; [`next_table`] turns a table into the table of the next number. They do
-//! cheap tests first: the letters in the table of a surjective or conserving rule have the mean of all letters, and
-//! for a surjective rule the number of words with the image 0 0 is the number of nodes. [`Evidence::of`] finds the
-//! evidence for a rule and weights of its letters. [`Evidence::certificate`] adds what the judge of certificates
-//! needs besides: the cover list in version 2 or the reached pairs in version 3, and the exact rank of each pair of
-//! nodes. [`keeps_sums`], [`least_orphan`] and [`injectivity`] answer one question each.
+//! The evidence for the verdicts has these kinds:
 //!
-//! Each takes the time of its deciders. For a rule with k states, width m and `N = k^(m-1)` nodes, the search for a
-//! least orphan and the cover list look at up to `2^N` sets of nodes. Everything else takes time **O(N^4·k^2)** at
-//! most.
+//! - An *orphan* is a word without a preimage.
+//! - A *window* (n, c) is determined if n letters of an image determine the letter at place c of each preimage,
+//!   counted from 0. *Twins* are two different words of the same length whose rings have the same image.
+//! - A number n is a right *look-ahead* if the first m - 1 letters of a word and the first n letters of its image
+//!   determine the next letter of the word. A left look-ahead is a right look-ahead of the mirrored rule. A *split*
+//!   of a side is two different configurations that share an image and agree on the other side.
+//! - A *flux* has a number for each node, which is a word of m - 1 letters. At each window, the weight of the letter
+//!   that the rule gives minus the weight of the window's first letter is the number of its first node minus the
+//!   number of its last node. If there is a flux, each ring keeps its sum. A *ring* is a word that is read on from
+//!   its end at its start.
+//!
+//! A split is *normal* if it has a special form. For example, both configurations have the period 0 on the side on
+//! which they agree (crate closing_test). Rule 110 isn't surjective: its least orphan is 01010. So it is neither
+//! injective nor closing on a side: the rings 0 and 1 both become the ring 0. It isn't conserving, since this changes
+//! the sum of the ring 1.
+//!
+//! [`Truths::of`] decides without evidence and needs no memory. [`verdict_bytes`] does this for many rules with
+//! consecutive numbers, and writes a byte for each rule. [`next_table`] turns a table into the table of the next
+//! number. These functions do cheap tests first. The letters in the table of a surjective or conserving rule have the
+//! same mean as all letters of the rule. For a surjective rule, the number of words with the image 0 0 is the number
+//! of nodes.
+//!
+//! The *forward rank* of a pair of nodes is the greatest n for which two words of n + m - 1 letters with the same
+//! image begin with these nodes. The *backward rank* is the same number for words that end with these nodes.
+//! [`Evidence::of`] finds the evidence for a rule and weights of its letters. [`Evidence::certificate`] adds what the
+//! judge of certificates needs besides: the cover list in version 2 or the reached pairs in version 3, and the exact
+//! rank of each pair of nodes. [`keeps_sums`], [`least_orphan`] and [`injectivity`] answer one question each.
+//!
+//! Each function takes the time of the functions of other crates that decide its questions. Let a rule have k states,
+//! width m and `N = k^(m-1)` nodes. The search for a least orphan and the cover list look at up to `2^N` sets of
+//! nodes. Everything else takes time **O(N^4·k^2)** at most.
 #![tactic(auto)]
 
 mod evidence;

@@ -1,4 +1,4 @@
-//! The verdicts of rules with consecutive numbers, with a byte for each.
+//! The verdicts of rules with consecutive numbers, one byte for each rule.
 ghost use Rattle.std.specs.Prelude.{◌≡◌, ℕ, ◌+◌, ◌-◌, ◌^◌, ◌<◌, ◌≤◌, None, Some, length, reverse, slice_index, sum, MatchResult};
 ghost use Rattle.word_image.specs.LocalRules.{IsRule, IsWord, value, most_windows};
 ghost use Rattle.rule_text.specs.RuleTexts.{rule_of_table};
@@ -9,9 +9,9 @@ use flux_conserve::{is_mean, letter_sum};
 use rule_text::{TextFault, numbered};
 use word_image::MOST_ENTRIES;
 
-/// Writes the verdicts of the rules of k states, width m and offset 0 with consecutive numbers, starting at `first`:
-/// byte i is `Truths::byte` of the rule with the number first + i. If some number has no rule, returns the first
-/// fault and writes nothing. Needs no memory.
+/// Writes the verdicts of the rules of k states, width m and offset 0 with consecutive numbers, starting at `first`.
+/// Byte i is `Truths::byte` of the rule with the number first + i. If some number is the number of no rule, it
+/// returns the first fault and writes nothing. It needs no memory.
 pub fn verdict_bytes(k: u8, m: u8, first: u128, bytes: &mut [u8]) -> Result<(), TextFault>
     requires { 1 ≤ length bytes.old }
     ensures { MatchResult result
@@ -30,7 +30,7 @@ pub fn verdict_bytes(k: u8, m: u8, first: u128, bytes: &mut [u8]) -> Result<(), 
     Ok(())
 }
 
-/// Returns the first fault of numbers of which the last is 2^128 or more, so that no table has it.
+/// Returns the first fault of consecutive numbers whose last number is 2^128 or more. No rule has such a number.
 pub fn fault_past_all(k: u8, m: u8) -> TextFault
     ensures { (first count : ℕ) → 2 ^ 128 ≤ first + count - 1 → numbers_fault k m first count ≡ Some result }
 {
@@ -40,8 +40,8 @@ pub fn fault_past_all(k: u8, m: u8) -> TextFault
     }
 }
 
-/// Writes the verdicts of the rules with consecutive numbers, starting with the number of this table. The table
-/// changes along with them.
+/// Writes a byte of verdicts for each of the rules with consecutive numbers, starting with the number of this table.
+/// It changes the table to the tables of these rules, one after another.
 fn write_bytes(k: u8, m: u8, table: &mut [u8], bytes: &mut [u8])
     requires rule { IsRule (rule_of_table k m table.old) }
     requires room { value k (reverse table.old) + length bytes.old ≤ k ^ length table.old }
@@ -54,21 +54,22 @@ fn write_bytes(k: u8, m: u8, table: &mut [u8], bytes: &mut [u8])
     }
 }
 
-/// Returns the verdicts of the rule of this table, whose letters have the sum `total`.
+/// Returns the byte of verdicts for the rule with this table. `total` is the sum of the letters of the table.
 fn verdict_byte(k: u8, m: u8, table: &[u8], total: u16) -> u8
     requires rule { IsRule (rule_of_table k m table.now) }
     requires total { total ≡ sum table.now }
     ensures { IsVerdictByte (rule_of_table k m table.now) result }
 {
-    // The table of a surjective rule has this sum, and so has the table of a conserving one.
+    // The tables of surjective rules have the mean of all letters, and so do the tables of conserving rules.
     if !is_mean(k, table.len() as u16, total) {
         return Truths::not_surjective(false).byte();
     }
     Truths::past_sum(k, m, table).byte()
 }
 
-/// Turns a table into the table of the next number, where the first letter is the least significant digit, or the
-/// last table into the first. `total` is the sum of its letters. Returns the new sum.
+/// Turns a table into the table of the next number, and the last table into the first one. The first letter is the
+/// least significant digit of the number. `total` is the sum of the letters of the table. Returns the sum of the new
+/// table.
 pub fn next_table(k: u8, table: &mut [u8], total: u16) -> u16
     requires word { IsWord k table.old }
     requires few { length table.old ≤ most_windows }

@@ -1,4 +1,4 @@
-//! The evidence for one verdict: the result of a decider as a part of a certificate.
+//! The evidence for one verdict: functions that turn the result of a decider into a part of a certificate.
 ghost use Rattle.std.specs.Prelude.{◌≡◌, length, slice_index, take, true, IfOk};
 ghost use Rattle.word_image.specs.LocalRules.{LocalRule, IsRule, node_count};
 ghost use Rattle.word_image.specs.Words.{IsSurjective};
@@ -30,7 +30,8 @@ pub fn least_orphan(alloc: Global, rule: &Rule) -> Result<Option<Word>, AllocErr
     first_orphan(alloc, &Graph::of(rule))
 }
 
-/// Does the same for the graph of a rule.
+/// Returns the least orphan of the rule with this graph, or None if the rule is surjective. The only error is lack of
+/// memory.
 pub(crate) fn first_orphan(alloc: Global, graph: &Graph) -> Result<Option<Word>, AllocError>
     ensures { IfOk result (IsOrphanPart graph.now) }
 {
@@ -42,8 +43,8 @@ pub(crate) fn first_orphan(alloc: Global, graph: &Graph) -> Result<Option<Word>,
     Ok(Some(Word::of(search.word().to_vec(alloc)?)))
 }
 
-/// Returns the least determined window if the rule is injective, otherwise its least twins. A window has at most 240
-/// letters of the image.
+/// Returns the least determined window if the rule is injective, and its least twins if it isn't. A window has at
+/// most 240 letters of the image.
 pub fn injectivity(alloc: Global, rule: &Rule) -> Result<InjectivePart, AllocError>
     ensures least { IfOk result (λ part. IsInjectivePart rule.now (injective_of part)) }
     ensures most { IfOk result (λ part. HasShortWindow (injective_of part)) }
@@ -54,7 +55,7 @@ pub fn injectivity(alloc: Global, rule: &Rule) -> Result<InjectivePart, AllocErr
     injective_part(alloc, &pairs, &ranks, &mut walker)
 }
 
-/// Does the same for the pairs and the ranks of a rule.
+/// Returns the same as `injectivity`, for the rule with these pairs of nodes and these ranks.
 pub(crate) fn injective_part(
     alloc: Global,
     pairs: &Pairs,
@@ -77,7 +78,7 @@ pub(crate) fn injective_part(
     }
 }
 
-/// Returns the part of a certificate for a side.
+/// Returns the evidence for closing on a side as a part of a certificate.
 pub(crate) fn side_part(found: Closing) -> SidePart
     ensures right { (r : LocalRule) → IsRightAnswer r found → IsRightPart r (side_of result) × IsOver r.states result }
     ensures left { (r : LocalRule) → IsLeftAnswer r found → IsLeftPart r (side_of result) × IsOver r.states result }
@@ -88,8 +89,8 @@ pub(crate) fn side_part(found: Closing) -> SidePart
     }
 }
 
-/// Returns the flux of the rule if it is conserving under these weights, otherwise the least ring that doesn't keep
-/// its sum.
+/// Returns the flux of the rule if it is conserving under these weights, and the least ring that doesn't keep its sum
+/// if it isn't.
 pub(crate) fn sum_part(alloc: Global, rule: &Rule, weights: &Weights) -> Result<SumPart, AllocError>
     requires { length weights.now ≡ rule.now.states }
     ensures { IfOk result (λ part. IsConservingPart (slice_index weights.now) rule.now (sum_of part)) }
@@ -100,7 +101,7 @@ pub(crate) fn sum_part(alloc: Global, rule: &Rule, weights: &Weights) -> Result<
     }
 }
 
-/// Returns the first numbers of the row, one for each node of the rule.
+/// Returns the flux with the first numbers of this array, one number for each node of the rule.
 fn flux_row(alloc: Global, rule: &Rule, flows: &[i32; MOST_NODES]) -> Result<FluxRow, AllocError>
     ensures row { IfOk result (λ row. row ≡ take (node_count rule.now) flows.now) }
     ensures rule { IsRule rule.now }
@@ -116,8 +117,8 @@ fn ring_word(alloc: Global, ring: &SmallRing) -> Result<Word, AllocError>
     Ok(Word::of(ring.letters().to_vec(alloc)?))
 }
 
-/// Returns the part of a certificate of this version about surjectivity, for the rule of these pairs. `orphan` is its
-/// least orphan, if there is one.
+/// Returns the evidence about surjectivity for a certificate of this version, for the rule with these pairs of nodes.
+/// `orphan` is the least orphan of the rule, or None if the rule is surjective.
 pub(crate) fn surjective_part(
     alloc: Global,
     version: CertVersion,
@@ -135,7 +136,8 @@ pub(crate) fn surjective_part(
     }
 }
 
-/// Returns the evidence that a rule is surjective: in version 2 its cover list, in version 3 its reached pairs.
+/// Returns the evidence that a rule is surjective. In version 2 of certificates it is the cover list, which has sets
+/// of nodes. In version 3 it is the list of the reached pairs of nodes.
 fn list_part(
     alloc: Global,
     version: CertVersion,

@@ -1,4 +1,4 @@
-//! The verdicts of a rule, if each letter weighs its own value.
+//! The type `Truths`: the verdicts of a rule, if each letter weighs its own value.
 ghost use Rattle.std.specs.Prelude.{◌≡◌, ◌↔◌, ◌&&◌, slice_index, IsTrue};
 ghost use Rattle.word_image.specs.LocalRules.{LocalRule, IsRule};
 ghost use Rattle.word_image.specs.Words.{IsSurjective};
@@ -36,7 +36,7 @@ impl Truths {
     pub fn of(rule: &Rule) -> Truths
         ensures { AreTruths rule.now result }
     {
-        // The table of a surjective rule has this sum, and so has the table of a conserving one.
+        // The tables of surjective rules have the mean of all letters, and so do the tables of conserving rules.
         if !has_mean(rule.k(), rule.table()) {
             return Truths::not_surjective(false);
         }
@@ -48,14 +48,15 @@ impl Truths {
         requires { IsRule (texts.rule_of_table k m table.now) }
         ensures { AreTruths (texts.rule_of_table k m table.now) result }
     {
-        // Most tables are decided here, before a rule is made.
+        // This decides most tables before a rule is made.
         if !has_mean(k, table) {
             return Truths::not_surjective(false);
         }
         Truths::past_sum(k, m, table)
     }
 
-    /// Does the same for a table whose sum is right.
+    /// Returns the verdicts of the rule of k states, width m and offset 0 with this table. The letters of the table
+    /// have the mean of all letters, which is already tested.
     pub(crate) fn past_sum(k: u8, m: u8, table: &[u8]) -> Truths
         requires { IsRule (texts.rule_of_table k m table.now) }
         ensures { AreTruths (texts.rule_of_table k m table.now) result }
@@ -67,7 +68,7 @@ impl Truths {
         decided(&rule_of_table(k, m, table), even)
     }
 
-    /// Returns the verdicts that a byte stands for.
+    /// Returns the verdicts whose byte is this byte.
     pub fn of_byte(byte: u8) -> Truths
         ensures { (t : Truths) → byte ≡ byte_of t → result ≡ t }
     {
@@ -80,7 +81,8 @@ impl Truths {
         }
     }
 
-    /// Returns the verdicts of a rule that isn't surjective: only `conserving` may be true.
+    /// Returns the verdicts of a rule that isn't surjective. All of them are no, except that `conserving` is the
+    /// given verdict.
     pub fn not_surjective(conserving: bool) -> Truths
         ensures { (r : LocalRule) → IsRule r → ¬ IsSurjective r → (IsTrue conserving ↔ IsConserving (slice_index (own_weights r.states)) r) → AreTruths r result }
     {
@@ -100,8 +102,8 @@ impl Truths {
         self.right && self.left
     }
 
-    /// Returns the verdicts as a sum: 1 for surjective, 2 for injective, 4 for right, 8 for left, 16 for open and 32
-    /// for conserving.
+    /// Returns the verdicts as one byte: the sum of 1 for surjective, 2 for injective, 4 for right-closing, 8 for
+    /// left-closing, 16 for open and 32 for conserving.
     pub fn byte(&self) -> u8
         ensures { result ≡ byte_of self.now }
     {
@@ -122,18 +124,18 @@ pub fn rule_of_table(k: u8, m: u8, table: &[u8]) -> Rule
     Rule::by(k, m, 0, |window| table[usize::from(window)])
 }
 
-/// Returns false only if no rule of k states with this table is surjective. Looks at how often letters occur in the
-/// table, and at the number of words with the image 0 0.
+/// Returns false only if no rule of k states with this table is surjective. It looks at how often each letter occurs
+/// in the table, and at the number of words with the image 0 0.
 fn may_be_surjective(k: u8, table: &[u8]) -> bool
     requires { (r : LocalRule) × IsRule r × (r.states ≡ k) × (r.table ≡ table.now) }
     ensures { (r : LocalRule) → IsRule r → r.states ≡ k → r.table ≡ table.now → IsSurjective r → IsTrue result }
 {
     let nodes = (table.len() / usize::from(k)) as u8;
-    // The sum tells how often each of two letters occurs.
+    // For two states, the sum of the letters already says how often each letter occurs.
     (k == 2 || is_even(k, table)) && is_even_at_zeros(k, nodes, table)
 }
 
-/// Returns the verdicts of a rule. `may_be_surjective` is false only if it isn't surjective.
+/// Returns the verdicts of a rule. `may_be_surjective` is false only if the rule isn't surjective.
 fn decided(rule: &Rule, may_be_surjective: bool) -> Truths
     requires { IsSurjective rule.now → IsTrue may_be_surjective }
     ensures { AreTruths rule.now result }
@@ -143,7 +145,7 @@ fn decided(rule: &Rule, may_be_surjective: bool) -> Truths
         return Truths::not_surjective(conserving);
     }
     let graph = Graph::of(rule);
-    // An injective rule is surjective, and so is one that closes on a side.
+    // A rule that is injective or closes on a side is surjective. So this test decides the other verdicts, too.
     if !is_surjective(&graph) {
         return Truths::not_surjective(conserving);
     }

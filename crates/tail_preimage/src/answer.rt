@@ -1,4 +1,4 @@
-//! The answer: a placed configuration, or a gap.
+//! The function `preimage`, which finds a placed configuration, or a gap.
 
 ghost use Rattle.std.specs.Prelude.{◌≡◌, ◌-◌, ◌^◌, ◌<◌, ◌+◌, ◌≤◌, ◌↔◌, IfOk, IsTrue, length, pos, ◌-ℤ◌, ◌*◌};
 ghost use Rattle.std.specs.List.{repeat};
@@ -20,7 +20,7 @@ use std::alloc::{AllocError, Global};
 use tail_config::Tail;
 use word_image::{Rule, Word};
 
-/// A configuration whose middle begins at a given place.
+/// A configuration whose middle begins at the place `at`.
 #[derive(Debug, Drop)]
 pub struct Placed {
     /// The place at which the middle begins.
@@ -33,24 +33,24 @@ pub struct Placed {
     pub right: Word,
 }
 
-/// A preimage of a configuration, or a reason why there is none.
+/// A preimage of a configuration, or the reason why there is none.
 #[derive(Debug, Drop)]
 pub enum Pre {
-    /// The first placed configuration that the rule maps to it.
+    /// The first placed configuration that the rule maps to the given configuration.
     From(Placed),
-    /// The first stretch of the configuration that is an orphan.
+    /// There is no preimage: this is the first stretch of the given configuration that is an orphan.
     Gap {
         /// The number of left periods in the stretch.
         before: u16,
         /// The number of right periods in the stretch.
         after: u16,
-        /// The orphan.
+        /// The letters of the stretch.
         word: Word,
     },
 }
 
-/// Returns the first placed configuration that the rule maps to the given one, or otherwise the first stretch of the
-/// given configuration that is an orphan.
+/// Returns the first placed configuration that the rule maps to the given configuration. If there is none, returns
+/// the first stretch of the given configuration that is an orphan. The only error is lack of memory.
 pub fn preimage(alloc: Global, rule: &Rule, tail: &Tail) -> Result<Pre, AllocError>
     requires { rule.now.states ≡ tail.now.states }
     ensures answer { IfOk result (IsPreimageAnswer rule.now tail.now.config) }
@@ -71,7 +71,7 @@ pub fn preimage(alloc: Global, rule: &Rule, tail: &Tail) -> Result<Pre, AllocErr
     Ok(Pre::From(first_placed(alloc, &graph, tail, &parts, spans)?))
 }
 
-/// Returns the first placed configuration of the first possible shape.
+/// Returns the first placed configuration whose shape is the first possible shape.
 fn first_placed(
     alloc: Global,
     graph: &Graph,
@@ -98,7 +98,8 @@ fn first_placed(
     })
 }
 
-/// Returns the first walk along n copies of a part from a node back to it, if there is one.
+/// Returns the first walk in dictionary order from a node back to it, with labels that spell `n` copies of a part.
+/// There is such a walk.
 fn first_loop(
     alloc: Global,
     graph: &Graph,
@@ -116,7 +117,9 @@ fn first_loop(
     Ok(least_walk(alloc, graph, node, &word, 1u16 << node)?.0)
 }
 
-/// Returns the nodes from which three walks of a possible shape lead.
+/// Returns the nodes at which the middle of a placed configuration with this shape can begin. Such a node has a loop
+/// of left periods. From it left periods, the middle and right periods lead to a node with a loop of right periods.
+/// The shape says how many periods these are.
 fn starts(graph: &Graph, parts: &Parts, spans: Spans) -> u16
     requires left { spans.back + spans.before ≤ most_nodes }
     requires right { spans.on + spans.after ≤ most_nodes }
@@ -132,7 +135,8 @@ fn starts(graph: &Graph, parts: &Parts, spans: Spans) -> u16
     loops(graph, &parts.left, spans.back) & lefts
 }
 
-/// Returns the place at which the middle begins if it spans this many left periods.
+/// Returns the place at which the middle of a placed configuration begins if the middle spans this many left periods
+/// of the given configuration.
 fn place_of(graph: &Graph, tail: &Tail, periods: u8) -> i64
     ensures { result ≡ graph.now.offset -ℤ pos (periods * length tail.now.config.left) }
 {
@@ -140,7 +144,7 @@ fn place_of(graph: &Graph, tail: &Tail, periods: u8) -> i64
     i64::from(graph.rule().o()) - i64::from(letters)
 }
 
-/// Returns the letters of a walk without those of its last node.
+/// Returns the word of a walk without the letters of the last node of the walk.
 fn without_node(graph: &Graph, mut walk: Vec<u8>) -> Word
     ensures { result ≡ before_last graph.now walk.items }
 {

@@ -1,4 +1,4 @@
-//! The first numbers of periods for which a configuration's middle with these periods is an orphan.
+//! The function `first_gap`, which finds the first stretch of a configuration that is an orphan.
 
 ghost use Rattle.std.specs.Prelude.{MatchOption};
 ghost use Rattle.word_image.specs.LocalRules.{most_nodes};
@@ -10,9 +10,10 @@ use crate::shapes::Parts;
 use debruijn::Graph;
 use word_image::MOST_NODES;
 
-/// Returns the least number of left periods that can't be followed by the middle and 16 right periods, and then the
-/// least number of right periods that can't follow these and the middle. Returns None if 16 periods on both sides
-/// have a walk.
+/// Returns how many left and how many right periods the first orphan stretch has. The first number is the least
+/// number of left periods that can't be followed by the middle and 16 right periods. The second number is the least
+/// number of right periods that can't follow so many left periods and the middle. Returns None if there is a walk
+/// along 16 left periods, the middle and 16 right periods.
 pub fn first_gap(graph: &Graph, parts: &Parts) -> Option<(u8, u8)>
     requires { HaveParts graph.now parts.now }
     ensures { MatchOption result (PassesThrough graph.now parts.now most_nodes most_nodes) (λ (b, a). IsFirstGap graph.now parts.now b a) }

@@ -1,23 +1,28 @@
 //! Preimages of configurations with periodic tails: the first placed configuration that a rule maps to a given one,
 //! or otherwise the first stretch of the given one that is an orphan.
 //!
-//! A placed configuration consists of a left period, a middle, a right period, and the place at which the middle
+//! A *placed configuration* consists of a left period, a middle, a right period, and the place at which the middle
 //! begins. The rule maps it to a configuration if at every integer it gives the letter of that configuration for the
 //! window there. A placed configuration is a walk in the de Bruijn graph (Sutner 1991) whose labels are the letters
-//! of the given configuration. Its node at a place is the word of the m - 1 letters that begin there.
+//! of the given configuration. The node of the walk at a place is the word of the m - 1 letters that begin there.
 //!
-//! A stretch of the given configuration `L|M|R` consists of some left periods, the middle and some right periods. If
-//! a stretch is an orphan, there is no preimage. Otherwise there is a walk along 16 left periods, the middle and 16
-//! right periods. There are at most 16 nodes, so two of the 17 nodes at the ends of the left periods are equal, and
-//! so are two on the right. This gives two loops of whole periods and a walk between them: a placed configuration
-//! whose periods are the loops.
+//! A *stretch* of the given configuration `L|M|R` consists of some left periods, the middle and some right periods.
+//! If a stretch is an orphan, there is no preimage. This stretch is a *gap*. Otherwise there is a walk along 16 left
+//! periods, the middle and 16 right periods. There are at most 16 nodes, so two of the 17 nodes at the ends of the
+//! left periods are equal, and two on the right are also equal. This gives two *loops* of whole periods, which are
+//! walks from a node back to it, and a walk between the loops. So there is a placed configuration whose periods are
+//! the loops.
 //!
-//! The first placed configuration has the fewest given periods on the left, then on the right, then in its middle on
-//! the left, then in its middle on the right, and then the first letters in dictionary order. Each of these numbers
-//! is the least for which two sets of nodes meet: those before the middle with a loop on the left, and those from
-//! which the middle leads to a loop on the right. Both sides are searched in the same way, and the left periods are
-//! read backward, starting at the middle. The letters are found from left to right: at each place the edge to the
-//! least node from which the goal can still be reached.
+//! The *shape* of a placed configuration says how many left and right periods of the given configuration its parts
+//! span. The first placed configuration spans the fewest left periods in total, then the fewest right periods in
+//! total, then the fewest left periods in its middle, then the fewest right periods in its middle. Then it has the
+//! first letters in dictionary order. Each of the four numbers is the least for which two sets of nodes meet: the
+//! nodes before the middle with a loop on the left, and the nodes from which the middle leads to a loop on the right.
+//! Both sides are searched in the same way. The left periods are read backward, starting at the middle. The letters
+//! are found from left to right. At each place the walk takes the edge to the least node from which the goal can
+//! still be reached.
+//!
+//! A *relation* between nodes says from which nodes to which nodes a walk along a word leads.
 //!
 //! Under rule 90, the sum of the two neighbours modulo 2, `-1 0|0|01` is mapped to `0|1|0`. Its cells are 0 up to
 //! place 0 and alternate after it, so the two neighbours differ only at place 0. Under rule 110 nothing is mapped to

@@ -1,4 +1,4 @@
-//! The periods on one side of a configuration, in the direction away from its middle.
+//! The type `Periods`: walks along the periods on one side of a configuration, in the direction away from its middle.
 
 ghost use Rattle.std.specs.Prelude.{◌≡◌, ◌-◌, ◌<◌, ◌≤◌, ℕ, IfSome, MatchOption};
 ghost use Rattle.word_image.specs.LocalRules.{most_nodes};
@@ -10,16 +10,16 @@ use crate::relations::{Relation, before, powers, returning};
 use debruijn::Graph;
 use word_image::MOST_NODES;
 
-/// The relation of one period, and the relations of 0 to 16 periods.
+/// The relation between nodes of one period, and the relations of 0 to 16 periods.
 #[derive(Clone, Copy)]
 pub struct Periods {
-    /// The relation of one period.
+    /// The relation of the nodes between which one period leads.
     pub period: Relation,
-    /// The relations of 0 to 16 periods.
+    /// The relations of the nodes between which 0 to 16 periods lead, in this order.
     pub powers: [Relation; MOST_NODES + 1],
 }
 
-/// Computes the relations of up to 16 periods from the relation of one period.
+/// Returns the relations of 0 to 16 periods, from the relation of one period.
 pub fn periods_of(graph: &Graph, period: Relation) -> Periods
     requires { AreSets graph.now period }
     ensures period { result.period ≡ period }
@@ -31,7 +31,7 @@ pub fn periods_of(graph: &Graph, period: Relation) -> Periods
     }
 }
 
-/// Returns the nodes from which some walk along n periods leads.
+/// Returns the nodes from which a walk along n periods leads to some node.
 pub fn open(graph: &Graph, periods: &Periods, n: u8) -> u16
     requires few { n ≤ most_nodes }
     requires periods { ArePeriods graph.now periods.now }
@@ -40,7 +40,7 @@ pub fn open(graph: &Graph, periods: &Periods, n: u8) -> u16
     before(graph, &periods.powers[usize::from(n)], graph.full())
 }
 
-/// Returns the nodes from which a walk along n periods leads back to the node.
+/// Returns the nodes from which a walk along n periods leads back to the same node.
 pub fn loops(graph: &Graph, periods: &Periods, n: u8) -> u16
     requires few { n ≤ most_nodes }
     requires periods { ArePeriods graph.now periods.now }
@@ -49,7 +49,7 @@ pub fn loops(graph: &Graph, periods: &Periods, n: u8) -> u16
     returning(graph, &periods.powers[usize::from(n)])
 }
 
-/// Returns the nodes from which n periods lead to a node that has a loop of `on` periods.
+/// Returns the nodes from which n periods lead to a node with a loop of `on` periods.
 pub fn rounds(graph: &Graph, periods: &Periods, n: u8, on: u8) -> u16
     requires n_few { n ≤ most_nodes }
     requires on_few { on ≤ most_nodes }
@@ -63,8 +63,8 @@ pub fn rounds(graph: &Graph, periods: &Periods, n: u8, on: u8) -> u16
     )
 }
 
-/// Returns the nodes from which some periods lead to a node with a loop of one or more periods. Both numbers of
-/// periods have this sum.
+/// Returns the nodes from which n periods lead to a node with a loop of `on` periods, for some numbers n and `on`
+/// with n + on = `sum`. `on` is at least 1.
 pub fn some_rounds(graph: &Graph, periods: &Periods, sum: u8) -> u16
     requires few { sum ≤ most_nodes }
     requires periods { ArePeriods graph.now periods.now }
@@ -77,7 +77,8 @@ pub fn some_rounds(graph: &Graph, periods: &Periods, sum: u8) -> u16
     set
 }
 
-/// Returns the least number of periods that have no walk from a node of the set, or None if 16 periods have one.
+/// Returns the least number of periods for which no walk begins at a node of the set. Returns None if a walk along 16
+/// periods begins at a node of the set.
 pub fn least_closed(graph: &Graph, periods: &Periods, set: u16) -> Option<u8>
     requires periods { ArePeriods graph.now periods.now }
     ensures few { IfSome result (λ n. n ≤ most_nodes) }
@@ -92,7 +93,7 @@ pub fn least_closed(graph: &Graph, periods: &Periods, set: u16) -> Option<u8>
     None
 }
 
-/// Returns the least sum for which `some_rounds` contains a node of the set. Some sum up to 16 does.
+/// Returns the least sum, from 0 to 16, for which `some_rounds` contains a node of the set. There is such a sum.
 pub fn least_sum(graph: &Graph, periods: &Periods, set: u16) -> u8
     requires periods { ArePeriods graph.now periods.now }
     requires some { (sum : ℕ) × (sum ≤ most_nodes) × Meets graph.now (SomeRounds (HasBit periods.now.period) sum) set }
@@ -107,7 +108,8 @@ pub fn least_sum(graph: &Graph, periods: &Periods, set: u16) -> u8
     unreachable!()
 }
 
-/// Returns the least n for which `rounds` with this sum contains a node of the set. Some n does.
+/// Returns the least n for which `rounds` with n and `sum` - n contains a node of the set. There is such an n below
+/// `sum`.
 pub fn least_first(graph: &Graph, periods: &Periods, sum: u8, set: u16) -> u8
     requires few { sum ≤ most_nodes }
     requires periods { ArePeriods graph.now periods.now }

@@ -11,10 +11,11 @@ ghost use Rattle.tail_preimage.specs.Relations.{IsRelation, Steps};
 use debruijn::Graph;
 use word_image::MOST_NODES;
 
-/// Row u is the set of the nodes to which node u is related. Zeros follow the rows of all nodes.
+/// A relation between nodes. Row u is the set of the nodes to which node u is related. Zeros follow the rows of all
+/// nodes.
 pub type Relation = [u16; MOST_NODES];
 
-/// Relates each node to itself.
+/// Returns the relation of each node to itself.
 fn identity(graph: &Graph) -> Relation
     ensures relation { IsRelation graph.now (λ u v. u ≡ v) result }
     ensures rule { IsRule graph.now }
@@ -26,7 +27,7 @@ fn identity(graph: &Graph) -> Relation
     rows
 }
 
-/// Relates each node to the nodes to which its edges with this label lead.
+/// Returns the relation of each node to the nodes to which its edges with this label lead.
 pub fn edges(graph: &Graph, label: u8) -> Relation
     requires { label < graph.now.states }
     ensures relation { IsRelation graph.now (IsEdge Right graph.now label) result }
@@ -35,7 +36,7 @@ pub fn edges(graph: &Graph, label: u8) -> Relation
     graph.edges()[usize::from(label)]
 }
 
-/// Returns the nodes that are related to a node of the set.
+/// Returns the nodes that the relation `rows` relates to some node of the set.
 pub fn before(graph: &Graph, rows: &Relation, set: u16) -> u16
     ensures { IsNodeSet graph.now (λ u. (v : ℕ) × HasBit rows.now u v × IsBitSet set v) result }
 {
@@ -48,7 +49,7 @@ pub fn before(graph: &Graph, rows: &Relation, set: u16) -> u16
     before
 }
 
-/// Returns the nodes that are related to themselves.
+/// Returns the nodes that the relation `rows` relates to themselves.
 pub fn returning(graph: &Graph, rows: &Relation) -> u16
     ensures { IsNodeSet graph.now (λ u. HasBit rows.now u u) result }
 {
@@ -61,7 +62,8 @@ pub fn returning(graph: &Graph, rows: &Relation) -> u16
     set
 }
 
-/// Returns the composition of two relations: a step of the first one, then a step of the second.
+/// Returns the composition of two relations. It relates a node to the nodes that a step of the first relation and
+/// then a step of the second relation reach.
 fn joined(graph: &Graph, first: &Relation, second: &Relation) -> Relation
     requires { AreSets graph.now second.now }
     ensures { IsRelation graph.now (λ u v. (w : ℕ) × (w < node_count graph.now) × (HasBit first.now u w × HasBit second.now w v)) result }
@@ -73,7 +75,7 @@ fn joined(graph: &Graph, first: &Relation, second: &Relation) -> Relation
     rows
 }
 
-/// Returns the converse of a relation.
+/// Returns the converse of a relation, which relates v to u if the relation relates u to v.
 pub fn reversed(graph: &Graph, relation: &Relation) -> Relation
     ensures { IsRelation graph.now (λ u v. HasBit relation.now v u) result }
 {
@@ -84,7 +86,7 @@ pub fn reversed(graph: &Graph, relation: &Relation) -> Relation
     rows
 }
 
-/// Relates each node to the nodes that it can reach by a walk whose labels spell the word.
+/// Returns the relation of each node to the nodes at the ends of those walks from it whose labels spell the word.
 pub fn relation(graph: &Graph, word: &[u8]) -> Relation
     requires { IsWord graph.now.states word.now }
     ensures relation { IsRelation graph.now (HasWalk graph.now word.now) result }
@@ -97,7 +99,7 @@ pub fn relation(graph: &Graph, word: &[u8]) -> Relation
     rows
 }
 
-/// Returns the relations of 0 to 16 steps.
+/// Returns the relations of 0 to 16 steps of a relation, in this order.
 pub fn powers(graph: &Graph, step: &Relation) -> [Relation; MOST_NODES + 1]
     requires { AreSets graph.now step.now }
     ensures { (n : ℕ) → n ≤ most_nodes → IsRelation graph.now (Steps (HasBit step.now) n) (get_or result n []) }

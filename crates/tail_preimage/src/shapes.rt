@@ -1,4 +1,4 @@
-//! The first shape that a placed configuration can have.
+//! The function `first_shape`, which finds the first shape that a placed configuration can have.
 
 ghost use Rattle.std.specs.Prelude.{◌≡◌};
 ghost use Rattle.word_image.specs.LocalRules.{most_nodes};
@@ -11,32 +11,32 @@ use debruijn::Graph;
 use tail_config::Tail;
 use word_image::MOST_NODES;
 
-/// The parts of a configuration as relations.
+/// The relations of the parts of the given configuration.
 #[derive(Clone, Copy)]
 pub struct Parts {
-    /// The left periods, read from the end to the start.
+    /// The relations of the left periods, from the node at the end of a period to the node at its start.
     pub left: Periods,
-    /// The middle.
+    /// The relation of the middle.
     pub middle: Relation,
-    /// The right periods.
+    /// The relations of the right periods.
     pub right: Periods,
 }
 
-/// How many given left and right periods the parts of a placed configuration span: its middle, besides the given
-/// middle, and its own two periods.
+/// A shape: how many left and right periods of the given configuration the parts of a placed configuration span. Its
+/// middle also spans the given middle.
 #[derive(Clone, Copy)]
 pub struct Spans {
-    /// Left periods in the middle.
+    /// The number of given left periods in the middle of the placed configuration.
     pub before: u8,
-    /// Left periods in the left period.
+    /// The number of given left periods in its left period.
     pub back: u8,
-    /// Right periods in the middle.
+    /// The number of given right periods in its middle.
     pub after: u8,
-    /// Right periods in the right period.
+    /// The number of given right periods in its right period.
     pub on: u8,
 }
 
-/// Returns the parts of this configuration.
+/// Returns the relations of the parts of this configuration.
 pub fn parts_of(graph: &Graph, tail: &Tail) -> Parts
     requires { graph.now.states ≡ tail.now.states }
     ensures parts { AreTailParts graph.now tail.now.config result }
@@ -49,7 +49,8 @@ pub fn parts_of(graph: &Graph, tail: &Tail) -> Parts
     }
 }
 
-/// Returns the first possible shape. 16 periods on both sides have a walk.
+/// Returns the first shape that a placed configuration can have. There must be a walk along 16 left periods, the
+/// middle and 16 right periods.
 pub fn first_shape(graph: &Graph, parts: &Parts) -> Spans
     requires parts { HaveParts graph.now parts.now }
     requires some { PassesThrough graph.now parts.now most_nodes most_nodes }

@@ -1,4 +1,5 @@
-//! The first walk of a word from a node into a set of nodes, in dictionary order.
+//! The function `least_walk`, which finds the first walk of a word from a node into a set of nodes, in dictionary
+//! order.
 
 ghost use Rattle.std.specs.Prelude.{◌≡◌, ◌≢◌, ◌-◌, ◌^◌, ◌<◌, length, IfOk, IsBitSet};
 ghost use Rattle.word_image.specs.LocalRules.{IsWord, word_of, node_count};
@@ -19,8 +20,8 @@ pub fn least_node(set: u16) -> u8
     set.trailing_zeros() as u8
 }
 
-/// Returns for each place of the word, from its end to its start, the nodes from which the rest of the word leads
-/// into the goal.
+/// Returns for each place of the word the nodes from which the rest of the word leads into the goal. The places are
+/// in order from the end of the word to its start.
 fn open_sets(alloc: Global, graph: &Graph, word: &[u8], goal: u16) -> Result<Vec<u16>, AllocError>
     requires word { IsWord graph.now.states word.now }
     requires goal { goal < 2 ^ node_count graph.now }
@@ -35,7 +36,7 @@ fn open_sets(alloc: Global, graph: &Graph, word: &[u8], goal: u16) -> Result<Vec
     Ok(sets)
 }
 
-/// Returns the letters of a node.
+/// Returns the m - 1 letters of a node.
 fn node_letters(alloc: Global, rule: &Rule, u: u8) -> Result<Vec<u8>, AllocError>
     requires { u < node_count rule.now }
     ensures { IfOk result (λ word. word.items ≡ word_of rule.now.states (rule.now.width - 1) u) }
@@ -47,7 +48,8 @@ fn node_letters(alloc: Global, rule: &Rule, u: u8) -> Result<Vec<u8>, AllocError
     Ok(word)
 }
 
-/// Returns the first walk of a word from a node into a set of nodes, and the node at its end.
+/// Returns the first walk whose labels spell the word from the node `start` into the set `goal`, and the node at its
+/// end. The walk is given by its letters. There is such a walk.
 pub fn least_walk(
     alloc: Global,
     graph: &Graph,
@@ -68,7 +70,8 @@ pub fn least_walk(
     let mut node = start;
     for n in 0..word.len() {
         node = least_node(graph.ends(node, word[n]) & sets[word.len() - 1 - n]);
-        // The edges of a node lead to nodes in the order of their letters, and each letter is the last one of its node.
+        // The edges of a node lead to nodes in the order of their letters. Each letter is the last letter of the node
+        // at the end.
         walk.push(rule.node_letter(node, last))?;
     }
     Ok((walk, node))

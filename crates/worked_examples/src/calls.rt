@@ -1,18 +1,18 @@
-//! How the tests call the program.
+//! The functions `call` and `sink`, with which the tests call the program.
 ghost use Rattle.std.specs.Prelude.{◌≤◌};
 
 use ca_cli::{Status, run};
 use ca_io::{MemSink, Source};
 use std::alloc::{AllocError, Global};
 
-/// What a call left: its status and the bytes that the sink has taken.
+/// The result of a call: its status, and the sink with the bytes that it has taken.
 #[derive(Drop)]
 pub struct Outcome {
     pub status: Status,
     pub output: MemSink,
 }
 
-/// A call with the words of this command line, one blank between two, this input and this sink.
+/// Runs the program on the words of this command line, which blanks separate, with this source and this sink.
 pub fn call<S: Source>(
     alloc: Global,
     line: &str,
@@ -28,7 +28,8 @@ pub fn call<S: Source>(
     Ok(Outcome { status, output })
 }
 
-/// A sink of this room and longest piece, whose calls with these numbers fail.
+/// Makes a sink that takes `room` bytes in total and at most `piece` bytes in a call. Its calls with the numbers in
+/// `failing` fail.
 pub fn sink(
     alloc: Global,
     room: usize,

@@ -1,4 +1,4 @@
-//! The family of rule 106, done by hand.
+//! The family of rule 106, worked out by hand. It has the sets of nodes to which words lead.
 
 use crate::known_rules::RULE_106;
 use debruijn::Graph;
@@ -12,7 +12,7 @@ fn rule_106_has_twelve_sets(rt: HostRuntime) -> Result<(), Fail> {
     let mut family = Family::new(rt.alloc())?;
     assert_eq!(rt; family.len(), 0);
     family.explore(&graph);
-    // Each set with its parent.
+    // Each set of the family, and the place of its parent and the label that leads from there to the set.
     let want = [
         (15, None),
         (13, Some((0, 0))),

@@ -1,4 +1,4 @@
-//! Sinks that fail in the middle of an output.
+//! Tests with sinks that fail in the middle of an output.
 
 use crate::calls::{call, sink};
 use ca_cli::Status;
@@ -9,8 +9,9 @@ use std::test::Fail;
 
 const LINE: &[u8] = b"surjective no orphan 01010\n";
 
-/// Each of the 27 calls fails in turn, and the room ends at each byte in turn: the bytes before it are
-/// taken, and no more.
+/// A sink takes one byte in each call, and the output has 27 bytes. First call i of the sink fails, then the sink has
+/// room for only i bytes, for each i from 0 to 27. In both cases the sink takes the first i bytes of the output and
+/// no more.
 #[test]
 fn failed_calls_and_small_rooms(rt: HostRuntime) -> Result<(), Fail> {
     for i in 0..28usize {
@@ -22,7 +23,8 @@ fn failed_calls_and_small_rooms(rt: HostRuntime) -> Result<(), Fail> {
     Ok(())
 }
 
-/// `orphan 110` into a sink that can take this many bytes.
+/// Checks that `orphan 110` writes the first `count` bytes of its output to a sink that can take only so many. The
+/// status is `WriteFault` if this isn't the whole output, and otherwise `Done`.
 fn takes_first_bytes(
     rt: &impl Abort,
     alloc: Global,
@@ -45,7 +47,7 @@ fn takes_first_bytes(
     Ok(())
 }
 
-/// A report whose second byte can't be written.
+/// The second byte of a report can't be written. Then the sink has only the first byte.
 #[test]
 fn a_report_ends_at_a_fault(rt: HostRuntime) -> Result<(), Fail> {
     let failing = vec![in rt.alloc(); 1u64]?;

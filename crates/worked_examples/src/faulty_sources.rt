@@ -1,4 +1,4 @@
-//! Sources that fail in the middle of an input.
+//! Tests with sources that fail in the middle of an input.
 ghost use Rattle.std.specs.Prelude.{◌≤◌};
 
 use crate::calls::{call, sink};
@@ -12,7 +12,7 @@ use std::test::Fail;
 const ACCEPTED: &str =
     "accepted 2:2:0:t0101\nsurjective yes\ninjective yes\nright yes\nleft yes\nopen yes\nconserving yes\n";
 
-/// A certificate of the shift to the left by one cell.
+/// Returns a certificate of the shift to the left by one cell, as `certify` writes it.
 fn certificate(alloc: Global) -> Result<Vec<u8>, AllocError> {
     let mut source = PlainSource::new(Vec::new(alloc));
     let output = sink(alloc, 1 << 10, 1 << 10, Vec::new(alloc))?;
@@ -20,7 +20,8 @@ fn certificate(alloc: Global) -> Result<Vec<u8>, AllocError> {
     outcome.output.bytes().to_vec(alloc)
 }
 
-/// Each read of one byte fails in turn, and the one that finds the end. Then nothing is written.
+/// The source gives one byte in each read. Each read fails in turn, also the read that finds the end of the input.
+/// Then the status is `ReadFault`, and nothing is written.
 #[test]
 fn failed_reads(rt: HostRuntime) -> Result<(), Fail> {
     let bytes = certificate(rt.alloc())?;
@@ -35,8 +36,8 @@ fn failed_reads(rt: HostRuntime) -> Result<(), Fail> {
     Ok(())
 }
 
-/// `check` over these bytes, of which a read gives at most `piece` and these reads fail, answers this
-/// status and this output.
+/// Checks that `check` has this status and this output for these bytes. The source gives at most `piece` bytes in a
+/// read, and its reads with the numbers in `failing` fail.
 fn read(
     rt: &impl Abort,
     alloc: Global,

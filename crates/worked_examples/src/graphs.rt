@@ -1,4 +1,4 @@
-//! The graph of rule 110, done by hand.
+//! The de Bruijn graph of rule 110, worked out by hand.
 
 use crate::known_rules::RULE_110;
 use debruijn::Graph;
@@ -9,7 +9,7 @@ use word_image::Rule;
 fn rule_110_has_this_graph(rt: HostRuntime) -> Result<(), Fail> {
     let graph = Graph::of(&Rule::new(2, 3, -1, &RULE_110)?);
     assert_eq!(rt; (graph.k(), graph.nodes()), (2, 4));
-    // Node, letter, and the node and label of the edge.
+    // For each edge: the node at its start, its letter, the node at its end, and its label.
     let edges = [
         (0, 0, 0, 0),
         (0, 1, 1, 1),

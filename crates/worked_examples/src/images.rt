@@ -1,4 +1,4 @@
-//! Images by hand, of words and of rings, which the program never prints.
+//! Images of words and of rings, worked out by hand. The program itself never prints such images.
 
 use crate::known_rules::{RULE_110, RULE_184};
 use word_image::{ImageFault, RingFault, Rule, image, ring_image};
@@ -27,7 +27,7 @@ fn rule_110_has_these_images(rt: HostRuntime) {
 
 #[test]
 fn rings_are_read_on_from_their_end(rt: HostRuntime) {
-    // The offset, the ring and its image under rule 184.
+    // For each case: the offset, the ring, and the image of the ring under rule 184.
     let cases: [(i8, &[u8], Result<&[u8], RingFault>); 9] = [
         (-1, &[0, 0, 1, 1], Ok(&[1, 0, 1, 0])),
         (0, &[0, 0, 1, 1], Ok(&[0, 1, 0, 1])),

@@ -1,4 +1,4 @@
-//! Windows that the program never asks of: ones that are not the least, and ones without a map.
+//! Inverse maps over windows that the program never uses: windows that aren't the least, and windows without a map.
 
 use crate::known_rules::{RULE_170, RULE_204};
 use inverse_table::{InvFault, InverseMap, table};
@@ -8,7 +8,7 @@ use std::process::Abort;
 use std::test::Fail;
 use word_image::Rule;
 
-// What `table` answers for a window that the rule has.
+// Returns the result of `table` for the window (n, c), or a failed test if the rule doesn't have this window.
 fn answer(
     alloc: Global,
     rule: &Rule,
@@ -22,7 +22,7 @@ fn answer(
     Ok(table(alloc, rule, WindowAt { n, c }))
 }
 
-// The map of a window that is determined.
+// Returns the inverse map over the window (n, c), or a failed test if there is none.
 fn map_of(alloc: Global, rule: &Rule, n: u16, c: u16) -> Result<InverseMap, Fail> {
     match answer(alloc, rule, n, c)? {
         Ok(map) => Ok(map),

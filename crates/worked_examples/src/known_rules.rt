@@ -1,5 +1,5 @@
-//! Tables of rules that many tests take: what each rule gives on its windows, in dictionary order. The elementary
-//! rules have their Wolfram numbers.
+//! Tables of rules that many tests use. A table lists the letters that the rule gives for its windows, in dictionary
+//! order. The elementary rules are named by their Wolfram numbers.
 
 pub const RULE_30: [u8; 8] = [0, 1, 1, 1, 1, 0, 0, 0];
 
@@ -15,5 +15,5 @@ pub const RULE_184: [u8; 8] = [0, 0, 0, 1, 1, 1, 0, 1];
 
 pub const RULE_204: [u8; 8] = [0, 0, 1, 1, 0, 0, 1, 1];
 
-/// The sum of two cells modulo 3.
+/// The table of the rule of 3 states that adds its two cells modulo 3.
 pub const SUM_OF_TWO: [u8; 9] = [0, 1, 2, 1, 2, 0, 2, 0, 1];

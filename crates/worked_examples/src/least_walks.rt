@@ -1,5 +1,6 @@
-//! Least walks, as a listing of all walks gives them: shorter ones first, and those of one length in
-//! dictionary order.
+//! Least walks between marked pairs of nodes. In the marked graph each pair of nodes occurs twice, without a mark and
+//! with it. A step on two different letters sets the mark. The expected walks come from lists of all walks, with
+//! shorter walks first, and walks of the same length in dictionary order.
 
 use crate::known_rules::{RULE_110, RULE_170, RULE_184, SUM_OF_TWO};
 use least_walk::Walker;
@@ -7,10 +8,11 @@ use pair_graph::Pairs;
 use std::test::Fail;
 use word_image::Rule;
 
-// States, width and table of a rule, from which marked pair to which one, and the steps: none where
-// there is no walk.
+// For each case: the states, the width and the table of a rule, the marked pair at the start, the marked pair at the
+// end, and the steps of the least walk. The list of steps is empty if there is no walk.
 const CASES: [(u8, u8, &[u8], u16, u16, &[u8]); 14] = [
-    // The letter pairs 00, 01, 10 and 11 spell 0011 and 0101.
+    // The steps 0, 1, 16 and 17 are the letter pairs 00, 01, 10 and 11. So this walk has 0011 as its first letters
+    // and 0101 as its second letters.
     (2, 3, &RULE_184, 13, 29, &[0, 1, 16, 17]),
     (2, 3, &RULE_184, 29, 13, &[]),
     (2, 3, &RULE_184, 0, 0, &[0]),

@@ -1,9 +1,11 @@
-//! Tests by hand. Those of crates below the program, of what it never shows, stand on public functions alone. Those that
-//! cross the crates hand words to [`ca_cli::run`] over objects in memory that fail in the middle, and compare the status
-//! and what the sink has taken. What the program prints where nothing fails, `.ci/program` and `.ci/certificates`
-//! compare with what it must be.
+//! All tests of the crates: examples that were worked out by hand, and calls of the program that fail partway.
 //!
-//! All tests stand here, since a crate is proved once more with its tests.
+//! Some tests examine crates below the program, because the program never shows these results. They use only public
+//! functions. The other tests pass words to [`ca_cli::run`], with a source or a sink in memory that fails in the
+//! middle. They compare the status, and the bytes that the sink has taken, with the expected ones. The scripts
+//! `.ci/program` and `.ci/certificates` test what the program prints if nothing fails.
+//!
+//! The tests have a crate of their own, because the tests of a crate would make its proofs run once more.
 #![tactic(auto)]
 
 #[cfg(test)]

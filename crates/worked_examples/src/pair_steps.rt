@@ -1,4 +1,5 @@
-//! Steps forth and back on every pair and all letters, and marks.
+//! Steps forward and back from every pair of nodes on all letters, and steps in the marked graph. There each pair of
+//! nodes occurs twice, without a mark and with it. A step on two different letters sets the mark.
 
 use crate::known_rules::{RULE_110, SUM_OF_TWO};
 use pair_graph::Pairs;
@@ -6,8 +7,9 @@ use std::process::Abort;
 use std::test::Fail;
 use word_image::Rule;
 
-/// Undoes each step: back by the letters with which the nodes of p begin, and forth by those with
-/// which the nodes of q end.
+/// Checks for each pair p that steps undo each other. If p leads to a pair q, the step back from q on the first
+/// letters of the nodes of p leads to p. If a step back from p leads to a pair q, the step from q on the last letters
+/// of the nodes of p leads to p.
 fn undoes_steps(rt: &impl Abort, pairs: &Pairs, first_letters: &[u8]) {
     let k = pairs.rule().k();
     let nodes = u16::from(pairs.rule().nodes());
@@ -57,7 +59,8 @@ fn every_step_is_undone(rt: HostRuntime) -> Result<(), Fail> {
 fn rule_110_has_these_steps(rt: HostRuntime) -> Result<(), Fail> {
     let pairs = Pairs::of(&Rule::new(2, 3, -1, &RULE_110)?);
     assert_eq!(rt; pairs.count(), 16);
-    // Pair, letters, and the steps without a mark and with it.
+    // For each case: the number of a pair, two letters, the step of the pair, and its step in the marked graph. The
+    // number 16 is pair 0 with the mark, which has a step only in the marked graph.
     let cases = [
         (9, 1, 0, Some(6), Some(22)),
         (9, 0, 0, None, None),

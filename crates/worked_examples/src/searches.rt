@@ -1,12 +1,13 @@
-//! That a search is made where there is memory, which no clause says, and what a run leaves. The verdicts are
-//! well known or follow by hand.
+//! Searches for orphans, one rule after another with the same search. No contract can say that a search finds memory
+//! and so takes place, or what an earlier run leaves behind. The expected verdicts are well known or follow by hand.
 
 use crate::known_rules::{RULE_106, RULE_110};
 use orphan_search::{Outcome, Search};
 use std::test::Fail;
 use word_image::Rule;
 
-// Rule 106 between two runs of rule 110: each run is as a first one.
+// Rule 106 is searched between two searches of rule 110. Each search has the same result as the first search of its
+// rule.
 #[test]
 fn one_search_decides_rule_after_rule(rt: HostRuntime) -> Result<(), Fail> {
     let orphaned = Rule::new(2, 3, -1, &RULE_110)?;
@@ -32,7 +33,7 @@ fn one_search_decides_rule_after_rule(rt: HostRuntime) -> Result<(), Fail> {
 #[test]
 fn rule_106_reaches_twelve_sets_whatever_ran_before(rt: HostRuntime) -> Result<(), Fail> {
     let mut search = Search::new(rt.alloc())?;
-    // The shift of sixteen states, whose sets have nodes that rule 106 lacks.
+    // The shift of sixteen states has sets with nodes that rule 106 doesn't have.
     let shift: Vec<u8> = (0..=255u8).map(|window| window % 16).collect(rt.alloc())?;
     assert_eq!(rt; search.run(&Rule::new(16, 2, 0, &shift)?), Outcome::Closed);
     assert_eq!(rt; search.word(), [].as_slice());

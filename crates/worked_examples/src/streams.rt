@@ -1,4 +1,5 @@
-//! What no clause can say: that memory is there, and what a reader and a writer of std do.
+//! Tests of sources and sinks, for facts that no contract can state: that there is memory, and what a reader and a
+//! writer of std do.
 
 use ca_io::{
     Failed, InputFault, MemSink, MemSource, NullSink, PlainSource, Sink, Source, StdSink,
@@ -8,14 +9,15 @@ use std::io;
 use std::io::{ErrorKind, Read, Write};
 use std::test::Fail;
 
-// One read into two places.
+// Reads once into a buffer of two bytes. Returns the buffer, and how many bytes were read.
 fn next<S: Source>(source: &mut S) -> Result<([u8; 2], usize), Failed> {
     let mut buf = [0; 2];
     let n = source.read(&mut buf)?;
     Ok((buf, n))
 }
 
-// A reader or writer of one byte in a call, some of whose calls go wrong. The calls are numbered from 1.
+// A reader and writer that moves at most one byte in a call. Some of its calls go wrong. The calls are numbered,
+// starting at 1.
 #[derive(Drop)]
 struct Faulty {
     calls: u8,

@@ -1,4 +1,4 @@
-//! Tails by their texts.
+//! Configurations with periodic tails, read from their texts.
 ghost use Rattle.std.specs.Prelude.{◌≡◌, IfOk};
 
 use crate::known_rules::{RULE_30, RULE_90};
@@ -8,14 +8,14 @@ use tail_config::{
 };
 use word_image::Rule;
 
-/// The Tail over two letters that a text stands for.
+/// Returns the configuration over two letters with this text.
 fn tail(rt: &HostRuntime, text: &[u8]) -> Result<Tail, Fail>
     ensures { IfOk result (λ t. t.states ≡ 2) }
 {
     Ok(parse(rt.alloc(), 2, text)?)
 }
 
-/// The rule of two states, width 3 and offset -1 with this table.
+/// Returns the rule of two states, width 3 and offset -1 with this table.
 fn rule(table: &[u8]) -> Result<Rule, Fail>
     ensures { IfOk result (λ r. r.states ≡ 2) }
 {

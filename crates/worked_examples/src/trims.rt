@@ -1,4 +1,5 @@
-//! The trims beside the plain ones, round by round.
+//! Compares the fast trims of sets of pairs of nodes with the slow plain trims, round by round. A trim keeps the
+//! pairs from which a step leads into the set.
 
 ghost use Rattle.std.specs.Prelude.{◌≡◌, length};
 ghost use Rattle.word_image.specs.Graphs.{pair_count};
@@ -9,18 +10,20 @@ use std::process::Abort;
 use std::test::Fail;
 use word_image::{Rule, Side};
 
-// States, width, offset and table of a rule, and how many pairs each round leaves, forward and backward,
-// until one leaves all. The numbers come from a script apart.
+// For each case: the states, the width, the offset and the table of a rule, and how many pairs are left after each
+// round of forward trims and after each round of backward trims. The last round removes no pair. The numbers come
+// from a separate script.
 const CASES: [(u8, u8, i8, &[u8], &[u16], &[u16]); 6] = [
     // Rule 110.
     (2, 3, -1, b"01110110", &[16], &[12, 12]),
     // Rule 106.
     (2, 3, -1, b"01010110", &[16], &[14, 14]),
-    // Rule 204: the middle of three cells.
+    // Rule 204, which copies the middle one of three cells.
     (2, 3, -1, b"00110011", &[8, 8], &[8, 8]),
     // The sum of two cells modulo 3.
     (3, 2, 0, b"012120201", &[9], &[9]),
-    // The second of four cells, changed where the others are 0, 1 and 0.
+    // The rule that copies the second of four cells, but exchanges 0 and 1 if the first, third and fourth cell are 0,
+    // 1 and 0.
     (
         2,
         4,
@@ -29,7 +32,7 @@ const CASES: [(u8, u8, i8, &[u8], &[u16], &[u16]); 6] = [
         &[46, 34, 28, 20, 20],
         &[46, 44, 44],
     ),
-    // Five cells.
+    // A rule that reads five cells.
     (
         2,
         5,
@@ -47,7 +50,7 @@ fn letters(alloc: Global, digits: &[u8]) -> Result<Vec<u8>, AllocError> {
         .collect(alloc)
 }
 
-/// How many pairs are in the set.
+/// Returns how many pairs are in the set.
 fn size(set: &PairSet, pairs: &Pairs) -> u16
     requires { length set.now ≡ pair_count pairs.now }
 {
@@ -60,7 +63,7 @@ fn size(set: &PairSet, pairs: &Pairs) -> u16
     size
 }
 
-/// The set after a round, by lanes and plainly.
+/// Returns the set after one round of trims on a side, first by the fast trim, then by the slow plain trim.
 fn round(set: &PairSet, pairs: &Pairs, side: Side) -> (PairSet, PairSet)
     requires { length set.now ≡ pair_count pairs.now }
     ensures first { length result.0 ≡ pair_count pairs.now }
@@ -97,7 +100,8 @@ fn trims_equal_the_plain_ones(rt: HostRuntime) -> Result<(), Fail> {
     Ok(())
 }
 
-/// The next table of 16 states and width 2 that the generator of `sample` draws.
+/// Returns the next table of 16 states and width 2 that the generator of the command `sample` draws. `state` is the
+/// state of the generator.
 fn drawn(state: &mut u64) -> [u8; 256] {
     let mut table = [0; 256];
     for letter in &mut table {
@@ -109,7 +113,7 @@ fn drawn(state: &mut u64) -> [u8; 256] {
     table
 }
 
-/// Those of the seed 1, of which no pair ever falls.
+/// The rules are the first 8 rules that the seed 1 draws. No trim removes a pair of them.
 #[test]
 fn trims_of_drawn_rules_equal_the_plain_ones(rt: HostRuntime) -> Result<(), Fail> {
     let mut state = 1;
