@@ -1,4 +1,4 @@
-//! The pairs of a rule that have no finite rank.
+//! The endless pairs of a rule, which have no finite rank.
 
 ghost use Rattle.std.specs.Prelude.{◌≡◌, ◌<◌, ◌↔◌, ℕ, IsBitSet};
 ghost use Rattle.word_image.specs.LocalRules.{IsRule, node_count, most_nodes};
@@ -9,15 +9,16 @@ use pair_graph::{PairSet, Pairs};
 use std::marker::Model;
 use word_image::{Rule, Side};
 
-/// The pairs of nodes of a rule that are endless, forward and backward. In contracts it is the rule. Two nodes are
-/// endless if walks of any length begin at them, or end at them, with equal labels.
+/// The endless pairs of nodes of a rule, forward and backward. In contracts it is the rule. Two nodes are endless
+/// forward if for each n two walks of n steps with equal labels begin at the nodes. They are endless backward if for
+/// each n two such walks end at the nodes.
 #[derive(Debug, Drop)]
 pub struct Endless {
     // The rule.
     pub(crate) rule: Rule,
-    // The pairs from which walks of any length with equal labels begin.
+    // The pairs that are endless forward.
     pub(crate) forward: PairSet,
-    // The pairs at which walks of any length with equal labels end.
+    // The pairs that are endless backward.
     pub(crate) backward: PairSet,
 }
 
@@ -34,7 +35,7 @@ impl Model for Endless {
 }
 
 impl Endless {
-    /// Finds the endless pairs of a rule.
+    /// Finds the endless pairs of nodes of a rule.
     pub fn over(pairs: &Pairs) -> Endless
         ensures { result ≡ pairs.now }
     {
