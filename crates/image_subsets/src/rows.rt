@@ -12,7 +12,7 @@ pub const ROW: usize = 64;
 /// The number of rows for all sets of sixteen nodes.
 pub const MOST_ROWS: usize = (1 << MOST_NODES) / ROW;
 
-/// The nodes 0 to 5 tell the sets of one row apart. All sets of a row have the same other nodes.
+/// How many nodes tell the sets of one row apart: the nodes 0 to 5. All sets of a row have the same other nodes.
 const LOW_NODES: u8 = 6;
 
 /// For each of the nodes 0 to 5, a row with a mark on each set that contains the node.

@@ -113,9 +113,9 @@ impl Ranks {
     }
 }
 
-/// Law: if there are N nodes, each finite rank of two nodes is less than N (N - 1) / 2, so at most 119. Each number
-/// below a finite rank is the rank of some pair of nodes, too. The pairs (u, v) and (v, u) have the same rank. The
-/// pair (u, u) has no finite rank.
+/// Law: if there are N nodes, each finite rank of two nodes is less than N (N - 1) / 2, so at most 119. The reason:
+/// each number below a finite rank is the rank of some pair of nodes, too. The pairs (u, v) and (v, u) have the same
+/// rank, and the pair (u, u) has no finite rank.
 pub fn ranks_are_few()
     ensures few { (side : Side) (r : LocalRule) (u v n : ℕ) → IsRule r → IsRank (Together side r u v) n → 2 * (n + 1) + node_count r ≤ pair_count r }
     ensures most { (side : Side) (r : LocalRule) (u v n : ℕ) → IsRule r → IsRank (Together side r u v) n → n ≤ most_rank }

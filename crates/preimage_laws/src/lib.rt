@@ -32,8 +32,8 @@ ghost use Rattle.tail_config.specs.Tails.{IsInjective, IsOpen};
 ghost use Rattle.preimage_laws.specs.PreimageCounts.{IsToOne, IsConstantToOne, HasSeparatedPreimages};
 
 /// Law: a rule is open if and only if all configurations have the same number of preimages (Hedlund 1969). This
-/// number is from 1 to k^(m - 1), and it is 1 if and only if the rule is injective. A rule is open if and only if
-/// different preimages of a configuration differ within any m - 1 adjacent letters.
+/// number is from 1 to k^(m - 1). All configurations have exactly one preimage if and only if the rule is injective.
+/// A rule is open if and only if different preimages of a configuration differ within any m - 1 adjacent letters.
 pub fn open_is_constant_to_one()
     ensures exactly { (r : LocalRule) → IsRule r → (IsOpen r ↔ IsConstantToOne r) }
     ensures number { (r : LocalRule) (n : ℕ) → IsRule r → IsToOne r n → (1 ≤ n) × (n ≤ node_count r) }
