@@ -132,8 +132,9 @@ fn follow_steps(
     None
 }
 
-/// Does the same as `follow_steps` for the steps with the first letter a. A step with a second letter outside
-/// `letters` leads to a marked pair that isn't new.
+/// Follows the steps from the marked pair `head` with the first letter a, and appends the marked pairs that are new.
+/// Stops when a step leads to the goal, and returns the step's pair of letters. A step with a second letter outside
+/// `letters` leads to no new marked pair.
 fn follow_letter(
     queue: &mut Vec<Reached>,
     rows: &mut Rows,
