@@ -24,8 +24,8 @@ pub fn one_rule_of_a_rank()
     ensures { (k m : ℕ) (order : List ℕ) (q r : LocalRule) → IsOrder (k ^ m) order → IsOfShape k m q → IsOfShape k m r → rank k order q.table ≡ rank k order r.table → q ≡ r }
 {}
 
-/// Law: a search returns exactly the listed rules, each once, if it returns the first rule, then the rule after it
-/// and so on, until there is none.
+/// Law: suppose that a search returns the listed rule of least rank, then the next one, and so on, until there is
+/// none. Then it returns exactly the listed rules, each once.
 pub fn calls_list_each_rule_once()
     ensures { (property : Property) (k m : ℕ) (begin order : List ℕ) (rules : List LocalRule) → IsOrder (k ^ m) order → AreAll property k m begin order None rules → AreListed property k m begin order rules }
 {}
