@@ -10,9 +10,9 @@
 //! of a configuration near x. Rule 30 is surjective and has a right split: its images are dense, but its map isn't
 //! open.
 //!
-//! A determined window says that n letters of an image determine one letter of a preimage. A look-ahead says that m -
-//! 1 letters and n letters of the image determine the next letter. Both are statements about words, so they hold for
-//! the words of every configuration. Therefore injective, closing and preinjective mean the same for all
+//! A determined window says that n letters of an image determine one letter of a preimage. A look-ahead says that
+//! m - 1 letters and n letters of the image determine the next letter. Both are statements about words, so they hold
+//! for the words of every configuration. Therefore injective, closing and preinjective mean the same for all
 //! configurations as for configurations with periodic tails. Surjective means that the images are dense. Conserving
 //! means that finite configurations keep their sums.
 //!
@@ -123,9 +123,9 @@ pub fn surjective_on_rings()
 
 /// Law: a rule is surjective if and only if each preimage of a periodic configuration is periodic. If the rule is
 /// surjective, the preimage has as a period l periods of the image, for some l of at most k^(m - 1). If the rule is
-/// injective, each period of the image is a period of the preimage (Hedlund 1969). Rule 90 reaches the bound k^(m -
-/// 1) = 4: the configuration of ones has period 1, and it is the image of 0 0 1 1 repeated for ever, which has period
-/// 4.
+/// injective, each period of the image is a period of the preimage (Hedlund 1969). Rule 90 reaches the bound
+/// k^(m - 1) = 4: the configuration of ones has period 1, and it is the image of 0 0 1 1 repeated for ever, which has
+/// period 4.
 pub fn periodic_preimages()
     ensures exactly { (r : LocalRule) → IsRule r → (IsSurjective r ↔ HasPeriodicPreimages r) }
     ensures period { (r : LocalRule) (x : Config) (p : ℕ) → IsRule r → IsSurjective r → IsConfig r.states x → HasPeriod p (image_of r x)

@@ -6,16 +6,17 @@
 //!
 //! A node is a word of m - 1 letters. A flux is a list phi with one whole number for each of the N = k^(m-1) nodes
 //! such that `weight(f(w)) - weight(w[0]) = phi(first m-1 letters of w) - phi(last m-1 letters of w)` for every
-//! window w. If there is a flux, its terms cancel out around every ring. The gain of a window w is `weight(f(w)) -
-//! weight(w[0])`, and the gain of a walk is the sum of the gains of its windows. If every ring of at most 2m - 1
-//! letters keeps its weight, there is a flux: phi(v) is the gain of the walk from v that reads m - 1 letters 0. So a
-//! rule is conserving if and only if these numbers are a flux, and they are the only flux with phi(0) = 0.
+//! window w. If there is a flux, its terms cancel out around every ring. The gain of a window w is
+//! `weight(f(w)) - weight(w[0])`, and the gain of a walk is the sum of the gains of its windows. If every ring of at
+//! most 2m - 1 letters keeps its weight, there is a flux: phi(v) is the gain of the walk from v that reads m - 1
+//! letters 0. So a rule is conserving if and only if these numbers are a flux, and they are the only flux with
+//! phi(0) = 0.
 //!
 //! Under rule 184 each 1 moves to the right if there is a 0. If each letter weighs its own value, its flux is 0 0 0
-//! -1. For the window 1 1 0 it gives 0, one less than the first letter, and phi(11) - phi(10) is -1. For the window 0
-//! 1 1 it gives 1, one more than the first letter, and phi(01) - phi(11) is 1. If 0 weighs 1 and 1 weighs 4, the flux
-//! is 0 0 0 -3. Rule 232 gives the majority of three cells. The ring 0 0 1 becomes 0 0 0, and all lesser rings keep
-//! their weights.
+//! -1. For the window 1 1 0 it gives 0, one less than the first letter, and phi(11) - phi(10) is -1. For the window
+//! 0 1 1 it gives 1, one more than the first letter, and phi(01) - phi(11) is 1. If 0 weighs 1 and 1 weighs 4, the
+//! flux is 0 0 0 -3. Rule 232 gives the majority of three cells. The ring 0 0 1 becomes 0 0 0, and all lesser rings
+//! keep their weights.
 //!
 //! [`has_mean`] and [`keeps_ends`] only look at the table. If each letter weighs its own value, the letters of a
 //! conserving rule's table have the mean (k - 1) / 2, and the rule gives 0 for the window of zeros and k - 1 for the

@@ -38,7 +38,7 @@ pub fn parse_beginning(text: &[u8]) -> Result<Beginning, TextFault>
 }
 
 /// Returns the beginning of a table text with this head and these digits, or the first fault of the text. The digits
-/// are in the grammar.
+/// have the form that the head announces.
 fn begin(head: &Head, digits: &[u8]) -> Result<Beginning, TextFault>
     requires entries { IsEntries head.now.kind digits.now }
     requires place { head.now.place + 2 ^ 16 < 2 ^ 64 }

@@ -31,8 +31,8 @@ pub fn parse(text: &[u8]) -> Result<Rule, TextFault>
     accept(&head, digits)
 }
 
-/// Returns the rule of a text with this head and these digits, or the text's first fault. The digits are in the
-/// grammar.
+/// Returns the rule of a text with this head and these digits, or the text's first fault. The digits have the form
+/// that the head announces.
 fn accept(head: &Head, digits: &[u8]) -> Result<Rule, TextFault>
     requires entries { IsEntries head.now.kind digits.now }
     requires place { head.now.place + 2 ^ 16 < 2 ^ 64 }

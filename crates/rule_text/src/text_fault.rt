@@ -16,7 +16,7 @@ pub enum TextFault {
     Width,
     /// There are more than 16 words of m - 1 letters.
     Nodes,
-    /// A window reaches further than 16 cells to the left or to the right.
+    /// The window of a cell reaches further than 16 cells to the left or to the right of the cell.
     Offset,
     /// The number form is used for a rule of 7 states or more.
     Kind,

@@ -143,8 +143,8 @@ impl Tail {
         }
     }
 
-    /// Returns the reversed Tail: its left period is the reversed right period, and so on. The middle of the result
-    /// begins at place 0, too.
+    /// Returns the reversed Tail. Each of its periods is the reversed period of the other side, and its middle is the
+    /// reversed middle, which begins at place 0, too.
     pub fn mirror(self) -> Tail
         ensures states { result.states ≡ self.states }
         ensures config { result.config ≡ mirror_of self.config }

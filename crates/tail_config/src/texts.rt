@@ -18,10 +18,10 @@ use word_image::{letter, text_word, word_text};
 /// Why a text doesn't describe a Tail.
 #[derive(Clone, Copy, Debug, PartialEq, Eq)]
 pub enum TailTextFault {
-    /// The text isn't in the grammar. The number is the length of the text's longest prefix with which some text of
-    /// the grammar begins.
+    /// The text doesn't have the form `L|M|R`. The number is the length of the text's longest prefix with which some
+    /// text of this form begins.
     Form(usize),
-    /// The text is in the grammar, but its parts don't form a Tail.
+    /// The text has the form `L|M|R`, but its parts don't form a Tail.
     Tail(TailFault),
     /// There is not enough memory.
     Memory(AllocError),
@@ -86,7 +86,8 @@ pub fn printed_text_is_read()
     ensures { (t : TailOver) → IsAcceptedTail t → IsTailText t.states (printed t.config) t.config }
 {}
 
-/// Splits a text at its two bars into the digits of its three parts. Returns `Form` if the text isn't in the grammar.
+/// Splits a text at its two bars into the digits of its three parts. Returns `Form` if the text doesn't have the form
+/// `L|M|R`.
 fn split(text: &[u8]) -> Result<Parts<'_>, TailTextFault>
     ensures parts { IfOk result (λ p. IsCut text.now p.left.now p.middle.now p.right.now) }
     ensures fault { IfErr result (λ f. IsFormAt f (IsFormFault HasForm text.now)) }

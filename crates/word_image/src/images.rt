@@ -1,4 +1,4 @@
-//! The image of a word.
+//! Computes the image of a word.
 ghost use Rattle.std.specs.Prelude.{◌≡◌, ◌+◌, ◌≤◌, length, alloc_error, IfOk, IfSome, IfNone, IsOkUnless};
 ghost use Rattle.word_image.specs.LocalRules.{IsRule, IsWord};
 ghost use Rattle.word_image.specs.Words.{image};

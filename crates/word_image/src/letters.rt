@@ -1,4 +1,4 @@
-//! Letters and words, and how they are written.
+//! Reads and writes letters and words as hexadecimal digits.
 ghost use Rattle.std.specs.Prelude.{◌≡◌, ◌<◌, map, IfOk};
 ghost use Rattle.word_image.specs.LocalRules.{IsWord, most_states};
 ghost use Rattle.word_image.specs.Digits.{lower_digit, hex_value, letter_at, word_text};

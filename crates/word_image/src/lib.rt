@@ -14,15 +14,15 @@
 //! A ring is a word that is read in a circle, so its first letter follows its last one. The image of a ring is a ring
 //! of the same length. Under rule 110 the image of the ring 0 0 1 is the ring 0 1 1.
 //!
-//! A node of the de Bruijn graph is a word of m - 1 letters, and its number is the value of this word. There are N =
-//! k^(m - 1) nodes, at most 16. Each window is an edge from the node of its first m - 1 letters to the node of its
-//! last m - 1 letters. The label of the edge is the letter that the rule gives for the window. Under rule 110 the
-//! window 0 1 1 is an edge from node 1 to node 3, with the label 1. The last node of a word consists of the last m -
-//! 1 letters of the word. On the right side, walks follow edges forward. On the left side, they follow edges
+//! A node of the de Bruijn graph is a word of m - 1 letters, and its number is the value of this word. There are
+//! N = k^(m - 1) nodes, at most 16. Each window is an edge from the node of its first m - 1 letters to the node of
+//! its last m - 1 letters. The label of the edge is the letter that the rule gives for the window. Under rule 110 the
+//! window 0 1 1 is an edge from node 1 to node 3, with the label 1. The last node of a word consists of the last
+//! m - 1 letters of the word. On the right side, walks follow edges forward. On the left side, they follow edges
 //! backward.
 //!
-//! A set of nodes is a number: its bit u is 1 if node u is in the set. The pair of the nodes u and v has the number u
-//! * N + v.
+//! A set of nodes is a number: its bit u is 1 if node u is in the set. The pair of the nodes u and v has the number
+//! u * N + v.
 //!
 //! `Word`, `SetList`, `RankRow` and `FluxRow` are the lists in the evidence for a verdict on a rule. The rank of a
 //! pair of nodes tells how long walks with equal labels can be that begin, or end, at the two nodes. A flux has a

@@ -1,4 +1,4 @@
-//! The image of a ring, and the test whether a ring and its image have the same sum of weights.
+//! Computes the image of a ring, and tests whether a ring and its image have the same sum of weights.
 ghost use Rattle.std.specs.Prelude.{◌≡◌, ◌^◌, ◌<◌, ◌↔◌, length, pos, slice_index, alloc_error, IfOk, IfSome, IfNone, IsOkUnless, IsTrue};
 ghost use Rattle.std.specs.Int.{int_rem_euclid};
 ghost use Rattle.word_image.specs.LocalRules.{IsRule, local_map};
