@@ -6,11 +6,11 @@ ghost use Rattle.word_image.specs.LocalRules.{IsRule, node_count};
 use std::marker::Model;
 use word_image::{EdgeRows, MOST_NODES, Rule, Side, after, edge_rows, step};
 
-/// The de Bruijn graph of a rule. In contracts it is the rule. Nodes and sets of nodes are looked up in tables that
-/// `of` fills once.
+/// The de Bruijn graph of a rule. In contracts it is the rule. Steps are looked up in tables that `of` fills once.
 #[derive(Clone, Copy, Debug)]
 pub struct Graph {
-    // The rule. Its table has the label of each edge, in the order of nodes and then of letters.
+    // The rule of the graph. Its table has the labels of all edges: the label of the edge that leads from node u on
+    // letter a is at place k u + a.
     rule: Rule,
     // For each label and node, the set of nodes to which the edges with that label lead from the node.
     ends: EdgeRows,

@@ -7,15 +7,15 @@ ghost use Rattle.flux_conserve.specs.LeastRings.{IsFirstLossyRing, KeepSumAt};
 use std::marker::Model;
 use word_image::{Rule, Weights, keeps_sum};
 
-/// The greatest length of the least ring that doesn't keep its sum: 2m - 1 at width 5.
+/// The greatest possible length of the least ring that doesn't keep its sum: 2m - 1 letters at width 5.
 pub const LONGEST_RING: usize = 9;
 
 /// A ring of 1 to 9 letters. In contracts it is the list of its letters.
 #[derive(Debug, Drop)]
 pub struct SmallRing {
-    // The letters of the ring, followed by any numbers.
+    // The number of letters of the ring.
     count: u8,
-    // Its letters, followed by any others.
+    // The letters of the ring, followed by any numbers.
     letters: [u8; LONGEST_RING],
 }
 

@@ -86,7 +86,7 @@ impl Family {
         self.marks.mark(&self.sets, graph.nodes());
     }
 
-    /// Returns the number of sets: 0 before a graph is explored, and from 1 to 65,536 after.
+    /// Returns the number of sets in the family: 0 before a graph is explored, and from 1 to 65,536 after.
     pub fn len(&self) -> u32
         ensures len { result ≡ length self.now.sets }
         ensures most { result ≤ most_sets }
@@ -113,7 +113,7 @@ impl Family {
         self.sets.at(i as usize)
     }
 
-    /// Returns the sets in their order.
+    /// Returns the sets of the family in their order.
     pub fn sets(&self) -> &[u16]
         ensures { result.now ≡ self.now.sets }
     {

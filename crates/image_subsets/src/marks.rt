@@ -56,7 +56,7 @@ impl Marks {
         mark_beyond(&mut self.beyond, &self.above, n);
     }
 
-    /// Returns whether a set is marked.
+    /// Returns whether a set is marked, which means that it contains a set of the family other than itself.
     pub fn has(&self, set: u16) -> bool
         requires { set < 64 * length self.now }
         ensures { IsTrue result ↔ IsSetMarked self.now set }

@@ -86,7 +86,7 @@ impl Masks {
         self.sets.clear();
     }
 
-    /// Appends the set if it isn't in the list yet, and returns whether it was appended.
+    /// Appends the set if it isn't in the list yet. Returns whether the set was appended.
     pub fn insert(&mut self, set: u16) -> bool
         ensures { IsInserted self.old self.new set result }
     {

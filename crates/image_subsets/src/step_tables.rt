@@ -51,7 +51,7 @@ impl StepTables {
         })
     }
 
-    /// Fills the tables for this graph, in O(2^8) time.
+    /// Fills the tables with the steps of the sets of this graph's nodes, in O(2^8) time.
     pub fn fill(&mut self, graph: &Graph)
         ensures { AreTables graph.now self.new }
     {

@@ -141,7 +141,7 @@ fn apart(ranks: &Ranks, side: Side, u: u8, v: u8) -> Option<u16>
     Some(ranks.rank(side, u, v)? + 1)
 }
 
-/// Returns the backward rank of two nodes, or `past` if they are endless.
+/// Returns the backward rank of two nodes, or `past` if the nodes are endless backward.
 fn ends_for(ranks: &Ranks, u: u8, v: u8, past: u16) -> u16
     requires rule { IsRule ranks.now }
     requires first { u < node_count ranks.now }

@@ -22,7 +22,7 @@ pub fn check_range(k: u8, range: u8) -> Result<(), RangeFault>
     if range == 0 {
         return Err(RangeFault::Zero);
     }
-    // There are 32 words of five letters of two states.
+    // Words of five letters are too many: there are at least 32 of them.
     if range > 4 || u32::from(k).pow(u32::from(range)) > 16 {
         return Err(RangeFault::Words);
     }

@@ -83,7 +83,8 @@ impl WalkTree {
         pairs_of(alloc, &self.queue)
     }
 
-    /// Returns the number of steps of the walk that `walk_to` returns, or None if it returns None.
+    /// Returns the number of steps of the walk that `walk_to` returns for this marked pair, or None if `walk_to`
+    /// returns None.
     pub fn steps_to(&self, to: u16) -> Option<usize>
         requires { to < 2 * pair_count self.now.rule }
         ensures steps { IfSome result (λ n. (w : List (ℕ × ℕ)) × IsLeastWalkTo (marked self.now.rule) self.now.rule.states self.now.start to w × (length w ≡ n)) }
@@ -124,7 +125,8 @@ fn pairs_of(alloc: Global, queue: &[Reached]) -> Result<Vec<u16>, AllocError>
     queue.iter().map(|reached| reached.pair).collect(alloc)
 }
 
-/// Returns the place of each marked pair in the queue.
+/// Returns for each marked pair its place in the queue. If a marked pair isn't in the queue, its entry has no
+/// meaning.
 fn index(queue: &[Reached]) -> [u16; MOST_MARKED_PAIRS]
     requires { AreApart queue.now }
     ensures { IsPairIndex queue.now result }

@@ -14,7 +14,7 @@ use word_image::{Rule, Side};
 /// each n two such walks end at the nodes.
 #[derive(Debug, Drop)]
 pub struct Endless {
-    // The rule.
+    // The rule of the pairs.
     pub(crate) rule: Rule,
     // The pairs that are endless forward.
     pub(crate) forward: PairSet,
@@ -54,8 +54,8 @@ impl Endless {
         &self.rule
     }
 
-    /// Returns the nodes v for which, for every n, two words of n + m - 1 letters with the same image begin with u
-    /// and v. Bit v stands for node v.
+    /// Returns the set of the nodes v for which u and v are endless forward: for every n two words of n + m - 1
+    /// letters with the same image begin with u and v. Bit v stands for node v.
     pub fn forward(&self, u: u8) -> u16
         requires { u < node_count self.now }
         ensures { (v : ℕ) → v < most_nodes → (IsBitSet result v ↔ IsEndless (BeginTogether self.now u v)) }
@@ -63,8 +63,8 @@ impl Endless {
         self.forward.row(u)
     }
 
-    /// Returns the nodes v for which, for every n, two words of n + m - 1 letters with the same image end with u and
-    /// v. Bit v stands for node v.
+    /// Returns the set of the nodes v for which u and v are endless backward: for every n two words of n + m - 1
+    /// letters with the same image end with u and v. Bit v stands for node v.
     pub fn backward(&self, u: u8) -> u16
         requires { u < node_count self.now }
         ensures { (v : ℕ) → v < most_nodes → (IsBitSet result v ↔ IsEndless (EndTogether self.now u v)) }

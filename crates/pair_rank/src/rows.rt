@@ -1,4 +1,4 @@
-//! The ranks of all pairs of nodes, as a list.
+//! Lists the ranks of all pairs of nodes.
 ghost use Rattle.std.specs.Prelude.{◌≡◌, ◌<◌, ℕ, length, get_or, None, IfOk};
 ghost use Rattle.word_image.specs.Graphs.{pair_count};
 ghost use Rattle.pair_rank.specs.Sides.{IsRankOf};

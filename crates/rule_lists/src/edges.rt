@@ -67,7 +67,7 @@ impl Edges {
             .wrapping_add(letter.wrapping_mul(self.letter_step))
     }
 
-    /// Returns the number of the pair of two nodes.
+    /// Returns the number of the pair of these two nodes.
     pub(crate) fn pair(&self, first: u8, second: u8) -> u8 {
         first.wrapping_mul(self.nodes).wrapping_add(second)
     }
@@ -88,14 +88,14 @@ impl Edges {
         ends
     }
 
-    /// Adds the edge of a window with this label.
+    /// Adds the edge of this window with this label.
     pub(crate) fn add(&mut self, window: u8, label: u8) {
         let node = usize::from(self.from(window) % 16);
         let end = bit(self.to(window));
         self.ends[usize::from(label % 16)][node] |= end;
     }
 
-    /// Removes the edge of a window with this label.
+    /// Removes the edge of this window with this label.
     pub(crate) fn take(&mut self, window: u8, label: u8) {
         let node = usize::from(self.from(window) % 16);
         let end = bit(self.to(window));
