@@ -40,8 +40,8 @@ fn closes(side: Side, endless: &Endless) -> bool
     true
 }
 
-/// Returns whether some first pair is endless that consists of the end of this window and the end of another window.
-/// The two windows have equal labels and differ only in the letter at their end on this side.
+/// Returns whether this window and some other window have an endless first pair at their ends. The two windows have
+/// equal labels and differ only in the letter at their end on this side.
 fn is_endless_at(side: Side, endless: &Endless, window: u16) -> bool
     requires { window < endless.now.states ^ endless.now.width }
     ensures { IsTrue result ↔ IsEndlessAt side endless.now window }
@@ -54,8 +54,7 @@ fn is_endless_at(side: Side, endless: &Endless, window: u16) -> bool
     false
 }
 
-/// Returns whether the end of this window and the end of the window with `letter` at its end are an endless first
-/// pair.
+/// Returns whether this window and the window that has `letter` at its end have an endless first pair at their ends.
 fn is_endless_with(side: Side, endless: &Endless, window: u16, letter: u8) -> bool
     requires window { window < endless.now.states ^ endless.now.width }
     requires letter { letter < endless.now.states }

@@ -84,7 +84,7 @@ fn window_past(place: u8, start: Option<u16>) -> Option<WindowAt>
     })
 }
 
-/// Returns the lesser of two windows, or the only one if the other is None.
+/// Returns the lesser of two windows. If only one of them exists, returns this one. Returns None if both are None.
 fn earlier(a: Option<WindowAt>, b: Option<WindowAt>) -> Option<WindowAt>
     ensures { IsEarlier a b result }
 {

@@ -35,8 +35,8 @@ pub struct Reached {
 pub struct Ends {
     /// The number of the marked pair at which the walk starts.
     pub start: u16,
-    /// The number of the marked pair at which the walk should end. If it is None, the search has no goal and visits
-    /// every marked pair.
+    /// The number of the marked pair at which the walk should end. If it is None, the search has no goal, and lists
+    /// all marked pairs that it can reach.
     pub goal: Option<u16>,
 }
 
@@ -203,7 +203,7 @@ fn new_step(
     if rows.has(q) { None } else { Some(q) }
 }
 
-/// Appends to a list that has capacity for one more item.
+/// Appends an item to a list that has capacity for one more item.
 pub fn put<T: Drop>(list: &mut Vec<T>, item: T)
     requires { vec_len list.old < vec_capacity list.old }
     ensures items { list.new.items ≡ list.old.items ++ item ∷ [] }

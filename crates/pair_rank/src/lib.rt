@@ -1,9 +1,10 @@
 //! The ranks of pairs of nodes: how long walks from two nodes, or to two nodes, can have equal labels (Sutner 1991).
 //!
 //! The forward rank of two nodes is the greatest n for which two words of n + m - 1 letters with the same image begin
-//! with these nodes. If there are such words for every n, the nodes have no finite rank, and they are called endless
-//! forward. In the same way, the backward rank is about words that end with these nodes. It is the rank on the left
-//! side, and the forward rank is the rank on the right side.
+//! with these nodes. If there are such words for every n, the nodes have no finite forward rank, and they are called
+//! endless forward. The backward rank of two nodes is the greatest n for which two words of n + m - 1 letters with
+//! the same image end with these nodes. If there are such words for every n, the nodes are called endless backward.
+//! On the right side a rank is a forward rank, and on the left side it is a backward rank.
 //!
 //! Rule 204 gives the middle letter of its window. The windows that begin with the node 00 all give 0, and the
 //! windows that begin with 01 all give 1. So the nodes 00 and 01 have the forward rank 0. Two words that end with

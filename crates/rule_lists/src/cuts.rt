@@ -17,7 +17,8 @@ use crate::walks::{has_one_node, is_round, is_tail};
 use word_image::{Rule, Side};
 
 /// Returns true only if no listed rule has the letters of the table at the first n windows of the order. The hints
-/// must have seen all of these letters except the last one. The result may be false although there is no such rule.
+/// must already have all of these letters except the last one. The result may be false although there is no such
+/// rule.
 pub(crate) fn forbids(asked: &Asked, entries: &Entries, n: u16, hints: &mut Hints) -> bool
     requires order { IsOrdered asked.now }
     requires table { AreEntries asked.now entries.now }
@@ -78,8 +79,8 @@ fn bars(property: Property, shape: &Rule, letters: &Letters, hint: &Hint) -> boo
     }
 }
 
-/// Tests a hint that no rule with these letters is surjective. Returns true if the letters lead from a node with
-/// itself, first by two different letters, to a pair of two equal nodes.
+/// Tests a hint that no rule with these letters is surjective. Returns whether the links of the hint show that the
+/// letters lead from a node with itself, first by two different letters, to a pair of two equal nodes.
 fn is_lost(shape: &Rule, letters: &Letters, hint: &Hint) -> bool
     ensures { IsTrue result → IsLost shape.now.states shape.now.width letters.now }
 {
@@ -93,8 +94,9 @@ fn is_lost(shape: &Rule, letters: &Letters, hint: &Hint) -> bool
     is_tail(Side::Right, shape, letters, hint.before(), pair)
 }
 
-/// Tests a hint that no rule with these letters is injective. Returns true if `is_lost` does, or if the letters lead
-/// from a pair of two different nodes around a loop back to this pair.
+/// Tests a hint that no rule with these letters is injective. Returns true if `is_lost` returns true. Otherwise
+/// returns whether the links of the hint show that the letters lead from a pair of two different nodes around a loop
+/// back to this pair.
 fn bars_injective(shape: &Rule, letters: &Letters, hint: &Hint) -> bool
     ensures { IsTrue result → Bars Injective shape.now.states shape.now.width letters.now }
 {
@@ -111,9 +113,9 @@ fn bars_injective(shape: &Rule, letters: &Letters, hint: &Hint) -> bool
     is_round(Side::Right, shape, letters, hint.after(), pair)
 }
 
-/// Tests a hint that no rule with these letters closes on this side. Returns true if the letters lead from a node
-/// with itself, first by two different letters, to the pair in the hint. This must be a pair of two equal nodes, or a
-/// pair from which the letters lead around a loop back to it.
+/// Tests a hint that no rule with these letters closes on this side. Returns true if the links of the hint show two
+/// things about its pair. The letters lead to the pair from a node with itself, first by two different letters. The
+/// pair has two equal nodes, or the letters lead from it around a loop back to it.
 fn bars_closing(side: Side, shape: &Rule, letters: &Letters, hint: &Hint) -> bool
     ensures { IsTrue result → BarsClosing side shape.now.states shape.now.width letters.now }
 {

@@ -2,8 +2,8 @@
 //!
 //! A shape consists of a number of states k and a width m. It has `k^(k^m)` tables, too many to test each: there are
 //! 7.6 million million tables of three states and width 3, and 1,800 of these rules are reversible. So a search fills
-//! tables letter by letter, with the windows in a given order. If the letters so far, which are called known, rule
-//! out the property for all ways to fill in the rest, it tries none of these tables.
+//! tables letter by letter, with the windows in a given order. The letters so far are called known. If they rule out
+//! the property for all ways to fill in the rest, the search tries none of these tables.
 //!
 //! Some letters of the table can be fixed in advance. A rule is listed if it has the shape, the offset 0, the
 //! property and all fixed letters. The rank of a rule is the number whose digits are its letters in the order of the
@@ -16,12 +16,17 @@
 //! Walks of pairs of nodes show that known letters rule out a property. A node is a word of m - 1 letters, and each
 //! window with a known letter is an edge from its first m - 1 letters to its last m - 1 letters. Known letters lead
 //! from a pair of nodes to another pair if two edges with the same known letter lead from the nodes of the first pair
-//! to the nodes of the second. Suppose that they lead from a node with itself, first by two different letters, to a
-//! pair of two equal nodes. Then no rule with these letters is surjective. For example, if the windows 000, 001, 010
-//! and 100 all have the letter 0, the words 00000 and 00100 have the same image. If known letters lead around a loop
-//! of pairs of different nodes, no rule with these letters is injective. A hint is such a walk that unproved code has
-//! found quickly. A proved test follows its links, from each pair to the pair before or to the next pair, before
-//! letters are given up.
+//! to the nodes of the second. They rule out properties in three ways:
+//!
+//! - They lead from a node with itself, first by two different letters, to a pair of two equal nodes. Then no rule
+//!   with these letters is surjective. For example, if the windows 000, 001, 010 and 100 all have the letter 0, the
+//!   words 00000 and 00100 have the same image.
+//! - They lead around a loop of pairs of different nodes. Then no rule with these letters is injective.
+//! - They lead from a node with itself, first by two different letters, to such a loop. Then no rule with these
+//!   letters is right-closing. If the edges are followed backward, no rule with these letters is left-closing.
+//!
+//! A hint is such a walk that unproved code has found quickly. It has links from each pair to the pair before or to
+//! the next pair. A proved test follows the links before letters are given up.
 //!
 //! A forest shows that known letters rule out that a rule is conserving. The flux of a conserving rule gives a number
 //! to each node. A known letter at a window tells the difference of the numbers of its two nodes, so it joins these
