@@ -126,9 +126,8 @@ fn entries_of(rule: &Rule) -> Entries
     entries
 }
 
-/// Suppose that `first` is n. Returns the listed rule of least rank whose letters at the first n windows of the order
-/// aren't before the letters of `start` at these windows. Returns None if there is no such rule, or if `first` is
-/// None.
+/// Returns the listed rule of least rank whose letters at the first n windows of the order aren't before the letters
+/// of `start` at these windows, if `first` is n. Returns None if there is no such rule, or if `first` is None.
 fn rule_from(asked: &Asked, start: Entries, first: Option<u16>, hints: &mut Hints) -> Option<Rule>
     requires order { IsOrdered asked.now }
     requires table { AreEntries asked.now start }

@@ -41,7 +41,8 @@ pub fn parts_add_up()
 {}
 
 /// Law: suppose that fixed letters lead from a node with itself, first by two different letters, to a pair of two
-/// equal nodes. Then two words are erasable, and no rule with these letters is surjective.
+/// equal nodes. Then two different words with the same ends have the same image under each rule with these letters,
+/// so no such rule is surjective.
 pub fn fixed_erasable_pair_forbids_surjective()
     ensures { (r s : LocalRule) (letters : List ℕ) (p : ℕ) → IsRule r → IsFixedReached r letters p → first_of r p ≡ second_of r p → IsCompletion r.states r.width letters s → ¬ IsSurjective s }
 {}
@@ -53,8 +54,8 @@ pub fn fixed_endless_nodes_forbid_injective()
         → Contains on p → Contains back p → first_of r p ≢ second_of r p → IsCompletion r.states r.width letters s → ¬ IsInjective s }
 {}
 
-/// Law: suppose that the two nodes of a window are in the same tree of a forest. Then their levels determine the
-/// letter that each conserving rule with the fixed letters gives for this window.
+/// Law: suppose that the two nodes of a window are in the same tree of a forest for the fixed letters. Then their
+/// levels determine the letter that each conserving rule with the fixed letters gives for this window.
 pub fn levels_give_letters_of_conserving()
     ensures { (r s : LocalRule) (letters trees levels : List ℕ) (w : ℕ) → IsRule r → AreKnown r letters trees levels → IsCompletion r.states r.width letters s → IsConserving (λ a. a) s → w < r.states ^ r.width
         → slice_index trees (w / r.states) ≡ slice_index trees (w % node_count r) → slice_index s.table w + slice_index levels (w % node_count r) ≡ w / node_count r + slice_index levels (w / r.states) }

@@ -8,8 +8,9 @@ use crate::letters::{Letters, are_one};
 use crate::reach::Links;
 use word_image::{Rule, Side};
 
-/// Returns true if the fixed letters lead from a node with itself, first to two different nodes, to this pair. It
-/// follows the links `before` from the pair backward, and tests each step. If a link is wrong, it may return false.
+/// Returns true only if the fixed letters lead from a node with itself, first to two different nodes, to this pair.
+/// It follows the links `before` from the pair backward, and tests each step. If a link is wrong, it may return
+/// false.
 pub(crate) fn is_tail(
     side: Side,
     shape: &Rule,
@@ -34,7 +35,7 @@ pub(crate) fn is_tail(
     false
 }
 
-/// Returns true if the fixed letters lead from this pair around a loop back to the pair. It follows the links
+/// Returns true only if the fixed letters lead from this pair around a loop back to the pair. It follows the links
 /// `after`, and tests each step. If a link is wrong, it may return false.
 pub(crate) fn is_round(
     side: Side,
