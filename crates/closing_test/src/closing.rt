@@ -22,8 +22,8 @@ pub enum Closing {
 }
 
 /// Returns the least right look-ahead if the rule is right-closing, and otherwise its least normal right split, as
-/// Tails whose middles and periods have at most 512 letters. The ranks belong to the rule. The only error is lack of
-/// memory.
+/// Tails whose middles and periods have at most 512 letters. `ranks` must be the ranks of the rule. The only error is
+/// lack of memory.
 pub fn right(
     alloc: Global,
     rule: &Rule,
@@ -37,7 +37,7 @@ pub fn right(
 }
 
 /// Returns the least right look-ahead of the rule of these pairs if the rule is right-closing, and otherwise its
-/// least normal right split. The ranks belong to the rule. The only error is lack of memory.
+/// least normal right split. `ranks` must be the ranks of the rule. The only error is lack of memory.
 pub fn right_over(
     alloc: Global,
     pairs: &Pairs,
@@ -55,8 +55,8 @@ pub fn right_over(
 }
 
 /// Returns the least left look-ahead if the rule is left-closing, and otherwise its least normal left split, as Tails
-/// whose middles and periods have at most 512 letters. The ranks belong to the rule. The only error is lack of
-/// memory.
+/// whose middles and periods have at most 512 letters. `ranks` must be the ranks of the rule. The only error is lack
+/// of memory.
 pub fn left(
     alloc: Global,
     rule: &Rule,
@@ -70,7 +70,7 @@ pub fn left(
 }
 
 /// Returns the least left look-ahead of the rule of these pairs if the rule is left-closing, and otherwise its least
-/// normal left split. The ranks belong to the rule. The only error is lack of memory.
+/// normal left split. `ranks` must be the ranks of the rule. The only error is lack of memory.
 pub fn left_over(
     alloc: Global,
     pairs: &Pairs,

@@ -16,7 +16,7 @@ use pair_rank::Ranks;
 use word_image::{Rule, Side};
 
 /// Returns the least right look-ahead, at most 121, or None if there is none, which means that the rule isn't
-/// right-closing. The ranks belong to the rule. Every rule that has a look-ahead is surjective.
+/// right-closing. `ranks` must be the ranks of the rule. Every rule that has a look-ahead is surjective.
 pub fn ahead_right(rule: &Rule, ranks: &Ranks) -> Option<u16>
     requires { ranks.now ≡ rule.now }
     ensures closing { IsSome result ↔ IsRightClosing rule.now }
@@ -30,8 +30,8 @@ pub fn ahead_right(rule: &Rule, ranks: &Ranks) -> Option<u16>
 }
 
 /// Returns the least left look-ahead, at most 121, or None if there is none, which means that the rule isn't
-/// left-closing. It is the least right look-ahead of the mirrored rule. The ranks belong to the rule. Every rule that
-/// has a look-ahead is surjective.
+/// left-closing. The least left look-ahead is the least right look-ahead of the mirrored rule. `ranks` must be the
+/// ranks of the rule. Every rule that has a look-ahead is surjective.
 pub fn ahead_left(rule: &Rule, ranks: &Ranks) -> Option<u16>
     requires { ranks.now ≡ rule.now }
     ensures closing { IsSome result ↔ IsLeftClosing rule.now }

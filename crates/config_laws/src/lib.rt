@@ -141,19 +141,21 @@ pub fn closing_is_continuing()
     ensures left { (r : LocalRule) → IsRule r → IsLeftClosing r → IsLeftContinuingMap r }
 {}
 
-/// Law: a rule closes on both sides if and only if its map is open (Hedlund 1969). If the map is open, one distance
-/// serves for all configurations, and each configuration is an image.
+/// Law: a rule closes on both sides if and only if its map is open (Hedlund 1969). An open map is uniformly open: how
+/// near a configuration must be to the image of x, to be the image of a configuration near x, doesn't depend on x.
+/// Under an open map each configuration is an image.
 pub fn open_is_open_map()
     ensures exactly { (r : LocalRule) → IsRule r → (IsOpen r ↔ IsOpenMap r) }
     ensures evenly { (r : LocalRule) → IsRule r → (IsOpen r ↔ IsEvenlyOpenMap r) }
     ensures onto { (r : LocalRule) → IsRule r → IsOpen r → IsOntoMap r }
 {}
 
-/// Law: a rule keeps the sums of rings if and only if it has a flux (Hattori and Takesue 1991). If phi is a flux, the
-/// weight of n letters of the image, minus the weight of n letters of the configuration, is the difference of the
-/// numbers that phi gives to the nodes at the two ends. So a rule keeps the sums of rings if and only if it keeps the
-/// sums of finite configurations. Another equivalent property: each change of finitely many letters changes the
-/// weight of the image by the same amount as the weight of the letters.
+/// Law: a rule keeps the sums of rings if and only if it has a flux (Hattori and Takesue 1991). Suppose that phi is a
+/// flux, and compare n consecutive cells of a configuration with the n cells of its image for the windows that begin
+/// at these cells. The weight of these cells of the image, minus the weight of the cells of the configuration, is the
+/// difference of the numbers that phi gives to the nodes at the two ends. So a rule keeps the sums of rings if and
+/// only if it keeps the sums of finite configurations. Another equivalent property: each change of finitely many
+/// letters changes the weight of the image by the same amount as the weight of the letters.
 pub fn conserving_everywhere()
     ensures has_flux { (weight : ℕ → ℕ) (r : LocalRule) → IsRule r → (IsConserving weight r ↔ ((phi : List ℤ) × IsFlux weight r phi)) }
     ensures flux { (weight : ℕ → ℕ) (r : LocalRule) (phi : List ℤ) (x : Config) (i : ℤ) (n : ℕ) → IsRule r → IsFlux weight r phi → IsConfig r.states x → (pos (weight_on weight (image_of r x) i n) -ℤ pos (weight_on weight x (i +ℤ r.offset) n)) ≡ (flow_under r phi x i -ℤ flow_under r phi x (i +ℤ pos n)) }

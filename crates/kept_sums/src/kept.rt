@@ -104,7 +104,8 @@ fn narrowed_by_rings(rule: &Rule, range: u8, sums: KeptSums, count: u8) -> KeptS
     sums
 }
 
-/// Returns whether the rule keeps the sum of each row that has a number other than 0 at its own place.
+/// Returns whether the rule keeps the sum of each row that has a number other than 0 at its own place. The own place
+/// of row i is place i.
 fn are_kept(rule: &Rule, range: u8, rows: &Rows) -> bool
     requires some { 1 ≤ range }
     requires few { rule.now.states ^ range ≤ 16 }

@@ -51,7 +51,8 @@ impl WalkTree {
         WalkTree::within(alloc, pairs, start, MOST_STEPS)
     }
 
-    /// Finds the least walks of at most `most` steps from this marked pair. The only error is lack of memory.
+    /// Finds the least walks of at most `most` steps from this marked pair to all others. The only error is lack of
+    /// memory.
     pub fn within(
         alloc: Global,
         pairs: &Pairs,

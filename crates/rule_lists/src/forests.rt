@@ -12,7 +12,7 @@ use word_image::{MOST_NODES, Rule, Side};
 pub(crate) struct Forest {
     /// For each node the number of its tree.
     pub(crate) trees: [u8; MOST_NODES],
-    /// For each node its level.
+    /// For each node its level in its tree.
     pub(crate) levels: [u32; MOST_NODES],
 }
 

@@ -28,7 +28,7 @@ pub(crate) struct Hint {
     reach: Reach,
     /// The search for loops, with the loop that it found last.
     rounds: Rounds,
-    /// The number of the pair in the last hint. It has two equal nodes or is on a loop.
+    /// The number of the pair in the last hint. This pair has two equal nodes or is on a loop.
     pair: u8,
 }
 

@@ -21,8 +21,8 @@ pub struct Beginning {
     pub given: u16,
 }
 
-/// Reads the beginning of a table text: a head, and at most as many digits as there are windows. Returns the text's
-/// first fault if it isn't such a beginning. The faults are those of a rule's text, with two differences. `Length`
+/// Reads the beginning of a table text: a head, and at most as many digits as there are windows. Returns the first
+/// fault if the text isn't such a beginning. The faults are those of a rule's text, with two differences. `Length`
 /// means that there are more digits than windows. `Kind` means that the text gives a number instead of a table.
 pub fn parse_beginning(text: &[u8]) -> Result<Beginning, TextFault>
     ensures beginning { IfOk result (λ b. IsBeginning text.now b) }

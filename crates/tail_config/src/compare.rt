@@ -22,8 +22,8 @@ pub fn differ(a: &Tail, b: &Tail) -> Option<i64>
     }
 }
 
-/// Returns the nearer to 0 of two places: the place `right`, and the place `left` cells to the left of -1. Returns
-/// `right` if both are equally near.
+/// Returns one of two places, namely the one nearer to 0: the place `right`, or the place `left` cells to the left of
+/// -1. Returns `right` if both are equally near.
 fn nearer(right: usize, left: usize) -> i64
     requires near_right { right ≤ 2 ^ 12 }
     requires near_left { left ≤ 2 ^ 12 }

@@ -46,8 +46,8 @@ pub struct TailRefusal {
     pub right: Vec<u8>,
 }
 
-/// Checks whether three parts form a Tail over the letters below k. Returns their first fault otherwise, in the order
-/// of `TailFault` and, for the same fault, with the parts from left to right.
+/// Checks whether three parts form a Tail over the letters below k. Otherwise returns the first fault, in the order
+/// of `TailFault`. Of two faults of the same kind, the fault of the part further to the left comes first.
 pub fn check_parts(k: u8, left: &[u8], middle: &[u8], right: &[u8]) -> Result<(), TailFault>
     ensures { result_err result ≡ tail_fault k (config_of left.now middle.now right.now) }
 {

@@ -133,7 +133,7 @@ impl Tail {
         rule.apply(window)
     }
 
-    /// Writes the letters at the places from `start` on into the row.
+    /// Writes the letters of the Tail at the places from `start` on into the row.
     fn write_cells(&self, start: i64, row: &mut [u8])
         requires { (start +ℤ pos (length row.old)) <ℤ pos (2 ^ 63) }
         ensures { row.new ≡ cells self.now.config start (length row.old) }
