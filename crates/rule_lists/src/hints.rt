@@ -144,7 +144,7 @@ pub struct Hints {
     first: Hint,
     /// The hints on the left side for open rules, and None for all other properties.
     second: Option<Hint>,
-    /// Whether `see` looked at the second hints last.
+    /// Whether `see` looked last at the hints in `second`.
     turned: bool,
 }
 

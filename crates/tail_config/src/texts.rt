@@ -49,8 +49,8 @@ pub fn has_form(text: &[u8]) -> bool
     }
 }
 
-/// Reads a Tail over the letters below k, from 2 to 16. Returns the first fault of the text, in the order of
-/// `TailTextFault`.
+/// Reads a Tail over the letters below k, from 2 to 16. If the text doesn't describe a Tail, returns its first fault,
+/// in the order of `TailTextFault`. Returns `Memory` only if there is not enough memory.
 pub fn parse(alloc: Global, k: u8, text: &[u8]) -> Result<Tail, TailTextFault>
     requires least { 2 ≤ k }
     requires most { k ≤ most_states }
