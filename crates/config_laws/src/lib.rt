@@ -16,15 +16,18 @@
 //! configurations as for configurations with periodic tails. Surjective means that the images are dense. Conserving
 //! means that finite configurations keep their sums.
 //!
-//! A rule that closes on both sides is open. Let n be a right look-ahead and l = m - 2 + n. Suppose that some walk
-//! from a node writes a word of l letters as its labels. Then after each letter that can follow the node there is a
-//! walk that writes the same word: append the letter to a preimage that ends with the node, and take its image. The
-//! look-ahead determines this letter from the image, so no word with the same beginning is missed. Hence a
-//! configuration that agrees with an image at l places can be followed to the right for ever, and with a left
-//! look-ahead to the left. Conversely, suppose that an open rule has a right split. From the node before the split,
-//! two walks write the same word. Each walk can be continued by anything, for example by a walk back to the node and
-//! then by the split again. After some rounds there are more walks than nodes, and two walks that end at the same
-//! node form an erasable pair.
+//! A rule that closes on both sides is open. Let n be a right look-ahead and l = m - 2 + n. Suppose that a walk from
+//! a node writes a word of l letters, which means that its edges have these labels. Then for each letter b some walk
+//! from the node writes this word followed by b. The reason is a count. Take a word x of l + m - 1 letters that
+//! begins with the node, and a letter b. Put b into x right after the node. The image of the longer word has l + 1
+//! letters. By the look-ahead it determines b and the image of x. So walks from the node write at least as many words
+//! of l + 1 letters as there are words that consist of an image of such an x and a letter. No other words of l + 1
+//! letters can be written, so none of these words is missed. Hence a configuration that agrees with an image at l
+//! places can be followed to the right for ever, and with a left look-ahead to the left.
+//!
+//! Conversely, suppose that an open rule has a right split. From the node before the split, two walks write the same
+//! word. Each walk can be continued by anything, for example by a walk back to the node and then by the split again.
+//! After some rounds there are more walks than nodes, and two walks that end at the same node form an erasable pair.
 //!
 //! An injective rule is open, so it maps the configurations one-to-one onto all configurations, and the rings of each
 //! length, too. It has an inverse map. The composition of two rules is surjective, injective, closing on a side or
