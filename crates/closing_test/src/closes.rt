@@ -1,4 +1,4 @@
-//! Whether a rule closes on a side, without the look-ahead or the split that shows it.
+//! The tests whether a rule closes on a side, without the look-ahead or the split that shows it.
 
 ghost use Rattle.std.specs.Prelude.{◌^◌, ◌<◌, ◌↔◌, ℕ, IsBitSet, IsTrue};
 ghost use Rattle.word_image.specs.LocalRules.{node_count, most_nodes};
@@ -28,7 +28,7 @@ pub fn is_left_closing(endless: &Endless) -> bool
     closes(Side::Left, endless)
 }
 
-/// Returns whether the rule closes on this side.
+/// Returns whether the rule closes on this side: whether no first pair on this side is endless.
 fn closes(side: Side, endless: &Endless) -> bool
     ensures { IsTrue result ↔ IsClosing side endless.now }
 {
@@ -40,7 +40,8 @@ fn closes(side: Side, endless: &Endless) -> bool
     true
 }
 
-/// Returns whether the ends of this window and of some other one are an endless first pair.
+/// Returns whether this window and some other window have an endless first pair at their ends. The two windows have
+/// equal labels and differ only in the letter at their end on this side.
 fn is_endless_at(side: Side, endless: &Endless, window: u16) -> bool
     requires { window < endless.now.states ^ endless.now.width }
     ensures { IsTrue result ↔ IsEndlessAt side endless.now window }
@@ -53,7 +54,7 @@ fn is_endless_at(side: Side, endless: &Endless, window: u16) -> bool
     false
 }
 
-/// Returns whether the ends of this window and of the window with this letter at its end are an endless first pair.
+/// Returns whether this window and the window that has `letter` at its end have an endless first pair at their ends.
 fn is_endless_with(side: Side, endless: &Endless, window: u16, letter: u8) -> bool
     requires window { window < endless.now.states ^ endless.now.width }
     requires letter { letter < endless.now.states }
@@ -65,7 +66,7 @@ fn is_endless_with(side: Side, endless: &Endless, window: u16, letter: u8) -> bo
     endless_nodes(side, endless, u) >> v & 1 == 1
 }
 
-/// Returns the nodes that are endless with u on this side. Bit v stands for node v.
+/// Returns the nodes that are endless with the node u on this side. Bit v stands for node v.
 fn endless_nodes(side: Side, endless: &Endless, u: u8) -> u16
     requires { u < node_count endless.now }
     ensures { (v : ℕ) → v < most_nodes → (IsBitSet result v ↔ IsEndless (Together side endless.now u v)) }

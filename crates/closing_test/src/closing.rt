@@ -1,4 +1,4 @@
-//! Whether a rule closes on a side, with evidence.
+//! Decides whether a rule closes on a side, with evidence.
 
 ghost use Rattle.std.specs.Prelude.{◌≡◌, IfOk};
 ghost use Rattle.closing_test.specs.Closing.{IsRightAnswer, IsLeftAnswer};
@@ -15,14 +15,15 @@ use word_image::Rule;
 /// The evidence that a rule closes on a side, or that it doesn't.
 #[derive(Debug, Drop)]
 pub enum Closing {
-    /// It closes, and this is its least look-ahead.
+    /// The rule closes, and this is its least look-ahead.
     Ahead(u16),
-    /// It doesn't close, and this is its least normal split.
+    /// The rule doesn't close, and this is its least normal split.
     Split(Tail, Tail),
 }
 
 /// Returns the least right look-ahead if the rule is right-closing, and otherwise its least normal right split, as
-/// Tails whose middles and periods have at most 512 letters. The ranks belong to the rule.
+/// Tails whose middles and periods have at most 512 letters. `ranks` must be the ranks of the rule. The only error is
+/// lack of memory.
 pub fn right(
     alloc: Global,
     rule: &Rule,
@@ -35,7 +36,8 @@ pub fn right(
     right_over(alloc, &Pairs::of(rule), ranks, walker)
 }
 
-/// Does the same as `right` for the rule of these pairs.
+/// Returns the least right look-ahead of the rule of these pairs if the rule is right-closing, and otherwise its
+/// least normal right split. `ranks` must be the ranks of the rule. The only error is lack of memory.
 pub fn right_over(
     alloc: Global,
     pairs: &Pairs,
@@ -53,7 +55,8 @@ pub fn right_over(
 }
 
 /// Returns the least left look-ahead if the rule is left-closing, and otherwise its least normal left split, as Tails
-/// whose middles and periods have at most 512 letters. The ranks belong to the rule.
+/// whose middles and periods have at most 512 letters. `ranks` must be the ranks of the rule. The only error is lack
+/// of memory.
 pub fn left(
     alloc: Global,
     rule: &Rule,
@@ -66,7 +69,8 @@ pub fn left(
     left_over(alloc, &Pairs::of(rule), ranks, walker)
 }
 
-/// Does the same as `left` for the rule of these pairs.
+/// Returns the least left look-ahead of the rule of these pairs if the rule is left-closing, and otherwise its least
+/// normal left split. `ranks` must be the ranks of the rule. The only error is lack of memory.
 pub fn left_over(
     alloc: Global,
     pairs: &Pairs,

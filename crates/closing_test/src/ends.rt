@@ -1,4 +1,4 @@
-//! Windows that differ only in the letter at an end.
+//! First pairs, found from two windows that differ only in the letter at their end on one side.
 
 ghost use Rattle.std.specs.Prelude.{◌≡◌, ◌^◌, ◌<◌, MatchOption};
 ghost use Rattle.word_image.specs.LocalRules.{IsRule};
@@ -7,8 +7,8 @@ ghost use Rattle.closing_test.specs.Sides.{IsFound};
 
 use word_image::{Rule, Side};
 
-/// Returns the nodes at the ends of this window and of the window with this letter at its end, if these are two
-/// windows with equal labels.
+/// Returns the node at the end of this window and the node at the end of the window with `letter` at its end. Returns
+/// None if the two windows are equal or have different labels. So the two nodes are a first pair.
 pub fn first_nodes(side: Side, rule: &Rule, window: u16, letter: u8) -> Option<(u8, u8)>
     requires window { window < rule.now.states ^ rule.now.width }
     requires letter { letter < rule.now.states }
@@ -23,7 +23,7 @@ pub fn first_nodes(side: Side, rule: &Rule, window: u16, letter: u8) -> Option<(
     Some((node, side.end_node(rule, other)))
 }
 
-/// Returns the window with this letter at its end on this side.
+/// Returns the window that has `letter` at its end on this side, and otherwise the same letters as `window`.
 fn with_end(side: Side, rule: &Rule, window: u16, letter: u8) -> u16
     requires window { window < rule.now.states ^ rule.now.width }
     requires letter { letter < rule.now.states }

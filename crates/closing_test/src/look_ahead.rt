@@ -1,4 +1,4 @@
-//! The least look-aheads.
+//! Finds the least look-aheads of a rule.
 
 ghost use Rattle.std.specs.Prelude.{◌≡◌, ◌^◌, ◌<◌, ◌≤◌, ◌↔◌, ℕ, IsSome, IfSome, IfNone, MatchOption};
 ghost use Rattle.word_image.specs.LocalRules.{IsRule, mirrored};
@@ -16,7 +16,7 @@ use pair_rank::Ranks;
 use word_image::{Rule, Side};
 
 /// Returns the least right look-ahead, at most 121, or None if there is none, which means that the rule isn't
-/// right-closing. The ranks belong to the rule. A rule that has a look-ahead is surjective.
+/// right-closing. `ranks` must be the ranks of the rule. Every rule that has a look-ahead is surjective.
 pub fn ahead_right(rule: &Rule, ranks: &Ranks) -> Option<u16>
     requires { ranks.now ≡ rule.now }
     ensures closing { IsSome result ↔ IsRightClosing rule.now }
@@ -30,8 +30,8 @@ pub fn ahead_right(rule: &Rule, ranks: &Ranks) -> Option<u16>
 }
 
 /// Returns the least left look-ahead, at most 121, or None if there is none, which means that the rule isn't
-/// left-closing. It is the least right look-ahead of the mirrored rule. The ranks belong to the rule. A rule that has
-/// a look-ahead is surjective.
+/// left-closing. The least left look-ahead is the least right look-ahead of the mirrored rule. `ranks` must be the
+/// ranks of the rule. Every rule that has a look-ahead is surjective.
 pub fn ahead_left(rule: &Rule, ranks: &Ranks) -> Option<u16>
     requires { ranks.now ≡ rule.now }
     ensures closing { IsSome result ↔ IsLeftClosing rule.now }
@@ -45,7 +45,7 @@ pub fn ahead_left(rule: &Rule, ranks: &Ranks) -> Option<u16>
 }
 
 /// Returns the least look-ahead on a side: 2 more than the greatest rank of a first pair, or 1 if there is no first
-/// pair.
+/// pair. Returns None if some first pair is endless.
 fn least_ahead(side: Side, rule: &Rule, ranks: &Ranks) -> Option<u16>
     requires { ranks.now ≡ rule.now }
     ensures closing { IsSome result ↔ IsClosing side rule.now }
@@ -61,8 +61,8 @@ fn least_ahead(side: Side, rule: &Rule, ranks: &Ranks) -> Option<u16>
     Some(ahead)
 }
 
-/// Returns the least look-ahead for the first pairs at the ends of this window and other ones, or None if one of them
-/// is endless.
+/// Returns 2 more than the greatest rank of a first pair that this window forms with another window, or 1 if it forms
+/// none. Returns None if such a pair is endless. The nodes of the pair are the ends of the two windows.
 fn ahead_at(side: Side, rule: &Rule, ranks: &Ranks, window: u16) -> Option<u16>
     requires ranks { ranks.now ≡ rule.now }
     requires window { window < rule.now.states ^ rule.now.width }
@@ -76,8 +76,8 @@ fn ahead_at(side: Side, rule: &Rule, ranks: &Ranks, window: u16) -> Option<u16>
     Some(ahead)
 }
 
-/// Does the same for the pair at the ends of this window and of the window with this letter at its end, if it is a
-/// first pair.
+/// Returns 2 more than the rank of the first pair that this window forms with the window that has `letter` at its
+/// end, or 1 if they form none. Returns None if the pair is endless.
 fn ahead_with(side: Side, rule: &Rule, ranks: &Ranks, window: u16, letter: u8) -> Option<u16>
     requires ranks { ranks.now ≡ rule.now }
     requires window { window < rule.now.states ^ rule.now.width }

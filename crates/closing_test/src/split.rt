@@ -1,4 +1,4 @@
-//! The least normal right split.
+//! Finds the least normal right split of a rule.
 
 ghost use Rattle.std.specs.Prelude.{◌≡◌, ◌+◌, ◌*◌, ◌<◌, ◌≤◌, All, IfOk, IfSome, map};
 ghost use Rattle.least_walk.specs.Queues.{most_steps};
@@ -16,14 +16,14 @@ use pair_graph::Pairs;
 use std::alloc::{AllocError, Global};
 use tail_config::Tail;
 
-/// One of the letters of a pair of letters.
+/// Which letter of a pair of letters is meant.
 #[derive(Clone, Copy)]
 pub enum Letter {
     First,
     Second,
 }
 
-/// Returns the least normal right split of a rule that isn't right-closing.
+/// Returns the least normal right split of a rule that isn't right-closing. The only error is lack of memory.
 pub fn least_split(
     alloc: Global,
     pairs: &Pairs,
@@ -41,8 +41,9 @@ pub fn least_split(
     Ok((first, second))
 }
 
-/// Returns the walks of the least normal right split, if there is one: the least of at most one candidate for each
-/// state of the marked graph. States with short middles come first, so that later searches for periods are short.
+/// Returns the walks of the least normal right split, or None if there is no such split. For each state of the marked
+/// graph it looks at one split at most. States with short middles come first, so that later searches for periods are
+/// short. The only error is lack of memory.
 fn least_walks(
     alloc: Global,
     pairs: &Pairs,
@@ -60,8 +61,9 @@ fn least_walks(
     Ok(best)
 }
 
-/// Returns the least split that is found among those whose period is one pair of letters, if any. It keeps the
-/// searches for longer periods short.
+/// Returns the walks of the least split at the states from which one pair of letters leads back to their pair, with
+/// the mark. Returns None if there is no such split. A small split keeps later searches for longer periods short. The
+/// only error is lack of memory.
 fn short_walks(
     alloc: Global,
     pairs: &Pairs,
@@ -86,7 +88,8 @@ fn short_walks(
     Ok(best)
 }
 
-/// Returns the Tail of one letter of each pair of letters of two walks, with the letter 0 for ever on the left.
+/// Returns the Tail of the first letters, or of the second letters, of the pairs of letters of two walks. Its left
+/// period is the letter 0. The only error is lack of memory.
 fn tail_of(alloc: Global, k: u8, walks: &Walks, letter: Letter) -> Result<Tail, AllocError>
     requires least { 2 ≤ k }
     requires most { k ≤ most_states }
@@ -102,7 +105,7 @@ fn tail_of(alloc: Global, k: u8, walks: &Walks, letter: Letter) -> Result<Tail, 
     }
 }
 
-/// Returns one letter of each pair of letters.
+/// Returns the first letter, or the second letter, of each pair of letters. The only error is lack of memory.
 fn letters(alloc: Global, steps: &[u8], letter: Letter) -> Result<Vec<u8>, AllocError>
     ensures { IfOk result (λ letters. letters.items ≡ map (letter_of letter) steps.now) }
 {

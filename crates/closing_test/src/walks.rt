@@ -1,4 +1,4 @@
-//! Splits as two walks of pairs.
+//! Splits, stored as two walks of pairs of nodes.
 
 ghost use Rattle.std.specs.Prelude.{◌≡◌, ◌*◌, ◌+◌, ◌<◌, ◌≤◌, ◌↔◌, IfOk, IsTrue, MatchOption, length};
 ghost use Rattle.std.specs.Option.{SomeIff};
@@ -11,13 +11,14 @@ use least_walk::{MOST_STEPS, WalkTree, Walker};
 use pair_graph::Pairs;
 use std::alloc::{AllocError, Global};
 
-/// Two walks of pairs of letters, where the pair (a, b) is a * 16 + b, that form two Tails with the same image: the
-/// letter 0 for ever, the letters of the first walk, and the letters of the second walk for ever.
+/// Two walks of pairs of letters, where the pair (a, b) is a * 16 + b. They form two Tails with the same image. Each
+/// Tail has the left period 0, the letters of the first walk as its middle, and the letters of the second walk as its
+/// right period.
 #[derive(Debug, Drop)]
 pub struct Walks {
-    /// From the pair of the node of zeros with itself, without a mark, to a state of the marked graph.
+    /// The walk from the pair of the node of zeros with itself, without a mark, to a state of the marked graph.
     pub middle: Vec<u8>,
-    /// From that state back to its pair, with the mark.
+    /// The walk from that state back to its pair of nodes, with the mark.
     pub period: Vec<u8>,
     ghost short_middle: { length middle.items ≤ most_steps },
     ghost short_period: { length period.items ≤ most_steps },
@@ -26,14 +27,14 @@ pub struct Walks {
 impl Walks {
     ghost use Rattle.closing_test.specs.Walks.{ComesBefore, IsMostAfter, IsNoneBefore, AreEarlier, split_by};
 
-    /// Returns the number of letters of both walks.
+    /// Returns the number of steps of both walks together.
     fn letters(&self) -> usize
         ensures { result ≡ length self.now.middle.items + length self.now.period.items }
     {
         self.middle.len() + self.period.len()
     }
 
-    /// Returns whether the split of these walks is greater than the split of the others.
+    /// Returns whether the split of these walks is greater than the split of the walks `other`.
     fn is_after(&self, other: &Walks) -> bool
         ensures { IsTrue result ↔ (splits_cmp (split_by self.now) (split_by other.now) ≡ Greater) }
     {
@@ -46,8 +47,9 @@ impl Walks {
             .is_gt()
     }
 
-    /// Returns the walks of the least normal split at a state, if it is less than the best one so far. The middles
-    /// are the least walks from the pair of the node of zeros with itself.
+    /// Returns the walks of the least normal split at a state, or None if it isn't less than `best`, the least split
+    /// so far. `middles` has the least walks from the pair of the node of zeros with itself. The only error is lack
+    /// of memory.
     pub fn earlier(
         alloc: Global,
         pairs: &Pairs,
@@ -81,7 +83,7 @@ impl Walks {
         Ok(found.if_before(best))
     }
 
-    /// Returns these walks if their split is less than the best one so far.
+    /// Returns these walks if their split is less than `best`, the least split so far, and None otherwise.
     fn if_before(self, best: &Option<Walks>) -> Option<Walks>
         ensures { SomeIff result (ComesBefore (split_by self) best.now) self }
     {
@@ -91,9 +93,9 @@ impl Walks {
         }
     }
 
-    /// Returns the greatest number of steps of a period, after a middle of this length, for which the split can be
-    /// less than the best one so far. Of two splits with the same number of letters the one with the longer middle is
-    /// greater.
+    /// Returns how many steps the period after a middle of this length may have, so that the split can still be less
+    /// than `best`, the least split so far. Of two splits with the same number of letters the split with the longer
+    /// middle is greater.
     fn most_steps(best: &Option<Walks>, middle: usize) -> usize
         ensures { MatchOption best.now (result ≡ most_steps) (λ walks. IsMostAfter walks middle result) }
     {

@@ -1,28 +1,33 @@
-//! The verdicts for all configurations, which are all functions from the integers to letters. The other crates state
-//! them for words, rings and configurations with periodic tails, which can be written down. The laws of this crate
-//! show that the two are equivalent.
+//! Laws of the verdicts for all configurations, which are all functions from the integers to letters. The other
+//! crates state the verdicts for words, rings and configurations with periodic tails, which can be written down. The
+//! laws of this crate show that both kinds of statements are equivalent.
 //!
-//! The image of a configuration has at each place the letter that the rule gives for its window. Two configurations
-//! are near each other if they agree from -n to n for a large n. In this sense a map is open, or its images are
-//! dense. Two configurations agree far to the left if they agree at every place to the left of some place.
+//! The image of a configuration has at each place the letter that the rule gives for the window of this place. Two
+//! configurations are near each other if they agree from -n to n for a large n. In this sense a map is open, or its
+//! images are dense. Two configurations agree far to the left if they agree at every place to the left of some place.
 //!
 //! Rule 90, the sum of the two neighbours, closes on both sides: every configuration near the image of x is the image
 //! of a configuration near x. Rule 30 is surjective and has a right split: its images are dense, but its map isn't
 //! open.
 //!
-//! A determined window and a look-ahead are statements about words, so they hold for the words of every
-//! configuration. Therefore injective, closing and preinjective mean the same for all configurations as for those
-//! with periodic tails. Surjective means that the images are dense. Conserving means that finite configurations keep
-//! their sums.
+//! A determined window says that n letters of an image determine one letter of a preimage. A look-ahead says that
+//! m - 1 letters and n letters of the image determine the next letter. Both are statements about words, so they hold
+//! for the words of every configuration. Therefore injective, closing and preinjective mean the same for all
+//! configurations as for configurations with periodic tails. Surjective means that the images are dense. Conserving
+//! means that finite configurations keep their sums.
 //!
-//! A rule that closes on both sides is open. Let n be a right look-ahead and l = m - 2 + n. If some walk from a node
-//! writes a word of l letters, then so does some walk that continues after any further letter: append the letter to a
-//! preimage that ends with the node, and take its image. The look-ahead determines this letter from the image, so no
-//! word with the same beginning is missed. Hence a configuration that agrees with an image at l places can be
-//! followed to the right for ever, and with a left look-ahead to the left. Conversely, suppose that an open rule has
-//! a right split. From the node before it, two walks write the same word. Each can be continued by anything, for
-//! example by a walk back to the node and then by the split again. After some rounds there are more walks than nodes,
-//! and two that end at the same node form an erasable pair.
+//! A rule that closes on both sides is open. Let n be a right look-ahead and l = m - 2 + n. Suppose that a walk from
+//! a node writes a word of l letters, which means that its edges have these labels. Then for each letter b some walk
+//! from the node writes this word followed by b. The reason is a count. Take a word x of l + m - 1 letters that
+//! begins with the node, and a letter b. Put b into x right after the node. The image of the longer word has l + 1
+//! letters. By the look-ahead it determines b and the image of x. So walks from the node write at least as many words
+//! of l + 1 letters as there are words that consist of an image of such an x and a letter. No other words of l + 1
+//! letters can be written, so none of these words is missed. Hence a configuration that agrees with an image at l
+//! places can be followed to the right for ever, and with a left look-ahead to the left.
+//!
+//! Conversely, suppose that an open rule has a right split. From the node before the split, two walks write the same
+//! word. Each walk can be continued by anything, for example by a walk back to the node and then by the split again.
+//! After some rounds there are more walks than nodes, and two walks that end at the same node form an erasable pair.
 //!
 //! An injective rule is open, so it maps the configurations one-to-one onto all configurations, and the rings of each
 //! length, too. It has an inverse map. The composition of two rules is surjective, injective, closing on a side or
@@ -30,16 +35,16 @@
 //!
 //! Under a surjective rule at most k^(m - 1) different configurations have the same image. So each preimage x of a
 //! periodic configuration is periodic. To see this, take the nodes of x at places that are one period of the image
-//! apart. Among k^(m - 1) + 1 of them two are equal. Repeat the part of x between these two for ever, and you have a
-//! periodic preimage z. Suppose that x differs from z on the right. Take z to the left of a node and x to the right
-//! of it, and move the node by one period of z, by two, and so on. All these configurations have the same image, and
-//! all differ, so there are too many. Two equal nodes in a preimage of a ring that is repeated often enough give a
-//! ring, too: its image is the first ring, repeated a few times.
+//! apart. Among k^(m - 1) + 1 of these nodes two are equal. Repeat the part of x between these two for ever, and you
+//! have a periodic preimage z. Suppose that x differs from z on the right. Take z to the left of a node and x to the
+//! right of it, and move the node by one period of z, by two, and so on. All these configurations have the same
+//! image, and all differ, so there are too many. Two equal nodes in a preimage of a ring that is repeated often
+//! enough give a ring, too: its image is the first ring, repeated a few times.
 //!
 //! No law uses the law of the excluded middle. That a surjective rule maps onto all configurations can't be proved
-//! without a part of it, and `surjective_is_onto` says which part.
+//! without a part of this law, and `surjective_is_onto` says which part.
 //!
-//! The functions of this crate do nothing. The contract of each states a law.
+//! The functions of this crate do nothing. The contract of each function states a law.
 #![tactic(auto)]
 
 ghost use Rattle.std.specs.Prelude.{◌≡◌, ◌↔◌, ◌+◌, ◌-◌, ◌*◌, ◌≤◌, ℕ, List, length, ℤ, pos, ◌+ℤ◌, ◌-ℤ◌};
@@ -61,14 +66,14 @@ ghost use Rattle.config_laws.specs.Composed.{IsOneAfter, IsUndoneBy};
 ghost use Rattle.config_laws.specs.RingMaps.{IsBijectiveOnRings, IsOntoRings};
 
 /// Law: a rule is injective if and only if no two different configurations have the same image. The reason is a
-/// determined window: n letters of the image of any configuration determine one of its letters.
+/// determined window: n letters of the image of any configuration determine one letter of the configuration.
 pub fn injective_everywhere()
     ensures exactly { (r : LocalRule) → IsRule r → (IsInjective r ↔ IsInjectiveMap r) }
     ensures window { (r : LocalRule) (n c : ℕ) (x y : Config) (i : ℤ) → IsRule r → IsDetermined r n c → IsConfig r.states x → IsConfig r.states y → run (image_of r x) i n ≡ run (image_of r y) i n → x (i +ℤ r.offset +ℤ pos c) ≡ y (i +ℤ r.offset +ℤ pos c) }
 {}
 
 /// Law: a rule closes on a side if and only if no two different configurations that agree far out on the other side
-/// have the same image. The reason is a look-ahead.
+/// have the same image. The reason is a look-ahead on this side.
 pub fn closing_everywhere()
     ensures right { (r : LocalRule) → IsRule r → (IsRightClosing r ↔ IsRightClosingMap r) }
     ensures left { (r : LocalRule) → IsRule r → (IsLeftClosing r ↔ IsLeftClosingMap r) }
@@ -76,14 +81,13 @@ pub fn closing_everywhere()
     ensures left_ahead { (r : LocalRule) (n : ℕ) (x y : Config) (i : ℤ) → IsRule r → IsLeftAhead r n → IsConfig r.states x → IsConfig r.states y → run x (i +ℤ r.offset +ℤ pos 1) (r.width - 1) ≡ run y (i +ℤ r.offset +ℤ pos 1) (r.width - 1) → run (image_of r x) (i +ℤ pos 1 -ℤ pos n) n ≡ run (image_of r y) (i +ℤ pos 1 -ℤ pos n) n → x (i +ℤ r.offset) ≡ y (i +ℤ r.offset) }
 {}
 
-/// The Garden of Eden theorem for all configurations: a rule is surjective if and only if no two different
+/// Law (the Garden of Eden theorem for all configurations): a rule is surjective if and only if no two different
 /// configurations that agree far out on both sides have the same image.
 pub fn surjective_is_preinjective_everywhere()
     ensures { (r : LocalRule) → IsRule r → (IsSurjective r ↔ IsPreinjectiveMap r) }
 {}
 
-/// Law: a rule is surjective if and only if at most k^(m - 1) different configurations have the same image (Hedlund
-/// 1969).
+/// Law: a rule is surjective if and only if no image has more than k^(m - 1) different preimages (Hedlund 1969).
 pub fn surjective_is_few_to_one()
     ensures { (r : LocalRule) → IsRule r → (IsSurjective r ↔ ((xs : ℕ → Config) → ¬ AreMany r (node_count r) xs)) }
 {}
@@ -94,9 +98,9 @@ pub fn surjective_is_dense()
     ensures { (r : LocalRule) → IsRule r → (IsSurjective r ↔ IsDenseMap r) }
 {}
 
-/// Law: if `OneOfTwo` holds, a rule is surjective if and only if each configuration is an image (compactness).
-/// `OneOfTwo` is a form of the lesser limited principle of omniscience and follows from the law of the excluded
-/// middle. It is also necessary: it holds if every surjective rule maps onto all configurations.
+/// Law: if `OneOfTwo` holds, a rule is surjective if and only if each configuration is an image. The reason is
+/// compactness. `OneOfTwo` is a form of the lesser limited principle of omniscience and follows from the law of the
+/// excluded middle. It is also necessary: it holds if every surjective rule maps onto all configurations.
 pub fn surjective_is_onto()
     ensures exactly { OneOfTwo → (r : LocalRule) → IsRule r → (IsSurjective r ↔ IsOntoMap r) }
     ensures onto { (r : LocalRule) → IsRule r → IsOntoMap r → IsSurjective r }
@@ -110,9 +114,9 @@ pub fn surjective_is_onto_repeating()
     ensures { (r : LocalRule) → IsRule r → (IsSurjective r ↔ IsOntoTails r) }
 {}
 
-/// Law: a rule is surjective if and only if each ring, repeated l times for some l, is the image of a ring. Then some
-/// l of at most k^(m - 1) is enough. A rule is surjective if and only if each periodic configuration is the image of
-/// a periodic one (Hedlund 1969).
+/// Law: a rule is surjective if and only if each ring, repeated l times for some l, is the image of a ring. For a
+/// surjective rule some l of at most k^(m - 1) is enough. A rule is surjective if and only if each periodic
+/// configuration is the image of a periodic configuration (Hedlund 1969).
 pub fn surjective_on_rings()
     ensures exactly { (r : LocalRule) → IsRule r → (IsSurjective r ↔ IsOntoRings r) }
     ensures few { (r : LocalRule) (q : List ℕ) → IsRule r → IsSurjective r → IsRing r.states q
@@ -120,10 +124,11 @@ pub fn surjective_on_rings()
     ensures periodic { (r : LocalRule) → IsRule r → (IsSurjective r ↔ IsOntoPeriodic r) }
 {}
 
-/// Law: a rule is surjective if and only if each preimage of a periodic configuration is periodic. Then its period is
-/// l periods of the image for some l of at most k^(m - 1), or one period if the rule is injective (Hedlund 1969).
-/// Rule 90 reaches this bound: the configuration of ones is the image of 0 0 1 1 repeated for ever, which has period
-/// 4.
+/// Law: a rule is surjective if and only if each preimage of a periodic configuration is periodic. If the rule is
+/// surjective, the preimage has as a period l periods of the image, for some l of at most k^(m - 1). If the rule is
+/// injective, each period of the image is a period of the preimage (Hedlund 1969). Rule 90 reaches the bound
+/// k^(m - 1) = 4: the configuration of ones has period 1, and it is the image of 0 0 1 1 repeated for ever, which has
+/// period 4.
 pub fn periodic_preimages()
     ensures exactly { (r : LocalRule) → IsRule r → (IsSurjective r ↔ HasPeriodicPreimages r) }
     ensures period { (r : LocalRule) (x : Config) (p : ℕ) → IsRule r → IsSurjective r → IsConfig r.states x → HasPeriod p (image_of r x)
@@ -131,25 +136,29 @@ pub fn periodic_preimages()
     ensures injective { (r : LocalRule) (x : Config) (p : ℕ) → IsRule r → IsInjective r → IsConfig r.states x → HasPeriod p (image_of r x) → HasPeriod p x }
 {}
 
-/// Law: a rule that closes on a side is continuing on it: a configuration that agrees far out on the other side with
-/// the image of x is the image of a configuration that agrees there with x.
+/// Law: suppose that a rule closes on a side, and that a configuration agrees far out on the other side with the
+/// image of x. Then the configuration is the image of a configuration that agrees with x far out on the other side. A
+/// rule with this property is called continuing on the side.
 pub fn closing_is_continuing()
     ensures right { (r : LocalRule) → IsRule r → IsRightClosing r → IsRightContinuingMap r }
     ensures left { (r : LocalRule) → IsRule r → IsLeftClosing r → IsLeftContinuingMap r }
 {}
 
-/// Law: a rule closes on both sides if and only if its map is open (Hedlund 1969). Then one distance serves for all
-/// configurations, and each configuration is an image.
+/// Law: a rule closes on both sides if and only if its map is open (Hedlund 1969). An open map is uniformly open: how
+/// near a configuration must be to the image of x, to be the image of a configuration near x, doesn't depend on x.
+/// Under an open map each configuration is an image.
 pub fn open_is_open_map()
     ensures exactly { (r : LocalRule) → IsRule r → (IsOpen r ↔ IsOpenMap r) }
     ensures evenly { (r : LocalRule) → IsRule r → (IsOpen r ↔ IsEvenlyOpenMap r) }
     ensures onto { (r : LocalRule) → IsRule r → IsOpen r → IsOntoMap r }
 {}
 
-/// Law: a rule keeps the sums of rings if and only if it has a flux (Hattori and Takesue 1991). The weight of the
-/// image of a part of a configuration minus the weight of the part is the difference of the flux at the two ends. So
-/// a rule keeps the sums of rings if and only if it keeps the sums of finite configurations, and if and only if each
-/// change of finitely many letters changes the weight of the image by the same amount as the weight of the letters.
+/// Law: a rule keeps the sums of rings if and only if it has a flux (Hattori and Takesue 1991). Suppose that phi is a
+/// flux, and compare n consecutive cells of a configuration with the n cells of its image for the windows that begin
+/// at these cells. The weight of these cells of the image, minus the weight of the cells of the configuration, is the
+/// difference of the numbers that phi gives to the nodes at the two ends. So a rule keeps the sums of rings if and
+/// only if it keeps the sums of finite configurations. Another equivalent property: each change of finitely many
+/// letters changes the weight of the image by the same amount as the weight of the letters.
 pub fn conserving_everywhere()
     ensures has_flux { (weight : ℕ → ℕ) (r : LocalRule) → IsRule r → (IsConserving weight r ↔ ((phi : List ℤ) × IsFlux weight r phi)) }
     ensures flux { (weight : ℕ → ℕ) (r : LocalRule) (phi : List ℤ) (x : Config) (i : ℤ) (n : ℕ) → IsRule r → IsFlux weight r phi → IsConfig r.states x → (pos (weight_on weight (image_of r x) i n) -ℤ pos (weight_on weight x (i +ℤ r.offset) n)) ≡ (flow_under r phi x i -ℤ flow_under r phi x (i +ℤ pos n)) }
@@ -157,24 +166,25 @@ pub fn conserving_everywhere()
     ensures changes { (weight : ℕ → ℕ) (r : LocalRule) → IsRule r → (IsConserving weight r ↔ KeepsChanges weight r) }
 {}
 
-/// Law: the inverse map of a determined window maps the image of each configuration to the configuration, and the
-/// rule undoes the map.
+/// Law: a determined window has an inverse map. This map takes the image of each configuration back to the
+/// configuration, and the rule takes the result of the map back to its argument.
 pub fn inverse_everywhere()
     ensures back { (r : LocalRule) (n c : ℕ) (g : WindowMap) (x : Config) → IsRule r → IsDetermined r n c → IsInverseMap r n c g → IsConfig r.states x → mapped g (image_of r x) ≡ x }
     ensures forth { (r : LocalRule) (n c : ℕ) (g : WindowMap) (x : Config) → IsRule r → IsDetermined r n c → IsInverseMap r n c g → IsConfig r.states x → image_of r (mapped g x) ≡ x }
 {}
 
-/// Law: a rule is injective if and only if it maps the configurations one-to-one onto all configurations. Then it is
-/// open and has an inverse map by a determined window. By `inverse_everywhere` this is a cellular automaton that
-/// undoes the rule (Amoroso and Patt 1972).
+/// Law: a rule is injective if and only if it maps the configurations one-to-one onto all configurations. An
+/// injective rule is open and has an inverse map by a determined window. By `inverse_everywhere` this map is a
+/// cellular automaton that undoes the rule (Amoroso and Patt 1972).
 pub fn injective_is_bijective()
     ensures exactly { (r : LocalRule) → IsRule r → (IsInjective r ↔ IsBijectiveMap r) }
     ensures open_ { (r : LocalRule) → IsRule r → IsInjective r → IsOpen r }
     ensures inverse { (r : LocalRule) → IsRule r → IsInjective r → (n c : ℕ) × (g : WindowMap) × IsDetermined r n c × IsInverseMap r n c g }
 {}
 
-/// Law: a composition of two rules is surjective, injective, closing on a side or open if and only if both rules are,
-/// and it conserves the sums that both conserve. A rule is such a composition if it is one on words.
+/// Law: a composition of two rules is surjective, injective, closing on a side or open if and only if both rules are.
+/// It conserves the sums that both rules conserve. A rule is the composition of two rules if this holds for the
+/// images of words and if its width and its offset fit.
 pub fn composed_everywhere()
     ensures surjective { (r s t : LocalRule) → IsRule r → IsRule s → IsRule t → IsOneAfter r s t → (IsSurjective t ↔ (IsSurjective r × IsSurjective s)) }
     ensures injective { (r s t : LocalRule) → IsRule r → IsRule s → IsRule t → IsOneAfter r s t → (IsInjective t ↔ (IsInjective r × IsInjective s)) }
@@ -187,7 +197,7 @@ pub fn composed_everywhere()
         → ((x : List ℕ) → IsWord r.states x → t.width ≤ length x + 1 → image t x ≡ image s (image r x)) → IsOneAfter r s t }
 {}
 
-/// Law: if one rule undoes another, the other undoes the first. Both are injective, and they conserve the same sums.
+/// Law: if a rule s undoes a rule r, then r undoes s, too. Both rules are injective, and they conserve the same sums.
 pub fn undone_everywhere()
     ensures rings { (r s : LocalRule) (p : List ℕ) → IsUndoneBy r s → IsRing r.states p → ring_image s (ring_image r p) ≡ p }
     ensures turned { (r s : LocalRule) → IsRule r → IsUndoneBy r s → IsUndoneBy s r }

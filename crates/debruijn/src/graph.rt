@@ -1,4 +1,4 @@
-//! The graph with its tables.
+//! The de Bruijn graph of a rule, stored in tables.
 
 ghost use Rattle.std.specs.Prelude.{◌≡◌, ◌<◌, ℕ, List, [], ◌∷◌, ◌++◌, IsBitSet};
 ghost use Rattle.word_image.specs.LocalRules.{IsRule, node_count};
@@ -6,11 +6,11 @@ ghost use Rattle.word_image.specs.LocalRules.{IsRule, node_count};
 use std::marker::Model;
 use word_image::{EdgeRows, MOST_NODES, Rule, Side, after, edge_rows, step};
 
-/// The de Bruijn graph of a rule. In contracts it is the rule. Nodes and sets of nodes are looked up in tables that
-/// `of` fills once.
+/// The de Bruijn graph of a rule. In contracts it is the rule. Steps are looked up in tables that `of` fills once.
 #[derive(Clone, Copy, Debug)]
 pub struct Graph {
-    // The rule. Its table has the label of each edge, in the order of nodes and then of letters.
+    // The rule of the graph. Its table has the labels of all edges: the label of the edge that leads from node u on
+    // letter a is at place k u + a.
     rule: Rule,
     // For each label and node, the set of nodes to which the edges with that label lead from the node.
     ends: EdgeRows,
@@ -71,7 +71,7 @@ impl Graph {
         self.rule.nodes()
     }
 
-    /// Returns the node to which letter `a` leads from node `u`.
+    /// Returns the node at the end of the edge that leads from node `u` along the letter `a`.
     pub fn next(&self, u: u8, a: u8) -> u8
         requires node { u < node_count self.now }
         requires letter { a < self.now.states }
@@ -81,7 +81,8 @@ impl Graph {
         Side::Right.end_node(&self.rule, Side::Right.window_with(&self.rule, u, a))
     }
 
-    /// Returns the letter that the rule gives for the window of node `u` and letter `a`.
+    /// Returns the label of the edge that leads from node `u` along the letter `a`: the letter that the rule gives
+    /// for the window of `u` followed by `a`.
     pub fn label(&self, u: u8, a: u8) -> u8
         requires node { u < node_count self.now }
         requires letter { a < self.now.states }
@@ -108,7 +109,7 @@ impl Graph {
         self.edges()[usize::from(label)][usize::from(u)]
     }
 
-    /// Returns the set of all nodes, which is the set of the empty word. Bit u stands for node u.
+    /// Returns the set of all nodes. Bit u stands for node u.
     pub fn full(&self) -> u16
         ensures set { result ≡ full_set self.now }
         ensures rule { IsRule self.now }
@@ -116,8 +117,9 @@ impl Graph {
         self.rule.all_nodes()
     }
 
-    /// Returns the nodes to which edges with the label `a` lead from the nodes of `set`. If `set` belongs to a word,
-    /// the result belongs to the word followed by `a`.
+    /// Returns the nodes to which edges with the label `a` lead from the nodes of `set`. Suppose that `set` has the
+    /// last nodes of all preimages of a word. Then the result has the last nodes of all preimages of the word
+    /// followed by `a`.
     pub fn step(&self, set: u16, a: u8) -> u16
         requires { a < self.now.states }
         ensures step { IsStep self.now set a result }
@@ -126,8 +128,7 @@ impl Graph {
         step(&self.rule, &self.ends, set, a)
     }
 
-    /// Returns the union of the rows of those nodes that are in `set`: row u is the set of nodes that are related to
-    /// node u.
+    /// Returns the union of the sets `rows[u]` for all nodes u of `set`.
     pub fn after(&self, rows: &[u16; MOST_NODES], set: u16) -> u16
         requires { AreSets self.now rows.now }
         ensures { IsNodeSet self.now (λ v. (u : ℕ) × (u < node_count self.now) × (IsBitSet set u × HasBit rows.now u v)) result }

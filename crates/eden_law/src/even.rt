@@ -1,4 +1,4 @@
-//! Whether all letters occur equally often in a table, as they do for every surjective rule.
+//! The test whether all letters occur equally often in a table, as they do for every surjective rule.
 ghost use Rattle.std.specs.Prelude.{◌≡◌, ◌==◌, ◌≤◌, ◌↔◌, length, count_by, IsTrue};
 ghost use Rattle.word_image.specs.LocalRules.{LocalRule, IsRule, most_states, most_windows};
 ghost use Rattle.word_image.specs.Words.{IsSurjective};

@@ -9,19 +9,22 @@
 //! Rule 0 gives 0 everywhere, so 00000 and 00100 can replace each other. The rule that gives 1 only for the window 11
 //! has the erasable pair 000 and 010. Rule 90, the sum of the two neighbours modulo 2, has none.
 //!
-//! The pairs of letters of an erasable pair spell a node with itself and then a walk in the marked graph. The walk
-//! leads from the pair of this node with itself, without the mark, to the pair of some node with itself, with the
-//! mark. So the least erasable pair is the least of these walks over all nodes, each after the letters of its first
-//! node.
+//! Two words with the same image spell a walk of pairs of nodes in the de Bruijn graph. The marked graph has each
+//! pair of nodes twice, without a mark and with it, and a step on two different letters sets the mark. The pairs of
+//! letters of an erasable pair spell a node with itself and then a walk in the marked graph. The walk leads from the
+//! pair of this node with itself, without the mark, to the pair of some node with itself, with the mark. So the least
+//! erasable pair is the least of these walks over all nodes, each after the letters of its first node.
 //!
-//! A pair of nodes is reached if steps of `follow` lead to it from a first pair on the right. A rule is surjective if
-//! and only if no reached pair has two equal nodes. Then the list of the reached pairs is a pair list, which proves
-//! it. Under the rule of the window 11, the letters 0 and 1 lead from node 0 to the first pair of the nodes 0 and 1.
-//! From both the letter 0 leads to node 0, each time with the label 0: the rule isn't surjective.
+//! A first pair on the right consists of two different nodes that two different letters reach from the same node,
+//! along edges with equal labels. A pair of nodes is reached if steps of `follow` lead to it from a first pair on the
+//! right. A rule is surjective if and only if no reached pair has two equal nodes. Then the list of the reached pairs
+//! is a pair list, which proves that the rule is surjective. Under the rule that gives 1 only for the window 11, the
+//! letters 0 and 1 lead from node 0 to the first pair of the nodes 0 and 1. From both of these nodes the letter 0
+//! leads to node 0, each time with the label 0: the rule isn't surjective.
 //!
 //! [`is_surjective`] stores the reached pairs as one set of nodes for each node. The steps from all pairs of a node u
 //! on a letter a form one step of a set, on the label that a has at u. The test ends at the first pair of two equal
-//! nodes, which nearly every rule that isn't surjective reaches soon.
+//! nodes. Nearly every rule that isn't surjective reaches such a pair soon.
 //!
 //! [`is_even`] and [`is_even_at_zeros`] only look at the table. In the table of a surjective rule all letters occur
 //! equally often, and the number of words of m + 1 letters with the image 0 0 is the number of nodes. Rule 110 gives

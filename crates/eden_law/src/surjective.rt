@@ -1,4 +1,4 @@
-//! Whether a rule is surjective, by the reached pairs, stored as one set of nodes for each node.
+//! The test whether a rule is surjective by its reached pairs, which are stored as one set of nodes for each node.
 ghost use Rattle.std.specs.Prelude.{◌≡◌, ◌≢◌, ◌^◌, ◌<◌, ◌≤◌, ◌↔◌, ℕ, IsTrue, IsFalse, MatchOption, slice_index};
 ghost use Rattle.word_image.specs.LocalRules.{node_count, most_nodes};
 ghost use Rattle.word_image.specs.Graphs.{next, HasBit};
@@ -9,11 +9,12 @@ ghost use Rattle.eden_law.specs.ReachedRows.{LeadsApart, LeadsBeside, AreNodeRow
 use debruijn::Graph;
 use word_image::MOST_NODES;
 
-/// For each node u, the set of the nodes v for which the pair (u, v) is in a set of pairs. Bit v stands for node v.
+/// A set of pairs of nodes as rows: row u is the set of the nodes v for which the pair (u, v) is in the set of pairs.
+/// Bit v of a row stands for node v.
 type Rows = [u16; MOST_NODES];
 
-/// Returns whether the rule of this graph is surjective: whether no reached pair has two equal nodes. If it isn't
-/// surjective, it is neither injective nor closing on a side. Needs no memory.
+/// Returns whether the rule of this graph is surjective: whether no reached pair has two equal nodes. A rule that
+/// isn't surjective is neither injective nor closing on a side. Needs no memory.
 pub fn is_surjective(graph: &Graph) -> bool
     ensures surjective { IsTrue result ↔ IsSurjective graph.now }
     ensures injective { IsInjective graph.now → IsTrue result }
@@ -31,7 +32,7 @@ pub fn is_surjective(graph: &Graph) -> bool
     true
 }
 
-/// Adds the first pairs on the right that letters reach from this node.
+/// Adds to `found` the first pairs on the right to which two letters lead from this node.
 fn add_firsts(graph: &Graph, node: u8, found: &mut Rows)
     requires node { node < node_count graph.now }
     requires rows { AreNodeRows graph.now found.old }
@@ -44,8 +45,8 @@ fn add_firsts(graph: &Graph, node: u8, found: &mut Rows)
     }
 }
 
-/// Follows the steps from what was found, until all are followed or one leads to a pair of two equal nodes. Returns
-/// whether none does.
+/// Follows the steps from the pairs in `found` and adds the pairs that they reach. Stops when all steps have been
+/// followed, or when one leads to a pair of two equal nodes. Returns true if no step leads to such a pair.
 fn follow_all(graph: &Graph, found: &mut Rows, followed: &mut Rows) -> bool
     requires { IsRowSearch graph.now found.old followed.old }
     ensures search { IsTrue result → IsRowSearch graph.now found.new followed.new }
@@ -63,7 +64,8 @@ fn follow_all(graph: &Graph, found: &mut Rows, followed: &mut Rows) -> bool
     true
 }
 
-/// Returns the first node for which something was found that wasn't followed yet.
+/// Returns the first node u for which a pair (u, v) has been found whose steps haven't been followed yet, or None if
+/// there is no such node.
 fn open_row(nodes: u8, found: &Rows, followed: &Rows) -> Option<u8>
     requires { nodes ≤ most_nodes }
     ensures { MatchOption result ((u : ℕ) → u < nodes → slice_index followed.now u ≡ slice_index found.now u) (λ u. (u < nodes) × (slice_index followed.now u ≢ slice_index found.now u)) }
@@ -76,8 +78,8 @@ fn open_row(nodes: u8, found: &Rows, followed: &Rows) -> Option<u8>
     None
 }
 
-/// Adds the pairs that steps reach from the pairs of a node with the nodes of a set, unless one of them has two equal
-/// nodes. Returns whether none has.
+/// Adds the pairs to which steps lead from the pairs of `node` with the nodes of `set`. Stops and returns false if
+/// one of them has two equal nodes. Otherwise returns true.
 fn add_steps(graph: &Graph, node: u8, set: u16, found: &mut Rows) -> bool
     requires node { node < node_count graph.now }
     requires set { set < 2 ^ node_count graph.now }

@@ -1,4 +1,4 @@
-//! The number of words with the image 0 0: under a surjective rule it is the number of nodes.
+//! The test whether as many words have the image 0 0 as there are nodes, as under every surjective rule.
 ghost use Rattle.std.specs.Prelude.{◌≡◌, ◌==◌, ℕ, ◌+◌, ◌*◌, ◌<◌, ◌≤◌, ◌↔◌, length, slice_index, IsTrue};
 ghost use Rattle.word_image.specs.LocalRules.{LocalRule, IsRule, most_nodes, most_states, most_windows};
 ghost use Rattle.word_image.specs.Words.{IsSurjective};
@@ -7,8 +7,8 @@ ghost use Rattle.eden_law.specs.ZeroEdges.{AreZeroEdges};
 
 use word_image::MOST_NODES;
 
-/// Returns whether the number of words of m + 1 letters with the image 0 0 is the number of nodes, for k states and
-/// this table. If not, no rule with this table is surjective.
+/// Returns whether exactly `nodes` words of m + 1 letters have the image 0 0, for k states and this table. If not, no
+/// rule with this table is surjective.
 pub fn is_even_at_zeros(k: u8, nodes: u8, table: &[u8]) -> bool
     requires states { k ≤ most_states }
     requires nodes { nodes ≤ most_nodes }
@@ -39,7 +39,7 @@ fn zero_edges(k: u8, nodes: u8, table: &[u8]) -> [u8; MOST_NODES]
     edges
 }
 
-/// Returns how many of k letters of the table, starting at a place, are 0.
+/// Returns how many of the k letters of the table from the place `first` on are 0.
 fn zeros_from(k: u8, table: &[u8], first: usize) -> u8
     requires states { k ≤ most_states }
     requires within { first + k ≤ length table.now }
@@ -53,7 +53,8 @@ fn zeros_from(k: u8, table: &[u8], first: usize) -> u8
     count
 }
 
-/// Returns the number of words of m + 1 letters that begin with this letter and have the image 0 0.
+/// Returns the number of words of m + 1 letters that begin with this letter and have the image 0 0. `edges` has for
+/// each node the number of its edges with the label 0.
 fn zeros_behind(k: u8, nodes: u8, table: &[u8], letter: u8, edges: &[u8; MOST_NODES]) -> u16
     requires states { k ≤ most_states }
     requires nodes { nodes ≤ most_nodes }

@@ -1,5 +1,5 @@
-//! The gains of windows along the walks to node 0, and whether they form a flux. The gain of a window is the weight
-//! of its image minus the weight of its first letter.
+//! The gains of windows along the walks to node 0, and the test whether they form a flux. The gain of a window is the
+//! weight of the letter that the rule gives for the window, minus the weight of the window's first letter.
 ghost use Rattle.std.specs.Prelude.{◌≡◌, ◌-◌, ◌^◌, ◌<◌, ◌↔◌, ◌≤ℤ◌, length, slice_index, IsTrue, pos, negsuc, ◌++◌, replicate};
 ghost use Rattle.word_image.specs.LocalRules.{node_count, most_nodes};
 ghost use Rattle.word_image.specs.Rings.{IsFlux};
@@ -8,7 +8,8 @@ ghost use Rattle.ring_laws.proofs.FluxWindows.{window_gain, FlowsAt};
 
 use word_image::{MOST_NODES, Rule, Side, Weights};
 
-/// Returns for each node the gain of the walk from it that reads m - 1 letters 0, followed by zeros.
+/// Returns for each node the sum of the gains along the walk from the node that reads m - 1 letters 0. The numbers of
+/// the nodes are followed by zeros.
 pub(crate) fn walk_flows(rule: &Rule, weights: &Weights) -> [i32; MOST_NODES]
     requires { length weights.now ≡ rule.now.states }
     ensures { result ≡ walk_gains (slice_index weights.now) rule.now ++ replicate (most_nodes - node_count rule.now) (pos 0) }
@@ -20,7 +21,7 @@ pub(crate) fn walk_flows(rule: &Rule, weights: &Weights) -> [i32; MOST_NODES]
     flows
 }
 
-/// Returns the gain of the walk from a node that reads m - 1 letters 0.
+/// Returns the sum of the gains along the walk from this node that reads m - 1 letters 0.
 fn walk_flow(rule: &Rule, weights: &Weights, node: u8) -> i32
     requires letters { length weights.now ≡ rule.now.states }
     requires node { node < node_count rule.now }
@@ -36,8 +37,8 @@ fn walk_flow(rule: &Rule, weights: &Weights, node: u8) -> i32
     flow
 }
 
-/// Returns the gain of a window: the weight of the letter that the rule gives for it, minus the weight of its first
-/// letter.
+/// Returns the gain of a window: the weight of the letter that the rule gives for the window, minus the weight of the
+/// window's first letter.
 fn window_flow(rule: &Rule, weights: &Weights, window: u16) -> i32
     requires letters { length weights.now ≡ rule.now.states }
     requires window { window < rule.now.states ^ rule.now.width }
@@ -49,7 +50,7 @@ fn window_flow(rule: &Rule, weights: &Weights, window: u16) -> i32
         - i32::from(weights.at(Side::Left.end_letter(rule, window)))
 }
 
-/// Returns whether these numbers, one for each node, are a flux.
+/// Returns whether these numbers, one for each node, are a flux of the rule.
 pub(crate) fn is_flux(rule: &Rule, weights: &Weights, numbers: &[i32]) -> bool
     requires letters { length weights.now ≡ rule.now.states }
     requires nodes { length numbers.now ≡ node_count rule.now }
@@ -63,7 +64,8 @@ pub(crate) fn is_flux(rule: &Rule, weights: &Weights, numbers: &[i32]) -> bool
     true
 }
 
-/// Returns whether the gain of a window is the number of its first node minus the number of its last node.
+/// Returns whether the gain of a window is the number of its first node minus the number of its last node. These are
+/// the nodes of its first and of its last m - 1 letters.
 fn flows(rule: &Rule, weights: &Weights, numbers: &[i32], window: u16) -> bool
     requires letters { length weights.now ≡ rule.now.states }
     requires nodes { length numbers.now ≡ node_count rule.now }
@@ -76,7 +78,7 @@ fn flows(rule: &Rule, weights: &Weights, numbers: &[i32], window: u16) -> bool
 }
 
 /// Returns whether the gain of a window is the gain of the walk from its first node minus the gain of the walk from
-/// its last node.
+/// its last node. Both walks read m - 1 letters 0.
 pub(crate) fn walks_flow(rule: &Rule, weights: &Weights, window: u16) -> bool
     requires letters { length weights.now ≡ rule.now.states }
     requires window { window < rule.now.states ^ rule.now.width }

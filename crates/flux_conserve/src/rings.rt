@@ -1,4 +1,4 @@
-//! The least ring that doesn't keep its sum.
+//! Finds the least ring that doesn't keep its sum.
 ghost use Rattle.std.specs.Prelude.{◌≡◌, ℕ, ◌+◌, ◌-◌, ◌*◌, ◌^◌, ◌<◌, ◌≤◌, length, slice_index, IfSome, IfNone};
 ghost use Rattle.word_image.specs.LocalRules.{IsRule, IsWord, value};
 ghost use Rattle.word_image.specs.Rings.{IsConserving, IsLeastLossyRing};
@@ -7,7 +7,7 @@ ghost use Rattle.flux_conserve.specs.LeastRings.{IsFirstLossyRing, KeepSumAt};
 use std::marker::Model;
 use word_image::{Rule, Weights, keeps_sum};
 
-/// The greatest length of the least ring that doesn't keep its sum: 2m - 1 at width 5.
+/// The greatest possible length of the least ring that doesn't keep its sum: 2m - 1 letters at width 5.
 pub const LONGEST_RING: usize = 9;
 
 /// A ring of 1 to 9 letters. In contracts it is the list of its letters.
@@ -15,7 +15,7 @@ pub const LONGEST_RING: usize = 9;
 pub struct SmallRing {
     // The number of letters of the ring.
     count: u8,
-    // Its letters, followed by any others.
+    // The letters of the ring, followed by any numbers.
     letters: [u8; LONGEST_RING],
 }
 
@@ -30,7 +30,7 @@ impl Model for SmallRing {
 }
 
 impl SmallRing {
-    /// Returns the letters from left to right.
+    /// Returns the letters of the ring from left to right, at most 9.
     pub fn letters(&self) -> &[u8]
         ensures letters { result.now ≡ self.now }
         ensures some { 1 ≤ length result.now }
@@ -40,8 +40,8 @@ impl SmallRing {
     }
 }
 
-/// Returns the least ring, in the order of words, that doesn't keep its sum. The rule has one, and it has at most 2m
-/// - 1 letters.
+/// Returns the least ring, in the order of words, that doesn't keep its sum. It may be called only for a rule that
+/// isn't conserving. The ring has at most 2m - 1 letters.
 pub(crate) fn first_lossy_ring(rule: &Rule, weights: &Weights) -> SmallRing
     requires letters { length weights.now ≡ rule.now.states }
     requires lossy { ¬ IsConserving (slice_index weights.now) rule.now }
@@ -56,7 +56,7 @@ pub(crate) fn first_lossy_ring(rule: &Rule, weights: &Weights) -> SmallRing
     unreachable!()
 }
 
-/// Returns the least ring of this length that doesn't keep its sum.
+/// Returns the least ring of `count` letters that doesn't keep its sum, or None if all these rings keep their sums.
 pub(crate) fn first_lossy_of(rule: &Rule, weights: &Weights, count: u8) -> Option<SmallRing>
     requires letters { length weights.now ≡ rule.now.states }
     requires some { 1 ≤ count }
@@ -77,7 +77,7 @@ pub(crate) fn first_lossy_of(rule: &Rule, weights: &Weights, count: u8) -> Optio
     None
 }
 
-/// Replaces the word by the next one of the same length in dictionary order, or the last one by the first.
+/// Replaces the word by the next word of the same length in dictionary order, or the last word by the first.
 fn advance(k: u8, word: &mut [u8])
     requires { IsWord k word.old }
     ensures word { IsWord k word.new }

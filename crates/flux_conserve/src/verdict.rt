@@ -1,4 +1,4 @@
-//! Whether a rule is conserving, with evidence.
+//! Decides whether a rule is conserving, with evidence.
 ghost use Rattle.std.specs.Prelude.{◌≡◌, ◌↔◌, length, slice_index, IsTrue};
 ghost use Rattle.word_image.specs.Rings.{IsConserving};
 ghost use Rattle.flux_conserve.specs.Keepings.{IsShown, IsShort, has_flux};
@@ -10,14 +10,15 @@ use word_image::{MOST_NODES, Rule, Weights};
 /// The evidence that a rule is conserving, or that it isn't.
 #[derive(Debug, Drop)]
 pub enum Keeping {
-    /// The flux that is 0 at node 0, followed by zeros.
+    /// The rule is conserving, and this is the flux that is 0 at node 0. The numbers of the nodes are followed by
+    /// zeros.
     Flux([i32; MOST_NODES]),
-    /// The least ring, in the order of words, whose image has another sum.
+    /// The rule isn't conserving, and this is the least ring, in the order of words, whose image has another sum.
     Ring(SmallRing),
 }
 
-/// Returns the flux that is 0 at node 0 if the rule is conserving under these weights of its letters, which means
-/// that every ring has the same sum as its image. Otherwise returns the least ring that doesn't, of at most 2m - 1
+/// Returns the flux that is 0 at node 0 if the rule is conserving under these weights of its letters: if every ring
+/// has the same sum as its image. Otherwise returns the least ring whose image has another sum. It has at most 2m - 1
 /// letters.
 pub fn conserve(rule: &Rule, weights: &Weights) -> Keeping
     requires { length weights.now ≡ rule.now.states }

@@ -9,12 +9,19 @@
 //! letter of a word and its image determine all other letters.
 //!
 //! Both directions are proved by counting. Let N = k^(m - 1), q = k^l - 1 and j = q N. Then q^j N is less than k^(j
-//! l): among the words of j blocks of l letters, few avoid a given block. If an orphan has l letters, no image of j
-//! blocks contains it, so two words with the same ends have the same image. If an erasable pair has l letters, the
-//! words that avoid one of its two words already give all images, so some word has no preimage.
+//! l): among the words of j blocks of l letters, few avoid a given block. If an orphan, which is a word without a
+//! preimage, has l letters, no image of j blocks contains it. So two words with the same ends have the same image. If
+//! an erasable pair has l letters, the words that avoid one of its two words already give all images. So some word
+//! has no preimage.
 //!
-//! The functions of this crate do nothing. The contract of each states a law. The lemmas only use definitions. Both
-//! the deciders and the checker of certificates use them.
+//! An erasable pair is also a walk of pairs of nodes of the de Bruijn graph. A first pair on the right consists of
+//! two nodes that two different letters reach from the same node, along edges with equal labels. A pair of nodes is
+//! reached if walks with equal labels lead to it from a first pair on the right. A pair list is a list of pairs of
+//! two different nodes that has all first pairs on the right and each pair to which a step leads from a pair of the
+//! list.
+//!
+//! The functions of this crate do nothing. The contract of each function states a law. The lemmas only use
+//! definitions. Both the deciders and the checker of certificates use them.
 #![tactic(auto)]
 
 mod tables;
@@ -32,13 +39,13 @@ ghost use Rattle.garden_laws.specs.Preimages.{IsBalanced};
 
 pub use tables::{conserving_has_mean, even_has_mean, surjective_is_even};
 
-/// The Garden of Eden theorem: a rule is surjective if and only if it has no erasable pair.
+/// Law (the Garden of Eden theorem): a rule is surjective if and only if it has no erasable pair.
 pub fn surjective_erases_nothing()
     ensures { (r : LocalRule) → IsRule r → (IsSurjective r ↔ ((x y : List ℕ) → ¬ IsErasable r x y)) }
 {}
 
-/// The same for configurations: a rule is surjective if and only if no two different configurations that agree far to
-/// the left and far to the right share an image.
+/// Law: a rule is surjective if and only if no two different configurations that agree far to the left and far to the
+/// right share an image. This is the Garden of Eden theorem for configurations with periodic tails.
 pub fn surjective_is_preinjective()
     ensures { (r : LocalRule) → IsRule r → (IsSurjective r ↔ IsPreinjective r) }
 {}
@@ -55,8 +62,8 @@ pub fn surjective_is_balanced()
     ensures { (r : LocalRule) → IsRule r → (IsSurjective r ↔ IsBalanced r) }
 {}
 
-/// Law: a rule is surjective if and only if no reached pair has two equal nodes. A pair list proves that a rule is
-/// surjective.
+/// Law: a rule is surjective if and only if no reached pair of nodes has two equal nodes. A rule that has a pair list
+/// is surjective.
 pub fn surjective_reaches_no_equal_nodes()
     ensures reached { (r : LocalRule) → IsRule r → (IsSurjective r ↔ ((p : ℕ) → IsReached r p → first_of r p ≢ second_of r p)) }
     ensures list { (r : LocalRule) (pairs : List ℕ) → IsRule r → IsPairList r pairs → IsSurjective r }

@@ -1,10 +1,11 @@
 //! Laws of tables: a property of the table of every surjective rule, and of the table of every conserving rule.
 //!
-//! In the table of a surjective rule all letters occur equally often, since every word of one letter has one preimage
-//! for each node (Hedlund 1969). For the same reason, the number of words with the image 0 0 is the number of nodes.
-//! In the table of a conserving rule the letters have the mean of all k letters, since a flux cancels out over all
-//! windows together. Rule 184 conserves the sum, and its table 0 0 0 1 1 1 0 1 has as many ones as zeros. Rule 110
-//! has five ones in its table, so it changes the sum of some ring, and some word has no preimage.
+//! In the table of a surjective rule all letters occur equally often, since every word of one letter has as many
+//! preimages as there are nodes (Hedlund 1969). For the same reason, the number of words with the image 0 0 is the
+//! number of nodes. In the table of a conserving rule the mean of the letters is (k - 1) / 2, which is the mean of
+//! all k letters, since a flux cancels out over all windows together. Rule 184 conserves the sum, and its table
+//! 0 0 0 1 1 1 0 1 has as many ones as zeros. Rule 110 has five ones in its table, so it changes the sum of some
+//! ring, and some word has no preimage.
 //!
 //! Several deciders use these laws.
 ghost use Rattle.std.specs.Prelude.{◌≡◌, ◌-◌, length, slice_index};
@@ -21,15 +22,15 @@ pub fn surjective_is_even()
     ensures zeros { (r : LocalRule) → IsRule r → IsSurjective r → zero_pairs r.states r.table ≡ node_count r }
 {}
 
-/// Law: if a rule conserves the sum of its letters, the letters of its table have the mean of all k letters. It gives
-/// 0 for the window of zeros, and the greatest letter for the window of greatest letters.
+/// Law: if a rule conserves the sum of the letters of every ring, the mean of the letters in its table is
+/// (k - 1) / 2. The rule gives 0 for the window of zeros, and the greatest letter for the window of greatest letters.
 pub fn conserving_has_mean()
     ensures mean { (r : LocalRule) → IsRule r → IsConserving (λ a. a) r → HasMean r.states r.table }
     ensures zeros { (r : LocalRule) → IsRule r → IsConserving (λ a. a) r → slice_index r.table 0 ≡ 0 }
     ensures greatest { (r : LocalRule) → IsRule r → IsConserving (λ a. a) r → slice_index r.table (length r.table - 1) ≡ r.states - 1 }
 {}
 
-/// Law: a table in which all letters occur equally often has the mean of all letters.
+/// Law: if all k letters occur equally often in a table, the mean of its letters is (k - 1) / 2.
 pub fn even_has_mean()
     ensures { (r : LocalRule) → IsRule r → IsEven r.states r.table → HasMean r.states r.table }
 {}

@@ -1,4 +1,4 @@
-//! The sets of last nodes of a rule, in the order in which a search finds them.
+//! The family of a rule: its sets of last nodes, in the order in which a search finds them.
 
 ghost use Rattle.std.specs.Prelude.{◌≡◌, ◌≢◌, ◌+◌, ◌*◌, ◌≤◌, ◌<◌, AllPairs, Contains, [], length, slice_index, slice_get, vec_capacity, Some, MatchOption, false, IfOk};
 ghost use Rattle.word_image.specs.LocalRules.{most_sets};
@@ -14,9 +14,9 @@ use debruijn::Graph;
 use std::alloc::{AllocError, Global};
 use std::marker::Model;
 
-/// The family of a rule: its sets of last nodes in the order of their least words, and for each set how it was found.
-/// In contracts it is the list of sets and the list of their parents. `new` allocates all memory, less than 1 MB,
-/// once.
+/// The family of a rule: its sets of last nodes in the order of their least words, and for each set its parent. The
+/// parent of a set is the place of the set from which the search found it, and the letter of the step. In contracts a
+/// family is the list of sets and the list of their parents. `new` allocates all memory, less than 1 MB, once.
 ///
 /// `explore` is the subset construction: breadth first, with letters ascending. It takes time **O(s k + 2^8 k)** for
 /// s sets, and **O(N 2^N)** more if no set is empty. If there are N nodes, s is at most 2^N, so at most 65,536.
@@ -24,9 +24,10 @@ use std::marker::Model;
 pub struct Family {
     // The sets, in the order in which they were found.
     sets: Masks,
-    // For each set, the place and the letter from which it was found, or None for the set of all nodes.
+    // For each set its parent: the place and the letter from which the set was found, or None for the set of all
+    // nodes.
     parents: Vec<Option<(u16, u8)>>,
-    // The steps of the graph that was explored last.
+    // The tables of steps of the graph that was explored last.
     tables: StepTables,
     // If no set is empty, a mark on each set that contains another set of the family.
     marks: Marks,
@@ -47,7 +48,8 @@ impl Model for Family {
 }
 
 impl Family {
-    /// Allocates the memory of a family. Until a graph is explored, it has no sets.
+    /// Allocates the memory of a family. The family has no sets until a graph is explored. The only error is lack of
+    /// memory.
     pub fn new(alloc: Global) -> Result<Family, AllocError>
         ensures { IfOk result (λ family. family.sets ≡ []) }
     {
@@ -84,7 +86,7 @@ impl Family {
         self.marks.mark(&self.sets, graph.nodes());
     }
 
-    /// Returns the number of sets: 0 before a graph is explored, and from 1 to 65,536 after.
+    /// Returns the number of sets in the family: 0 before a graph is explored, and from 1 to 65,536 after.
     pub fn len(&self) -> u32
         ensures len { result ≡ length self.now.sets }
         ensures most { result ≤ most_sets }
@@ -93,8 +95,8 @@ impl Family {
         self.sets.len() as u32
     }
 
-    /// Returns whether the set at place `i` contains no other set of the family. No set of the family is empty. Takes
-    /// O(1) time, by the marks of `explore`.
+    /// Returns whether the set at place `i` contains no other set of the family. It may be called only if no set of
+    /// the family is empty. Takes O(1) time, since `explore` has stored marks for this.
     pub fn minimal(&self, i: u32) -> bool
         requires place { i < length self.now.sets }
         requires nonempty { ¬ Contains self.now.sets 0 }
@@ -111,15 +113,15 @@ impl Family {
         self.sets.at(i as usize)
     }
 
-    /// Returns the sets in their order.
+    /// Returns the sets of the family in their order.
     pub fn sets(&self) -> &[u16]
         ensures { result.now ≡ self.now.sets }
     {
         self.sets.as_slice()
     }
 
-    /// Returns the least place from which a step leads to the set at place `i`, and the least letter of such a step.
-    /// Returns None for the set of all nodes, which is first.
+    /// Returns the parent of the set at place `i`: the least place from which a step leads to this set, and the least
+    /// letter of such a step. Returns None for the set of all nodes, which is first.
     pub fn parent(&self, i: u32) -> Option<(u32, u8)>
         requires { i < length self.now.sets }
         ensures parent { slice_get self.now.parents i ≡ Some result }
@@ -132,8 +134,8 @@ impl Family {
     }
 }
 
-/// Adds the sets to which steps lead from the set at this place. Stops at the empty set, and returns whether it was
-/// found.
+/// Adds the sets to which steps lead from the set at this place, if they are new. Stops at the empty set, and returns
+/// whether it was found.
 fn expand(
     graph: &Graph,
     tables: &StepTables,

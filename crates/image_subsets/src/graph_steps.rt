@@ -1,4 +1,4 @@
-//! The set of the empty word, and steps from the set of a word to the sets of the words that are one letter longer.
+//! The set of all nodes, and steps from the set of a word to the sets of the words that are one letter longer.
 
 ghost use Rattle.std.specs.Prelude.{◌≡◌, ◌<◌, ℕ, List, [], ◌∷◌, ◌++◌};
 ghost use Rattle.word_image.specs.LocalRules.{IsRule};
@@ -16,8 +16,8 @@ pub fn full(graph: &Graph) -> u16
     graph.full()
 }
 
-/// Returns the nodes to which edges with the label `a` lead from the nodes of `set`. If `set` belongs to a word, the
-/// result belongs to the word followed by `a`.
+/// Returns the nodes to which edges with the label `a` lead from the nodes of `set`. If `set` is the set of a word,
+/// the result is the set of this word followed by `a`.
 pub fn step(graph: &Graph, set: u16, a: u8) -> u16
     requires { a < graph.now.states }
     ensures step { IsStep graph.now set a result }

@@ -1,18 +1,23 @@
 //! The subset automaton of a cellular automaton (Sutner 1991). Its states are sets of last nodes.
 //!
-//! The set of a word w consists of the last nodes of the preimages of w: the last m - 1 letters of each word whose
-//! image is w. Each word of m - 1 letters is a preimage of the empty word, so the empty word has the set of all
-//! nodes. A step on the letter a leads from the set of w to the set of w followed by a. It follows every edge of the
-//! de Bruijn graph that has the label a and begins at a node of the set. A word is an orphan if and only if its set
-//! is empty.
+//! A node is a word of m - 1 letters. The set of a word w consists of the last nodes of the preimages of w: the last
+//! m - 1 letters of each word whose image is w. Each word of m - 1 letters is a preimage of the empty word, so the
+//! empty word has the set of all nodes. A step on the letter a leads from the set of w to the set of w followed by a.
+//! It follows every edge of the de Bruijn graph that has the label a and begins at a node of the set. A word is an
+//! orphan, which means that it has no preimage, if and only if its set is empty.
+//!
+//! A set of nodes is written as a number: its bit u is 1 if node u is in the set. Under rule 110 a step on 0 leads
+//! from all four nodes, the set 15, to the nodes 00 and 11, the set 9.
 //!
 //! The family of a rule lists the different sets in the order of their least words, up to and including the empty set
-//! if there is one. A breadth-first search from the set of all nodes, with letters ascending, finds them in this
-//! order. It finds each set first from the least place from which a step leads to it.
+//! if there is one. Shorter words are less than longer ones. A breadth-first search from the set of all nodes, with
+//! letters ascending, finds the sets in this order. It finds each set first from the least place from which a step
+//! leads to the set.
 //!
-//! Under rule 110 a step on 0 leads from all four nodes, the set 15, to the nodes 00 and 11, the set 9. Under rule
-//! 106 the family is 15, 13, 14, 9, 6, 5, 10, 1, 2, 12, 4, 8. No set is empty, so the rule is surjective. The sets 1,
-//! 2, 4 and 8 contain no other set.
+//! Under rule 106 the family is 15, 13, 14, 9, 6, 5, 10, 1, 2, 12, 4, 8. No set is empty, so the rule is surjective.
+//! The sets 1, 2, 4 and 8 contain no other set. For such questions the sets that contain another set of the family
+//! are marked. The marks are bits: the mark on set s is bit s % 64 of the number s / 64 in a list of numbers, which
+//! are called rows.
 //!
 //! If there are N = k^(m - 1) nodes, a family has at most 2^N sets. To explore s sets takes time **O(s k)**, **O(2^8
 //! k)** for the tables of steps, and, if no set is empty, **O(N 2^N)** for the marks of the sets that contain others,

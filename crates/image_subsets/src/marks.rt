@@ -9,13 +9,13 @@ use crate::rows::{MOST_ROWS, ROW, is_marked, spread, spread_from};
 use std::alloc::{AllocError, Global};
 use std::marker::Model;
 
-/// A mark on each set that contains another set of a family. In contracts it is rows of 64 marks. `new` allocates all
-/// memory.
+/// A mark on each set that contains another set of a family. In contracts it is a list of rows, with 64 marks in each
+/// row. `new` allocates all memory.
 #[derive(Debug, Drop)]
 pub(crate) struct Marks {
-    // A mark on each set that contains a set of the family.
+    // A mark on each set that contains a set of the family. Each set of the family contains itself.
     above: Vec<u64>,
-    // A mark on each set that contains a different set of the family.
+    // A mark on each set that contains a set of the family other than itself.
     beyond: Vec<u64>,
 }
 
@@ -31,7 +31,7 @@ impl Model for Marks {
 }
 
 impl Marks {
-    /// Allocates the memory, without marks.
+    /// Allocates the memory of the marks. No set is marked yet. The only error is lack of memory.
     pub fn new(alloc: Global) -> Result<Marks, AllocError>
         ensures { IfOk result (λ marks. marks ≡ []) }
     {
@@ -41,7 +41,8 @@ impl Marks {
         })
     }
 
-    /// Marks the sets of n nodes that contain a different set of `sets`, in O(n 2^n) time.
+    /// Marks each set of the nodes below `n` that contains a set of the list `sets` other than itself. Removes all
+    /// earlier marks. Takes O(n 2^n) time.
     pub fn mark(&mut self, sets: &Masks, n: u8)
         requires nodes { n ≤ most_nodes }
         requires sets { (i : ℕ) → i < length sets.now → slice_index sets.now i < 2 ^ n }
@@ -55,7 +56,7 @@ impl Marks {
         mark_beyond(&mut self.beyond, &self.above, n);
     }
 
-    /// Returns whether a set is marked.
+    /// Returns whether a set is marked, which means that it contains a set of the family other than itself.
     pub fn has(&self, set: u16) -> bool
         requires { set < 64 * length self.now }
         ensures { IsTrue result ↔ IsSetMarked self.now set }
@@ -64,7 +65,7 @@ impl Marks {
     }
 }
 
-/// Replaces the rows by copies of the first `count` other rows.
+/// Replaces the rows by copies of the first `count` rows of `others`.
 fn copy(rows: &mut Vec<u64>, others: &[u64], count: usize)
     requires count { count ≤ length others.now }
     requires most { count ≤ 1024 }
@@ -92,7 +93,7 @@ fn blank(rows: &mut Vec<u64>, count: usize)
     }
 }
 
-/// Marks each set of n nodes that contains a marked one.
+/// Marks each set of the nodes below `n` that contains a marked set.
 fn mark_above(rows: &mut [u64], n: u8)
     requires nodes { n ≤ most_nodes }
     requires most { length rows.old ≤ 1024 }
@@ -104,7 +105,7 @@ fn mark_above(rows: &mut [u64], n: u8)
     }
 }
 
-/// Marks each set that becomes a marked set of the other rows when one of the first n nodes is removed.
+/// Marks each set for which a node below `n` can be removed so that the remaining set is marked in `others`.
 fn mark_beyond(rows: &mut [u64], others: &[u64], n: u8)
     requires nodes { n ≤ most_nodes }
     requires most { length others.now ≤ 1024 }

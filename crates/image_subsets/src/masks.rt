@@ -1,4 +1,4 @@
-//! Different sets of nodes, in the order in which they were inserted, with a mark on each.
+//! A list of different sets of nodes, in the order in which they were inserted.
 
 ghost use Rattle.std.specs.Prelude.{◌≡◌, ◌≢◌, ◌<◌, ◌↔◌, AllPairs, List, ℕ, [], length, slice_index, Contains, IsTrue, IfOk};
 ghost use Rattle.word_image.specs.LocalRules.{most_sets};
@@ -10,17 +10,17 @@ use std::alloc::{AllocError, Global};
 use std::marker::Model;
 use word_image::MOST_NODES;
 
-/// The number of sets of at most 16 nodes.
+/// The number of sets that can be made of 16 nodes.
 pub const MOST_SETS: usize = 1 << MOST_NODES;
 
-/// A list of different sets. In contracts it is that list. `new` allocates all memory.
+/// A list of different sets. In contracts it is the list of these sets. `new` allocates all memory.
 ///
 /// It takes O(1) time to look up a set. To clear the list takes time proportional to its length.
 #[derive(Debug, Drop)]
 pub(crate) struct Masks {
     // The sets in their order.
     sets: Vec<u16>,
-    // A mark on each of the sets, in rows of 64.
+    // Rows of marks on all possible sets. A set is marked if and only if it is in the list.
     members: Vec<u64>,
 }
 
@@ -37,7 +37,7 @@ impl Model for Masks {
 }
 
 impl Masks {
-    /// Allocates the memory of an empty list.
+    /// Allocates the memory of an empty list. The only error is lack of memory.
     pub fn new(alloc: Global) -> Result<Masks, AllocError>
         ensures { IfOk result (λ masks. masks ≡ []) }
     {
@@ -70,7 +70,7 @@ impl Masks {
         &self.sets
     }
 
-    /// Returns rows of marks for all sets of sixteen nodes. Exactly the sets of the list are marked.
+    /// Returns rows of marks on all sets of sixteen nodes. A set is marked if and only if it is in the list.
     pub fn rows(&self) -> &[u64]
         ensures rows { length result.now ≡ 1024 }
         ensures marked { (x : ℕ) → x < most_sets → (IsSetMarked result.now x ↔ Contains self.now x) }
@@ -86,7 +86,7 @@ impl Masks {
         self.sets.clear();
     }
 
-    /// Appends the set if it isn't in the list yet, and returns whether it was appended.
+    /// Appends the set if it isn't in the list yet. Returns whether the set was appended.
     pub fn insert(&mut self, set: u16) -> bool
         ensures { IsInserted self.old self.new set result }
     {

@@ -1,4 +1,4 @@
-//! Rows of marks on sets of nodes, with 64 sets in each row: set s is bit s % 64 of row s / 64.
+//! Rows of marks on sets of nodes, with 64 marks in each row: the mark on set s is bit s % 64 of row s / 64.
 
 ghost use Rattle.std.specs.Prelude.{◌≡◌, ◌+◌, ◌*◌, ◌/◌, ◌<◌, ◌≤◌, ◌↔◌, ◌⊎◌, ℕ, length, Contains, IsTrue, IsBitSet};
 ghost use Rattle.word_image.specs.LocalRules.{most_nodes};
@@ -6,16 +6,16 @@ ghost use Rattle.image_subsets.specs.Marks.{IsSetMarked, IsSpreadTo, HoldsWithou
 
 use word_image::MOST_NODES;
 
-/// The number of sets in a row.
+/// The number of marks in a row.
 pub const ROW: usize = 64;
 
 /// The number of rows for all sets of sixteen nodes.
 pub const MOST_ROWS: usize = (1 << MOST_NODES) / ROW;
 
-/// The number of nodes of the sets in one row.
+/// How many nodes tell the sets of one row apart: the nodes 0 to 5. All sets of a row have the same other nodes.
 const LOW_NODES: u8 = 6;
 
-/// For each of the first six nodes, the sets of a row that contain it.
+/// For each of the nodes 0 to 5, a row with a mark on each set that contains the node.
 const WITH_LOW_NODE: [u64; 6] = [
     0xaaaa_aaaa_aaaa_aaaa,
     0xcccc_cccc_cccc_cccc,
@@ -43,7 +43,7 @@ pub fn unmark(rows: &mut [u64], sets: &[u16])
     }
 }
 
-/// Marks each set that contains node `u` and becomes a marked set when `u` is removed.
+/// Marks each set that contains node `u` if the set without `u` is marked.
 pub fn spread(rows: &mut [u64], u: u8)
     requires node { u < most_nodes }
     requires rows { length rows.old ≤ 1024 }
@@ -55,7 +55,7 @@ pub fn spread(rows: &mut [u64], u: u8)
     }
 }
 
-/// Marks each set that contains node `u` and becomes a marked set of the other rows when `u` is removed.
+/// Marks each set that contains node `u` if the set without `u` is marked in `others`.
 pub fn spread_from(rows: &mut [u64], others: &[u64], u: u8)
     requires node { u < most_nodes }
     requires most { length others.now ≤ 1024 }
@@ -67,7 +67,8 @@ pub fn spread_from(rows: &mut [u64], others: &[u64], u: u8)
     }
 }
 
-/// Returns the sets of row i that contain node `u` and become marked sets when `u` is removed.
+/// Returns a row of marks on the sets of row `i`. A set is marked if it contains node `u` and the set without `u` is
+/// marked in `rows`.
 fn with_node(rows: &[u64], i: usize, u: u8) -> u64
     requires node { u < most_nodes }
     requires row { i < length rows.now }

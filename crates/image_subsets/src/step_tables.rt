@@ -1,4 +1,4 @@
-//! Steps of sets by two table look-ups: one for the lower eight bits, one for the upper eight.
+//! Steps of sets by two look-ups in tables: one for the nodes 0 to 7, and one for the nodes 8 to 15.
 
 ghost use Rattle.std.specs.Prelude.{◌≡◌, ◌+◌, ◌-◌, ◌*◌, ◌^◌, ◌<◌, ◌≤◌, ℕ, [], ◌++◌, map, length, slice_index, vec_len, vec_capacity, IfOk};
 ghost use Rattle.std.specs.Int.Bits.{bit_or};
@@ -14,16 +14,17 @@ use std::marker::Model;
 use std::simd::u16x16;
 use word_image::MOST_STATES;
 
-/// The number of sets of eight nodes.
+/// How many different sets can be made of eight nodes: each node is in the set or not.
 const ROWS: usize = 256;
 
-/// The steps of all sets of at most eight nodes on all letters, with one lane for each letter. A step of a set is the
-/// union of two rows. `new` allocates all memory, 16 KiB.
+/// The steps of all sets of the nodes 0 to 7, and of all sets of the nodes 8 to 15. A row has the steps of one set on
+/// all letters, with one lane for each letter. The steps of any set of nodes are the union of two rows. `new`
+/// allocates all memory, 16 KiB.
 #[derive(Debug, Drop)]
 pub struct StepTables {
-    // The steps of the sets of the nodes 0 to 7.
+    // The rows for the sets of the nodes 0 to 7.
     low: Vec<u16x16>,
-    // The steps of the sets of the nodes 8 to 15.
+    // The rows for the sets of the nodes 8 to 15.
     high: Vec<u16x16>,
 }
 
@@ -40,7 +41,7 @@ impl Model for StepTables {
 }
 
 impl StepTables {
-    /// Allocates the memory of tables without rows.
+    /// Allocates the memory of tables without rows. The only error is lack of memory.
     pub fn new(alloc: Global) -> Result<StepTables, AllocError>
         ensures { IfOk result (λ tables. tables ≡ record { low = []; high = [] }) }
     {
@@ -50,7 +51,7 @@ impl StepTables {
         })
     }
 
-    /// Fills the tables for this graph, in O(2^8) time.
+    /// Fills the tables with the steps of the sets of this graph's nodes, in O(2^8) time.
     pub fn fill(&mut self, graph: &Graph)
         ensures { AreTables graph.now self.new }
     {
@@ -59,8 +60,8 @@ impl StepTables {
         fill(&mut self.high, graph, 8, nodes);
     }
 
-    /// Returns the steps of the set on all letters, in the order of the letters. The tables are those of the set's
-    /// graph.
+    /// Returns the steps of a set on all letters, in the order of the letters. The tables must have been filled for
+    /// the graph that has the nodes of the set.
     pub fn steps(&self, set: u16) -> [u16; MOST_STATES]
         requires { HasRows self.now set }
         ensures { (r : LocalRule) (a : ℕ) → AreTables r self.now → set < 2 ^ node_count r → a < r.states →
@@ -72,7 +73,7 @@ impl StepTables {
     }
 }
 
-/// Fills the rows with the steps of the sets of the nodes from `first` to `end - 1`, at most eight nodes.
+/// Fills the rows with the steps of all sets of the nodes from `first` to `end - 1`. These are at most eight nodes.
 fn fill(rows: &mut Vec<u16x16>, graph: &Graph, first: u8, end: u8)
     requires nodes { end ≤ node_count graph.now }
     requires few { end - first ≤ 8 }
@@ -87,7 +88,7 @@ fn fill(rows: &mut Vec<u16x16>, graph: &Graph, first: u8, end: u8)
     }
 }
 
-/// Appends the union of each row with `ends`.
+/// Appends for each row its union with `ends`. So the number of rows doubles.
 fn double(rows: &mut Vec<u16x16>, ends: u16x16)
     requires { 2 * vec_len rows.old ≤ vec_capacity rows.old }
     ensures rows { rows.new.items ≡ rows.old.items ++ map (λ row. zip2 bit_or row ends) rows.old.items }
@@ -99,7 +100,8 @@ fn double(rows: &mut Vec<u16x16>, ends: u16x16)
     }
 }
 
-/// Returns the nodes to which edges lead from node `u`, in the order of the labels.
+/// Returns for each label the set of nodes to which edges with this label lead from node `u`. Each lane has one
+/// label.
 fn ends_of(graph: &Graph, u: u8) -> u16x16
     requires { u < node_count graph.now }
     ensures rule { IsRule graph.now }

@@ -10,19 +10,26 @@
 //! (1, 1) aren't, since 001 and 111 have the image 1. Rule 184 isn't injective: the rings 0011 and 0101 both become
 //! 1010, and no lesser words are twins.
 //!
-//! There are N = k^(m - 1) nodes. Cut two words with the same image at the place j = min(c, n). They end with two
-//! nodes before the cut, with equal images of j letters, and begin with these nodes after it, with equal images of n
-//! - j letters. So (n, c) is determined if and only if no two nodes that differ in their letter c - j can do both.
-//! The ranks of two nodes tell for how many letters they can do each, at most 119 if there is a limit. If c ≤ n, the
-//! letter is the first one of the node. One pass over the pairs finds the greatest forward rank for each backward
-//! rank, and one pass over these, from the greatest to the least, finds the least c + rank + 1. If c > n, the letter
-//! is inside the last node, and n is one more than the greatest backward rank. Some window is determined if and only
-//! if no two different nodes are endless in both directions.
+//! A node is a word of m - 1 letters, and there are N = k^(m - 1) nodes. The forward rank of two nodes is the
+//! greatest n for which two words with equal images of n letters begin with these nodes. The backward rank is the
+//! greatest n for which two such words end with these nodes. A finite rank is at most 119. If there is no greatest n,
+//! the two nodes are called endless, forward or backward.
 //!
-//! Twins are the closed walks in the graph of pairs of nodes on which some two letters differ (Sutner 1991). In the
-//! marked graph they lead from a pair without the mark to the same pair with the mark. The least twins are the least
-//! of these walks over all pairs. Each search ends where its walk would be longer than the least one so far. A least
-//! walk visits no state of the marked graph twice, so twins have at most 512 letters each.
+//! Cut two words with the same image at the place j = min(c, n). Their first j + m - 1 letters end with two nodes,
+//! and have equal images of j letters. Their letters from place j on begin with the same two nodes, and have equal
+//! images of n - j letters. So (n, c) is determined if and only if no two nodes differ in their letter at place
+//! c - j, have a backward rank of at least j and have a forward rank of at least n - j. Here endless nodes count as
+//! nodes of every rank. If c ≤ n, the place c - j is the first place of a node. Then one pass over the pairs finds
+//! for each backward rank the greatest forward rank. A second pass over the backward ranks, from the greatest to the
+//! least, finds for each c the greatest forward rank r of the pairs whose backward rank is at least c, and so the
+//! least c + r + 1. If c > n, the letter is inside the last node, and n is one more than the greatest backward rank.
+//! Some window is determined if and only if no two different nodes are endless in both directions.
+//!
+//! Twins are the closed walks in the graph of pairs of nodes on which the two letters of some step differ (Sutner
+//! 1991). The marked graph has each pair of nodes without a mark and with it, and a step on two different letters
+//! sets the mark. In the marked graph twins lead from a pair without the mark to the same pair with the mark. The
+//! least twins are the least of these walks over all pairs. Each search ends when its walk would be longer than the
+//! least walk so far. A least walk visits no state of the marked graph twice, so twins have at most 512 letters each.
 //!
 //! [`is_injective`] takes time **O(N)** in operations on rows of N bits, and [`window`] takes **O(m·N^2)**. Neither
 //! needs memory. [`twins`] takes time **O(N^4·k^2)**, for N^2 walks in a graph of 2·N^2 states, and memory for its

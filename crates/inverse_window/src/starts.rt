@@ -1,4 +1,4 @@
-//! The lengths of the image from which on pairs of nodes can be distinguished, computed from their ranks.
+//! Computes from the ranks of pairs of nodes how many letters of the image are needed to tell two nodes apart.
 ghost use Rattle.std.specs.Prelude.{◌≡◌, ℕ, ◌+◌, ◌-◌, ◌<◌, ◌≤◌, ◌↔◌, Option, IfSome};
 ghost use Rattle.word_image.specs.LocalRules.{IsRule, node_count};
 ghost use Rattle.word_image.specs.Graphs.{pair_of, pair_count};
@@ -11,11 +11,12 @@ ghost use Rattle.inverse_window.specs.FirstWindows.{PairDiffersAt, PairEnds, IsP
 use pair_rank::Ranks;
 use word_image::{Rule, Side};
 
-/// The number of numbers from 0 to one more than the greatest possible rank.
+/// How many numbers there are from 0 to one more than the greatest possible rank, 119.
 const ROWS: usize = 121;
 
-/// Returns the least n for which the window (n, n + place) is determined: n letters of the image, all before the
-/// letter at this place of the last node. Greater n are determined too.
+/// Returns the least n for which the window (n, n + place) is determined, or None if there is none. In this window
+/// all n letters of the image are before the letter of the word, which is the letter at this place of the last node.
+/// Windows with greater n are determined too.
 pub(crate) fn start_past(rule: &Rule, ranks: &Ranks, place: u8) -> Option<u16>
     requires of_rule { ranks.now ≡ rule.now }
     requires place { place < rule.now.width - 1 }
@@ -29,7 +30,9 @@ pub(crate) fn start_past(rule: &Rule, ranks: &Ranks, place: u8) -> Option<u16>
     start
 }
 
-/// Does the same for the pairs of u and each other node, too. `start` is the result for the nodes before u.
+/// Returns the greater of `start` and the least n for which no two words with equal images of n letters end with u
+/// and with a node that differs from u in the letter at `place`. Returns None if there is no such n or if `start` is
+/// None.
 fn start_of(rule: &Rule, ranks: &Ranks, u: u8, place: u8, start: Option<u16>) -> Option<u16>
     requires of_rule { ranks.now ≡ rule.now }
     requires place { place < rule.now.width - 1 }
@@ -49,8 +52,8 @@ fn start_of(rule: &Rule, ranks: &Ranks, u: u8, place: u8, start: Option<u16>) ->
     start
 }
 
-/// Returns one more than the greatest backward rank. Two nodes that end words with equal images of this length do so
-/// for every length.
+/// Returns one more than the greatest finite backward rank, or 0 if no rank is finite. If two words with equal images
+/// of this length end with two nodes, such words exist for every length.
 pub(crate) fn past_ranks(ranks: &Ranks) -> u16
     ensures past { IsPast ranks.now (node_count ranks.now) result }
     ensures most { result ≤ most_start }
@@ -62,7 +65,8 @@ pub(crate) fn past_ranks(ranks: &Ranks) -> u16
     past
 }
 
-/// Returns the least number, at least `least`, that is above the backward ranks of u with every node.
+/// Returns the least number that is at least `least` and greater than all finite backward ranks of u with another
+/// node.
 fn past_ranks_of(ranks: &Ranks, u: u8, least: u16) -> u16
     requires node { u < node_count ranks.now }
     requires least { least ≤ most_start }
@@ -81,9 +85,9 @@ fn past_ranks_of(ranks: &Ranks, u: u8, least: u16) -> u16
     past
 }
 
-/// Returns for each number b up to `past`, which is above the finite ranks: the least length for which no pair of
-/// nodes that differ in their first letter and have the backward rank b begins words with equal images. The entry at
-/// `past` is for endless pairs.
+/// Returns a number for each backward rank b of two nodes that differ in their first letter: the least length n for
+/// which no two words with equal images of n letters begin with two such nodes. The number for endless pairs is at
+/// the place `past`, which is greater than all finite ranks. None means that there is no such length.
 pub(crate) fn starts_by_rank(rule: &Rule, ranks: &Ranks, past: u16) -> [Option<u16>; ROWS]
     requires of_rule { ranks.now ≡ rule.now }
     requires past { IsPast rule.now (node_count rule.now) past }
@@ -98,7 +102,7 @@ pub(crate) fn starts_by_rank(rule: &Rule, ranks: &Ranks, past: u16) -> [Option<u
     starts
 }
 
-/// Adds the pairs of u with each node to the result for the nodes before it.
+/// Adds the pairs of u with all nodes to `starts`, which is the result for the pairs of the nodes before u.
 fn add_starts(rule: &Rule, ranks: &Ranks, u: u8, past: u16, starts: &mut [Option<u16>; ROWS])
     requires rule { IsRule rule.now }
     requires of_rule { ranks.now ≡ rule.now }
@@ -116,8 +120,8 @@ fn add_starts(rule: &Rule, ranks: &Ranks, u: u8, past: u16, starts: &mut [Option
     }
 }
 
-/// Returns the number from which on two facts hold, if one holds from `a` on and the other from `b` on. None stands
-/// for a fact that never holds.
+/// Returns the least number from which on two facts hold, if the first fact holds from `a` on and the second from `b`
+/// on. None stands for a fact that never holds.
 pub(crate) fn later(a: Option<u16>, b: Option<u16>) -> Option<u16>
     ensures both { (n : ℕ) → HasBegun result n ↔ (HasBegun a n × HasBegun b n) }
     ensures later { result ≡ later a b }
@@ -125,7 +129,8 @@ pub(crate) fn later(a: Option<u16>, b: Option<u16>) -> Option<u16>
     Some(a?.max(b?))
 }
 
-/// Returns the least length for which no walks of two nodes on this side have equal labels.
+/// Returns the least n for which no two walks of n steps with equal labels lead from u and v on this side, or None if
+/// there are such walks for every n. It is one more than the rank of the two nodes.
 fn apart(ranks: &Ranks, side: Side, u: u8, v: u8) -> Option<u16>
     requires rule { IsRule ranks.now }
     requires first { u < node_count ranks.now }
@@ -136,7 +141,7 @@ fn apart(ranks: &Ranks, side: Side, u: u8, v: u8) -> Option<u16>
     Some(ranks.rank(side, u, v)? + 1)
 }
 
-/// Returns the backward rank of two nodes, or `past` if they are endless.
+/// Returns the backward rank of two nodes, or `past` if the nodes are endless backward.
 fn ends_for(ranks: &Ranks, u: u8, v: u8, past: u16) -> u16
     requires rule { IsRule ranks.now }
     requires first { u < node_count ranks.now }

@@ -1,4 +1,4 @@
-//! The least twins.
+//! Finds the least twins of a rule.
 ghost use Rattle.std.specs.Prelude.{◌≡◌, ◌≤◌, ◌↔◌, ℕ, List, length, IfOk, IfSome, IsNone, MatchOption};
 ghost use Rattle.least_walk.specs.Queues.{most_steps};
 ghost use Rattle.word_image.specs.LocalRules.{IsRule};
@@ -13,17 +13,17 @@ use pair_graph::Pairs;
 use std::alloc::{AllocError, Global};
 use word_image::{Rule, Word};
 
-/// Two different words of the same length whose rings have the same image.
+/// Twins: two different words of the same length whose rings have the same image.
 #[derive(Debug, Drop)]
 pub struct TwinPair {
     /// The first of the two words.
     pub x: Word,
-    /// The second one.
+    /// The second of the two words.
     pub y: Word,
 }
 
 /// Returns the least twins of a rule, or None if there are none, which means that the rule is injective. Each word
-/// has at most 512 letters.
+/// has at most 512 letters. The only error is lack of memory.
 pub fn twins(
     alloc: Global,
     rule: &Rule,
@@ -36,7 +36,8 @@ pub fn twins(
     twins_over(alloc, &Pairs::of(rule), walker)
 }
 
-/// Does the same as `twins` for the rule of these pairs.
+/// Returns the least twins of the rule of these pairs, or None if there are none, which means that the rule is
+/// injective. Each word has at most 512 letters. The only error is lack of memory.
 pub fn twins_over(
     alloc: Global,
     pairs: &Pairs,
@@ -55,7 +56,8 @@ pub fn twins_over(
     }
 }
 
-/// Returns the least of the walks in the marked graph from a pair without the mark to the same pair with the mark.
+/// Returns the least of the walks in the marked graph from a pair without the mark to the same pair with the mark, or
+/// None if there is none. The walk spells the least twins. The only error is lack of memory.
 fn first_turn(
     alloc: Global,
     pairs: &Pairs,
@@ -76,7 +78,7 @@ fn first_turn(
     Ok(first)
 }
 
-/// Returns the greatest number of steps of a walk that is less than the first one so far.
+/// Returns the greatest number of steps of a walk that can be less than `first`, which is the least walk so far.
 fn most_steps(first: &Option<Vec<u8>>) -> usize
     ensures { MatchOption first.now (result ≡ most_steps) (λ steps. result ≡ length steps.items) }
 {

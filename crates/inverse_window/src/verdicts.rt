@@ -1,4 +1,4 @@
-//! Whether a rule is injective, without the window that shows it.
+//! The test whether a rule is injective, without the window that shows it.
 ghost use Rattle.std.specs.Prelude.{◌≢◌, ◌<◌, ◌↔◌, ℕ, IsTrue};
 ghost use Rattle.word_image.specs.LocalRules.{IsRule, node_count};
 ghost use Rattle.tail_config.specs.Tails.{IsInjective};
@@ -20,7 +20,7 @@ pub fn is_injective(endless: &Endless) -> bool
     true
 }
 
-/// Returns whether another node is endless with u in both directions.
+/// Returns whether some other node is endless with the node u in both directions.
 fn has_other(endless: &Endless, u: u8) -> bool
     requires rule { IsRule endless.now }
     requires node { u < node_count endless.now }

@@ -1,4 +1,4 @@
-//! The least determined window.
+//! Finds the least determined window of a rule.
 ghost use Rattle.std.specs.Prelude.{◌≡◌, ◌+◌, ◌<◌, ◌≤◌, ◌↔◌, ℕ, IfSome, IsSome, MatchOption};
 ghost use Rattle.std.specs.Option.{option_map};
 ghost use Rattle.word_image.specs.Windows.{IsDetermined, IsLeastDetermined};
@@ -15,14 +15,15 @@ use word_image::Rule;
 /// ordered by n, then by c.
 #[derive(Clone, Copy, Debug, PartialEq, Eq, PartialOrd, Ord)]
 pub struct WindowAt {
-    /// The number of letters of the image that are read.
+    /// The number of letters of the image that determine the letter of the word.
     pub n: u16,
     /// The place of the letter among the n + m - 1 letters of the word.
     pub c: u16,
 }
 
 /// Returns the least determined window of a rule, or None if there is none, which means that the rule isn't
-/// injective. A rule that has one is surjective. Its n is at most 240. Needs no memory.
+/// injective. Every rule that has a determined window is surjective. The n of the window is at most 240. Needs no
+/// memory.
 pub fn window(rule: &Rule, ranks: &Ranks) -> Option<WindowAt>
     requires of_rule { ranks.now ≡ rule.now }
     ensures injective { IsSome result ↔ IsInjective rule.now }
@@ -41,7 +42,7 @@ pub fn window(rule: &Rule, ranks: &Ranks) -> Option<WindowAt>
     first
 }
 
-/// Returns the least determined window with c ≤ n.
+/// Returns the least determined window (n, c) with c ≤ n, or None if there is none.
 fn first_within(rule: &Rule, ranks: &Ranks) -> Option<WindowAt>
     requires of_rule { ranks.now ≡ rule.now }
     ensures first { IsFirstWindowOf rule.now (λ n c. c < n + 1) result }
@@ -58,7 +59,8 @@ fn first_within(rule: &Rule, ranks: &Ranks) -> Option<WindowAt>
     first
 }
 
-/// Returns the window with c letters of the image before the letter of the word, and `start` letters from it on.
+/// Returns the window (c + start, c): c letters of the image are before the letter of the word, and `start` letters
+/// from its place on. Returns None if `start` is None.
 fn window_within(c: u16, start: Option<u16>) -> Option<WindowAt>
     requires place { c ≤ most_start }
     requires most { IfSome start (λ n. n ≤ most_start) }
@@ -68,7 +70,8 @@ fn window_within(c: u16, start: Option<u16>) -> Option<WindowAt>
     Some(WindowAt { n: c + start?, c })
 }
 
-/// Returns the window with `start` letters of the image, all before the letter at this place of the last node.
+/// Returns the window (n, n + place) for n = `start`: all n letters of the image are before the letter of the word,
+/// which is the letter at this place of the last node. Returns None if `start` is None.
 fn window_past(place: u8, start: Option<u16>) -> Option<WindowAt>
     requires most { IfSome start (λ n. n ≤ most_start) }
     ensures window { result ≡ option_map (λ n. record { n = n; c = n + place }) start }
@@ -81,7 +84,7 @@ fn window_past(place: u8, start: Option<u16>) -> Option<WindowAt>
     })
 }
 
-/// Returns the lesser of two windows, if there are any.
+/// Returns the lesser of two windows. If only one of them exists, returns this one. Returns None if both are None.
 fn earlier(a: Option<WindowAt>, b: Option<WindowAt>) -> Option<WindowAt>
     ensures { IsEarlier a b result }
 {

@@ -1,4 +1,4 @@
-//! The flux of weights of words that a rule keeps.
+//! Finds the flux that shows that a rule keeps a sum of weights of words.
 ghost use Rattle.std.specs.Prelude.{◌≡◌, ℕ, ◌+◌, ◌-◌, ◌*◌, ◌^◌, ◌<◌, ◌≤◌, ◌↔◌, ℤ, pos, ◌-ℤ◌, IfSome, IsSome, IsTrue};
 ghost use Rattle.std.specs.Int.RustNames.{unsigned_abs};
 ghost use Rattle.word_image.specs.LocalRules.{value, word_of};
@@ -10,20 +10,21 @@ ghost use Rattle.kept_sums.specs.Fluxes.{IsFluxList, AreGains, IsFlowBy, window_
 use crate::rows::Row;
 use word_image::Rule;
 
-/// The greatest number of words of m + range - 2 letters: words of seven letters of two states.
+/// The greatest number of words of m + range - 2 letters. For example, there are 128 words of seven letters of two
+/// states.
 pub const MOST_FLOWS: usize = 128;
 
 /// The greatest number of words of m + range - 1 letters.
 const MOST_WINDOWS: usize = 256;
 
-/// A number for each word of m + range - 2 letters, by its value, followed by zeros.
+/// A number for each word of m + range - 2 letters, by the word's value, followed by zeros.
 pub type Flux = [i64; MOST_FLOWS];
 
-/// A number for each word of m + range - 1 letters, by its value, followed by zeros.
+/// The gain of each window of m + range - 1 letters, by the window's value, followed by zeros.
 type Gains = [i64; MOST_WINDOWS];
 
-/// Returns the flux of weights of words that is 0 for the word of zeros (Hattori and Takesue 1991), or None if the
-/// rule doesn't keep their sum. Weights are from -2^56 to 2^56.
+/// Returns the flux of these weights of words of `range` letters that is 0 for the word of zeros (Hattori and Takesue
+/// 1991). Returns None if the rule doesn't keep the sum of the weights. The weights are from -2^56 to 2^56.
 pub fn flux(rule: &Rule, range: u8, weights: &Row) -> Option<Flux>
     requires some { 1 ≤ range }
     requires few { rule.now.states ^ range ≤ 16 }
@@ -42,7 +43,7 @@ pub fn flux(rule: &Rule, range: u8, weights: &Row) -> Option<Flux>
     }
 }
 
-/// Returns whether the rule keeps the sum of these weights.
+/// Returns whether the rule keeps the sum of these weights of words of `range` letters on every ring.
 pub(crate) fn is_kept(rule: &Rule, range: u8, weights: &Row) -> bool
     requires some { 1 ≤ range }
     requires few { rule.now.states ^ range ≤ 16 }
@@ -52,7 +53,7 @@ pub(crate) fn is_kept(rule: &Rule, range: u8, weights: &Row) -> bool
     flux(rule, range, weights).is_some()
 }
 
-/// Returns for each window of m + range - 1 letters, by its value, how much it adds to the sum.
+/// Returns for each window of m + range - 1 letters, by its value, the gain of this window.
 fn gains(rule: &Rule, range: u8, weights: &Row) -> Gains
     requires some { 1 ≤ range }
     requires few { rule.now.states ^ range ≤ 16 }
@@ -68,7 +69,8 @@ fn gains(rule: &Rule, range: u8, weights: &Row) -> Gains
     gains
 }
 
-/// Returns the weight of the image of a window minus the weight of its first letters.
+/// Returns the gain of a window of m + range - 1 letters: the weight of its image minus the weight of its first
+/// `range` letters. The image has `range` letters.
 fn gain(rule: &Rule, range: u8, weights: &Row, window: u16) -> i64
     requires some { 1 ≤ range }
     requires few { rule.now.states ^ range ≤ 16 }
@@ -82,7 +84,7 @@ fn gain(rule: &Rule, range: u8, weights: &Row, window: u16) -> i64
     weights[usize::from(after)] - weights[usize::from(before)]
 }
 
-/// Returns the value of the image of a window.
+/// Returns the value of the image of a window of m + range - 1 letters. The image has `range` letters.
 fn image_value(rule: &Rule, range: u8, window: u16) -> u8
     requires some { 1 ≤ range }
     requires few { rule.now.states ^ range ≤ 16 }
@@ -100,8 +102,8 @@ fn image_value(rule: &Rule, range: u8, window: u16) -> u8
     word
 }
 
-/// Returns the number of each word, if there is a flux: the negative of what the walk from the word of zeros to the
-/// word adds to the sum.
+/// Returns the only numbers that can be a flux with 0 for the word of zeros. The number of a word of `letters`
+/// letters is the negative of the sum of the gains along the walk from the word of zeros to this word.
 fn numbers(k: u16, letters: u8, gains: &Gains) -> Flux
     requires states { 2 ≤ k }
     requires few { k ^ (letters + 1) ≤ 256 }
@@ -113,14 +115,16 @@ fn numbers(k: u16, letters: u8, gains: &Gains) -> Flux
     ensures ends { (v : ℕ) → k ^ letters ≤ v → v < 128 → at result v ≡ pos 0 }
 {
     let mut flux = [0; MOST_FLOWS];
-    // The window 0 w leads from w without its last letter to w.
+    // The window of a 0 and a word has the value of this word. It leads from the word with the value word / k to the
+    // word.
     for word in 1..k.pow(u32::from(letters)) {
         flux[usize::from(word)] = flux[usize::from(word / k)] - gains[usize::from(word)];
     }
     flux
 }
 
-/// Returns whether each window adds the number of its first letters minus the number of its last letters.
+/// Returns whether these numbers are a flux: whether the gain of each window is the number of its first letters minus
+/// the number of its last letters. A window has one letter more than `letters`, the number of letters of a word.
 fn flow_by(k: u16, letters: u8, gains: &Gains, flux: &Flux) -> bool
     requires states { 2 ≤ k }
     requires few { k ^ (letters + 1) ≤ 256 }

@@ -1,4 +1,4 @@
-//! All sums that a rule keeps.
+//! Finds all sums that a rule keeps.
 ghost use Rattle.std.specs.Prelude.{◌≡◌, ◌≢◌, ℕ, ◌+◌, ◌-◌, ◌*◌, ◌^◌, ◌<◌, ◌≤◌, length, take, set, true, pos, ◌<ℤ◌};
 ghost use Rattle.word_image.specs.Rings.{IsRing};
 ghost use Rattle.kept_sums.specs.Rows.{IsUnit};
@@ -12,19 +12,21 @@ use crate::rows::{MOST_WORDS, Row, gain};
 use crate::steps::{Rows, last_gain, narrow};
 use word_image::Rule;
 
-/// The result: a row of weights or a ring for each word that doesn't begin with the letter 0.
+/// The sums that a rule keeps: for each word that doesn't begin with the letter 0 a row of weights or a ring.
 #[repr(C)]
 #[derive(Clone, Copy, Debug)]
 pub struct KeptSums {
-    /// The rows, each at the place of the first word to which it gives a weight. The other rows are zeros.
+    /// The rows, each at the place of the first word to which the row gives a weight. All other rows are zeros.
     pub rows: Rows,
-    /// The length of the ring that shows that a place has no row, or 0 if there is no ring.
+    /// For each word the length of the ring that shows that there is no row at the word's place, or 0 if there is no
+    /// ring at this place.
     pub counts: [u8; MOST_WORDS],
-    /// The letters of these rings, followed by any others.
+    /// For each word the letters of its ring, followed by any numbers.
     pub rings: [[u8; LONGEST]; MOST_WORDS],
 }
 
-/// Returns a row for each word that doesn't begin with the letter 0, which gives only this word a weight, 1.
+/// Returns the sums before any ring is tested: for each word that doesn't begin with the letter 0 a row that gives
+/// the weight 1 to this word and 0 to all others.
 fn start(rule: &Rule, range: u8) -> KeptSums
     requires some { 1 ≤ range }
     requires few { rule.now.states ^ range ≤ 16 }
@@ -54,8 +56,9 @@ fn unit(place: u8) -> Row
     row
 }
 
-/// Narrows the sums by a ring, which means that their rows keep its sum afterwards. Most rings change nothing, so
-/// this works in place: a copy of the sums would cost more than the ring.
+/// Changes the rows so that the rule keeps their sums on this ring. If it didn't keep all of them before, one row
+/// becomes 0 and the ring is stored in its place. Most rings change nothing, so this works in place: a copy of the
+/// sums would cost more than the ring.
 fn narrow_by_ring(rule: &Rule, range: u8, sums: &mut KeptSums, letters: &[u8; LONGEST], count: u8)
     requires few { rule.now.states ^ range ≤ 16 }
     requires stage { IsStage rule.now range sums.old.rows sums.old.counts sums.old.rings }
@@ -74,7 +77,7 @@ fn narrow_by_ring(rule: &Rule, range: u8, sums: &mut KeptSums, letters: &[u8; LO
     };
     sums.counts[usize::from(pivot)] = count;
     sums.rings[usize::from(pivot)] = *letters;
-    // The row has a positive gain for the two words in one of their orders.
+    // The pivot needs a positive gain. If its gain is negative, the two lists of words change places.
     if gain(&sums.rows[usize::from(pivot)], after, before) > 0 {
         narrow(&mut sums.rows, pivot, after, before)
     } else {
@@ -82,7 +85,7 @@ fn narrow_by_ring(rule: &Rule, range: u8, sums: &mut KeptSums, letters: &[u8; LO
     }
 }
 
-/// Returns the sums narrowed by all rings of this length.
+/// Returns the sums after the rows have been changed by all rings of `count` letters.
 fn narrowed_by_rings(rule: &Rule, range: u8, sums: KeptSums, count: u8) -> KeptSums
     requires few { rule.now.states ^ range ≤ 16 }
     requires stage { IsStage rule.now range sums.rows sums.counts sums.rings }
@@ -101,7 +104,8 @@ fn narrowed_by_rings(rule: &Rule, range: u8, sums: KeptSums, count: u8) -> KeptS
     sums
 }
 
-/// Returns whether the rule keeps the sum of each row that has a number at its own place.
+/// Returns whether the rule keeps the sum of each row that has a number other than 0 at its own place. The own place
+/// of row i is place i.
 fn are_kept(rule: &Rule, range: u8, rows: &Rows) -> bool
     requires some { 1 ≤ range }
     requires few { rule.now.states ^ range ≤ 16 }
@@ -116,7 +120,8 @@ fn are_kept(rule: &Rule, range: u8, rows: &Rows) -> bool
     true
 }
 
-/// Returns the sums of integer weights of words of `range` letters that a rule keeps on every ring.
+/// Returns all sums of integer weights of words of `range` letters that a rule keeps on every ring. There are at most
+/// 16 words of this length.
 pub fn kept_sums(rule: &Rule, range: u8) -> KeptSums
     requires some { 1 ≤ range }
     requires few { rule.now.states ^ range ≤ 16 }

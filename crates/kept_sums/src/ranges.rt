@@ -1,9 +1,9 @@
-//! The possible lengths of weighed words.
+//! The lengths of words that can have weights.
 ghost use Rattle.std.specs.Prelude.{◌≡◌, ◌≤◌};
 ghost use Rattle.std.specs.Result.{result_err};
 ghost use Rattle.kept_sums.specs.RangeFaults.{range_fault};
 
-/// Why words of this length can't be weighed.
+/// Why words of this length can't have weights.
 #[derive(Clone, Copy, Debug, PartialEq, Eq)]
 pub enum RangeFault {
     /// The words have no letter.
@@ -12,7 +12,8 @@ pub enum RangeFault {
     Words,
 }
 
-/// Accepts words of at least one letter if there are at most 16 of them, and returns the fault otherwise.
+/// Checks whether the words of `range` letters can have weights: there must be at least one letter and at most 16
+/// such words. Returns the fault otherwise. There are from 2 to 16 states.
 pub fn check_range(k: u8, range: u8) -> Result<(), RangeFault>
     requires least { 2 ≤ k }
     requires most { k ≤ 16 }
@@ -21,7 +22,7 @@ pub fn check_range(k: u8, range: u8) -> Result<(), RangeFault>
     if range == 0 {
         return Err(RangeFault::Zero);
     }
-    // There are 32 words of five letters of two states.
+    // Words of five letters are too many: there are at least 32 of them.
     if range > 4 || u32::from(k).pow(u32::from(range)) > 16 {
         return Err(RangeFault::Words);
     }

@@ -1,4 +1,4 @@
-//! Short rings: their images, and the words around them.
+//! Short rings: their images, and the words that begin at their places.
 ghost use Rattle.std.specs.Prelude.{◌≡◌, ◌^◌, ◌<◌, ◌≤◌, length, take, pos};
 ghost use Rattle.std.specs.Int.{int_rem_euclid};
 ghost use Rattle.word_image.specs.LocalRules.{IsRule, value, word_of};
@@ -11,7 +11,8 @@ use word_image::{Rule, ring_apply};
 /// The greatest length of a ring that is tested: 2 (m + range) - 3 at width 5 and range 4.
 pub const LONGEST: usize = 15;
 
-/// Returns the values of the words around the image of a ring and around the ring, each followed by any numbers.
+/// Returns the values of the words of `range` letters that begin at the places of a ring's image, and the values of
+/// the words that begin at the places of the ring. Both lists are followed by any numbers.
 pub(crate) fn words(rule: &Rule, range: u8, ring: &[u8]) -> ([u8; LONGEST], [u8; LONGEST])
     requires ring { IsRing rule.now.states ring.now }
     requires short { length ring.now ≤ 15 }
@@ -25,7 +26,7 @@ pub(crate) fn words(rule: &Rule, range: u8, ring: &[u8]) -> ([u8; LONGEST], [u8;
     (after, before)
 }
 
-/// Returns the values of the words around a ring, beginning at each place, followed by zeros.
+/// Returns the values of the words of `range` letters that begin at the places of a ring, followed by zeros.
 fn blocks(k: u8, range: u8, ring: &[u8]) -> [u8; LONGEST]
     requires ring { IsRing k ring.now }
     requires short { length ring.now ≤ 15 }
@@ -40,7 +41,7 @@ fn blocks(k: u8, range: u8, ring: &[u8]) -> [u8; LONGEST]
     values
 }
 
-/// Returns the value of the word of `range` letters that begins at a place of a ring.
+/// Returns the value of the word of `range` letters that begins at this place of a ring.
 fn block(k: u8, range: u8, ring: &[u8], place: usize) -> u8
     requires ring { IsRing k ring.now }
     requires short { length ring.now ≤ 15 }
@@ -71,7 +72,7 @@ fn image_letters(rule: &Rule, ring: &[u8]) -> [u8; LONGEST]
     letters
 }
 
-/// Returns the place at which the window of place 0 begins, on a ring of `count` letters.
+/// Returns the place of a ring with `count` letters at which the window of place 0 begins.
 fn first_place(rule: &Rule, count: usize) -> usize
     requires some { 0 < count }
     requires fits { count < 2 ^ 63 }

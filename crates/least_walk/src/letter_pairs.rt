@@ -1,4 +1,4 @@
-//! Pairs of letters in bytes: the pair (a, b) is 16 a + b.
+//! Pairs of letters, stored as bytes: the pair (a, b) is the number 16 a + b.
 
 ghost use Rattle.std.specs.Prelude.{◌≡◌, ◌/◌, ◌%◌, map, IfOk, MatchOption, if◌then◌else◌};
 ghost use Rattle.std.specs.Ordering.{is_lt};
@@ -9,7 +9,7 @@ use std::alloc::{AllocError, Global};
 use word_image::Word;
 
 /// Returns the two words that pairs of letters spell: the word of the first letters and the word of the second
-/// letters.
+/// letters. The only error is lack of memory.
 pub fn spelled(alloc: Global, steps: &[u8]) -> Result<(Word, Word), AllocError>
     ensures first { IfOk result (λ words. words.0 ≡ map (λ step. step / most_states) steps.now) }
     ensures second { IfOk result (λ words. words.1 ≡ map (λ step. step % most_states) steps.now) }
@@ -20,7 +20,7 @@ pub fn spelled(alloc: Global, steps: &[u8]) -> Result<(Word, Word), AllocError>
     ))
 }
 
-/// Returns the lesser of two walks, or `other` if there is no first one.
+/// Returns the lesser of the walks `first` and `other`, or `other` if there is no `first`.
 pub fn earlier(first: Option<Vec<u8>>, other: Vec<u8>) -> Vec<u8>
     ensures { MatchOption first (result.items ≡ other.items) (λ old. result.items ≡ (if is_lt (word_cmp other.items old.items) then other.items else old.items)) }
 {

@@ -11,8 +11,9 @@ use pair_graph::Pairs;
 use std::marker::Model;
 use word_image::MOST_NODES;
 
-/// A set of marked pairs. In contracts it is its rows: for each first node, first without the mark and then with it,
-/// the set of the second nodes.
+/// A set of marked pairs. In contracts it is the list of its rows. Row u is the set of the nodes v for which the pair
+/// (u, v) without the mark is in the set of marked pairs. Row 16 + u is the set of the nodes v for which the pair (u,
+/// v) with the mark is in it.
 #[derive(Drop)]
 pub struct Rows {
     rows: [u16; 2 * MOST_NODES],
@@ -27,7 +28,7 @@ impl Model for Rows {
 }
 
 impl Rows {
-    /// Returns the empty set.
+    /// Returns the empty set of marked pairs.
     pub fn new() -> Rows
         ensures { (r : LocalRule) (t : ℕ) → ¬ HasPair r result t }
     {
@@ -54,8 +55,8 @@ impl Rows {
         self.rows[MOST_NODES * usize::from(at.mark) + usize::from(at.first)] |= 1u16 << at.second;
     }
 
-    /// Returns the second letters with which, after the first letter `a`, a step may lead to a marked pair outside
-    /// the set. Bit b stands for letter b.
+    /// Returns second letters for steps from the marked pair `from` with the first letter `a`. A step with any other
+    /// second letter leads to a marked pair of the set. Bit b of the result stands for letter b.
     pub fn fresh(&self, pairs: &Pairs, from: PairParts, a: u8) -> u16
         requires mark { from.mark < 2 }
         requires first { from.first < node_count pairs.now }
@@ -79,20 +80,20 @@ impl Rows {
     }
 }
 
-/// A marked pair with its parts.
+/// A marked pair: its number, its mark and its two nodes.
 #[derive(Clone, Copy)]
 pub struct PairParts {
     /// The number of the marked pair.
     pub pair: u16,
-    /// 1 with the mark, and 0 without it.
+    /// The mark: 1 if the pair has the mark, and 0 if it doesn't.
     pub mark: u8,
-    /// The first node.
+    /// The first node of the pair.
     pub first: u8,
-    /// The second node.
+    /// The second node of the pair.
     pub second: u8,
 }
 
-/// Returns a marked pair with its parts.
+/// Returns the marked pair with the number `t`, together with its mark and its nodes.
 pub fn parts_of(pairs: &Pairs, t: u16) -> PairParts
     requires { t < 2 * pair_count pairs.now }
     ensures pair { result.pair ≡ t }
@@ -111,7 +112,7 @@ pub fn parts_of(pairs: &Pairs, t: u16) -> PairParts
     }
 }
 
-/// Returns the marked pair with these parts.
+/// Returns the marked pair of these two nodes with this mark, together with its number.
 fn with_parts(pairs: &Pairs, mark: u8, first: u8, second: u8) -> PairParts
     requires mark { mark < 2 }
     requires first { first < node_count pairs.now }
@@ -127,7 +128,8 @@ fn with_parts(pairs: &Pairs, mark: u8, first: u8, second: u8) -> PairParts
     }
 }
 
-/// Follows the letters a and b from a marked pair, like [`Pairs::marked`].
+/// Returns the marked pair to which the letters a and b lead from a marked pair, like [`Pairs::marked`]. Returns None
+/// if the labels of the two edges differ.
 pub fn step_from(pairs: &Pairs, from: PairParts, a: u8, b: u8) -> Option<PairParts>
     requires rule { IsRule pairs.now }
     requires from { IsMarkedPair pairs.now from }

@@ -12,52 +12,55 @@ use crate::marks::{PairParts, Rows, parts_of, step_from};
 use pair_graph::Pairs;
 use word_image::MOST_PAIRS;
 
-/// The greatest number of marked pairs.
+/// The greatest number of marked pairs of a rule.
 pub const MOST_MARKED_PAIRS: usize = 2 * MOST_PAIRS;
 
-/// A marked pair and how it was reached first: from the marked pair at place `parent`, by `step`, which is a pair of
-/// letters (a, b) as 16 a + b. For the start, which is first, these two have no meaning.
+/// A marked pair in the queue of a search, and how the search reached this marked pair first. `parent` is the place
+/// in the queue from which a step led to it, and `step` is the pair of letters of this step, (a, b) as 16 a + b. The
+/// start of the search is at place 0, and its `parent` and `step` have no meaning.
 #[derive(Clone, Copy, Debug)]
 pub struct Reached {
-    /// The marked pair.
+    /// The number of the marked pair.
     pub pair: u16,
-    /// The place from which it was reached.
+    /// The place in the queue of the marked pair from which this one was reached.
     pub parent: u16,
-    /// The pair of letters by which it was reached.
+    /// The pair of letters by which this marked pair was reached.
     pub step: u8,
-    /// The number of steps from the start to it.
+    /// The number of steps from the start of the search to this marked pair.
     pub depth: u16,
 }
 
-/// The marked pairs at the ends of a walk.
+/// The marked pairs at the two ends of a walk.
 #[derive(Clone, Copy)]
 pub struct Ends {
-    /// The marked pair at which it starts.
+    /// The number of the marked pair at which the walk starts.
     pub start: u16,
-    /// The marked pair at which it should end, if any.
+    /// The number of the marked pair at which the walk should end. If it is None, the search has no goal, and lists
+    /// all marked pairs that it can reach.
     pub goal: Option<u16>,
 }
 
-/// The marked pair whose steps are being followed.
+/// The marked pair whose steps the search follows now.
 #[derive(Clone, Copy)]
 struct Head {
-    /// Its place in the queue.
+    /// The place of the marked pair in the queue.
     place: usize,
-    /// The marked pair.
+    /// The marked pair with its mark and its nodes.
     parts: PairParts,
 }
 
-/// The step with which a walk reaches its goal, and the place from which the step is made.
+/// The last step of a walk to the goal.
 #[derive(Clone, Copy, Debug)]
 pub struct Arrival {
-    /// The place in the queue.
+    /// The place in the queue of the marked pair from which the step leads to the goal.
     pub place: u16,
-    /// The pair of letters.
+    /// The pair of letters of the step, (a, b) as 16 a + b.
     pub step: u8,
 }
 
-/// Lists the marked pairs that are reached from the start, breadth first with pairs of letters ascending. Stops when
-/// a step leads to the goal, and returns that step. Stops too before the first marked pair that is `most` steps away.
+/// Lists in `queue` the marked pairs that are reached from the start, breadth first with pairs of letters ascending.
+/// Stops when a step leads to the goal, and returns this step. Otherwise returns None. Also stops at the first marked
+/// pair that is `most` steps away, and doesn't follow its steps.
 pub fn search(queue: &mut Vec<Reached>, pairs: &Pairs, ends: Ends, most: usize) -> Option<Arrival>
     requires room { most_marked_pairs ≤ vec_capacity queue.old }
     requires start { ends.start < 2 * pair_count pairs.now }
@@ -95,7 +98,8 @@ pub fn search(queue: &mut Vec<Reached>, pairs: &Pairs, ends: Ends, most: usize) 
     None
 }
 
-/// Follows the steps from the marked pair at `head`. Stops when one leads to the goal, and returns it.
+/// Follows the steps from the marked pair at the place `head` of the queue, and appends the marked pairs that are
+/// new. Stops when a step leads to the goal, and returns the step's pair of letters.
 fn follow_steps(
     queue: &mut Vec<Reached>,
     rows: &mut Rows,
@@ -128,8 +132,9 @@ fn follow_steps(
     None
 }
 
-/// Follows the steps from the marked pair at `head` with the first letter a. Steps with a second letter outside
-/// `letters` lead to nothing new.
+/// Follows the steps from the marked pair `head` with the first letter a, and appends the marked pairs that are new.
+/// Stops when a step leads to the goal, and returns the step's pair of letters. A step with a second letter outside
+/// `letters` leads to no new marked pair.
 fn follow_letter(
     queue: &mut Vec<Reached>,
     rows: &mut Rows,
@@ -171,7 +176,8 @@ fn follow_letter(
     None
 }
 
-/// Returns the marked pair to which the letters lead, if it isn't in the rows.
+/// Returns the marked pair to which the letters `a` and `b` lead from `from`. Returns None if there is no such step
+/// or if the marked pair is in the rows. The letter `b` is tried only if it is in `letters`.
 fn new_step(
     pairs: &Pairs,
     rows: &Rows,
@@ -197,7 +203,7 @@ fn new_step(
     if rows.has(q) { None } else { Some(q) }
 }
 
-/// Appends to a list that has capacity for one more item.
+/// Appends an item to a list that has capacity for one more item.
 pub fn put<T: Drop>(list: &mut Vec<T>, item: T)
     requires { vec_len list.old < vec_capacity list.old }
     ensures items { list.new.items ≡ list.old.items ++ item ∷ [] }

@@ -17,18 +17,18 @@ use std::marker::Model;
 use word_image::Rule;
 
 /// The least walks of at most `most` steps from one marked pair to all others, as the tree that one search makes. In
-/// contracts it is the rule, the marked pair at the start, and `most`.
+/// contracts it is the rule, the number of the marked pair at the start, and `most`.
 #[derive(Debug, Drop)]
 pub struct WalkTree {
-    // The rule.
+    // The rule of the marked graph.
     rule: Rule,
-    // The marked pair at which the walks start.
+    // The number of the marked pair at which the walks start.
     start: u16,
-    // The greatest number of steps.
+    // The greatest number of steps of a walk.
     most: usize,
-    // The marked pairs that the walks reach, in the order of the walks.
+    // The marked pairs to which the walks lead, in the order of the walks.
     queue: Vec<Reached>,
-    // The place of each of these marked pairs. The entries of the others have no meaning.
+    // For each marked pair its place in the queue. If a marked pair isn't in the queue, its entry has no meaning.
     places: [u16; MOST_MARKED_PAIRS],
 }
 
@@ -43,7 +43,7 @@ impl Model for WalkTree {
 }
 
 impl WalkTree {
-    /// Finds the least walks from this marked pair.
+    /// Finds the least walks from this marked pair to all others. The only error is lack of memory.
     pub fn of(alloc: Global, pairs: &Pairs, start: u16) -> Result<WalkTree, AllocError>
         requires { start < 2 * pair_count pairs.now }
         ensures { IfOk result (λ tree. tree ≡ record { rule = pairs.now; start = start; most = most_steps }) }
@@ -51,7 +51,8 @@ impl WalkTree {
         WalkTree::within(alloc, pairs, start, MOST_STEPS)
     }
 
-    /// Finds the least walks of at most `most` steps from this marked pair.
+    /// Finds the least walks of at most `most` steps from this marked pair to all others. The only error is lack of
+    /// memory.
     pub fn within(
         alloc: Global,
         pairs: &Pairs,
@@ -74,7 +75,8 @@ impl WalkTree {
         })
     }
 
-    /// Returns the marked pairs that the walks reach, those of shorter walks first.
+    /// Returns the numbers of the marked pairs to which the walks lead, in the order of the walks. The only error is
+    /// lack of memory.
     pub fn pairs(&self, alloc: Global) -> Result<Vec<u16>, AllocError>
         ensures below { IfOk result (λ pairs. All (λ t. t < 2 * pair_count self.now.rule) pairs.items) }
         ensures all { IfOk result (λ pairs. most_steps ≤ self.now.most → (w : List (ℕ × ℕ)) (t : ℕ) → PairWalk (marked self.now.rule) self.now.rule.states self.now.start w t → Contains pairs.items t) }
@@ -82,7 +84,8 @@ impl WalkTree {
         pairs_of(alloc, &self.queue)
     }
 
-    /// Returns the number of steps of the walk that `walk_to` returns, or None if it returns None.
+    /// Returns the number of steps of the walk that `walk_to` returns for this marked pair, or None if `walk_to`
+    /// returns None.
     pub fn steps_to(&self, to: u16) -> Option<usize>
         requires { to < 2 * pair_count self.now.rule }
         ensures steps { IfSome result (λ n. (w : List (ℕ × ℕ)) × IsLeastWalkTo (marked self.now.rule) self.now.rule.states self.now.start to w × (length w ≡ n)) }
@@ -96,9 +99,10 @@ impl WalkTree {
         }
     }
 
-    /// Returns the least walk to a marked pair: the shortest, and among those the first in the dictionary order of
-    /// their pairs of letters. The least walk to the start has no steps. Returns None if every walk has more steps
-    /// than the limit allows. A limit of [`MOST_STEPS`] or more excludes no walk.
+    /// Returns the least walk to a marked pair: the shortest, and among the shortest the first in the dictionary
+    /// order of their pairs of letters. The least walk to the start has no steps. Returns None if every walk has more
+    /// steps than the limit allows. A limit of [`MOST_STEPS`] or more excludes no walk. The only error is lack of
+    /// memory.
     pub fn walk_to(&self, alloc: Global, to: u16) -> Result<Option<Vec<u8>>, AllocError>
         requires { to < 2 * pair_count self.now.rule }
         ensures walk { IfOk result (λ found. MatchOption found ((w : List (ℕ × ℕ)) → length w ≤ self.now.most → ¬ PairWalk (marked self.now.rule) self.now.rule.states self.now.start w to) (λ steps. IsLeastWalkTo (marked self.now.rule) self.now.rule.states self.now.start to (map (uncode most_states) steps.items))) }
@@ -115,14 +119,15 @@ impl WalkTree {
     }
 }
 
-/// Returns the marked pairs in the queue.
+/// Returns the numbers of the marked pairs in the queue, in its order. The only error is lack of memory.
 fn pairs_of(alloc: Global, queue: &[Reached]) -> Result<Vec<u16>, AllocError>
     ensures { IfOk result (λ pairs. pairs.items ≡ map (λ reached. reached.pair) queue.now) }
 {
     queue.iter().map(|reached| reached.pair).collect(alloc)
 }
 
-/// Returns the place of each marked pair in the queue.
+/// Returns for each marked pair its place in the queue. If a marked pair isn't in the queue, its entry has no
+/// meaning.
 fn index(queue: &[Reached]) -> [u16; MOST_MARKED_PAIRS]
     requires { AreApart queue.now }
     ensures { IsPairIndex queue.now result }
@@ -134,7 +139,7 @@ fn index(queue: &[Reached]) -> [u16; MOST_MARKED_PAIRS]
     places
 }
 
-/// Returns the place of a marked pair in the queue, if it is there.
+/// Returns the place of a marked pair in the queue, or None if it isn't there.
 fn place_of(queue: &[Reached], places: &[u16; MOST_MARKED_PAIRS], to: u16) -> Option<u16>
     requires pair { to < most_marked_pairs }
     requires index { IsPairIndex queue.now places.now }

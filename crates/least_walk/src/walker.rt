@@ -1,4 +1,4 @@
-//! Searches for walks, with memory that is allocated once.
+//! Searches for least walks, with memory that is allocated once.
 
 ghost use Rattle.std.specs.Prelude.{ℕ, ◌+◌, ◌*◌, ◌<◌, ◌≤◌, List, length, map, vec_capacity, IfSome, IfNone, Some};
 ghost use Rattle.word_image.specs.LocalRules.{most_states};
@@ -16,9 +16,9 @@ pub const MOST_STEPS: usize = 512;
 /// result depends on an earlier search.
 #[derive(Debug, Drop)]
 pub struct Walker {
-    // The marked pairs that the last search reached, with capacity for all.
+    // The marked pairs that the last search reached, with capacity for all marked pairs.
     queue: Vec<Reached>,
-    // The steps of the walk that it found, with capacity for the longest.
+    // The steps of the walk that the last search found, with capacity for the longest walk.
     steps: Vec<u8>,
 }
 
@@ -38,7 +38,7 @@ impl Walker {
     ghost use Rattle.word_image.specs.MarkedPairs.{marked};
     ghost use Rattle.search_laws.specs.PairWalks.{IsLeastWalk, PairWalk, uncode};
 
-    /// Allocates all memory of the searches.
+    /// Allocates the memory of all searches.
     pub fn new(alloc: Global) -> Result<Walker, AllocError> {
         Ok(Walker {
             queue: Vec::with_capacity(alloc, MOST_MARKED_PAIRS)?,
@@ -46,9 +46,9 @@ impl Walker {
         })
     }
 
-    /// Returns the least walk of at least one step from one marked pair to another: the shortest, and among those the
-    /// first in the dictionary order of their pairs of letters. Returns None if there is no walk. The pair of letters
-    /// (a, b) is the byte 16 a + b.
+    /// Returns the least walk of at least one step from one marked pair to another: the shortest, and among the
+    /// shortest the first in the dictionary order of their pairs of letters. Returns None if there is no walk. The
+    /// pair of letters (a, b) is the byte 16 a + b.
     pub fn walk(&mut self, pairs: &Pairs, from: u16, to: u16) -> Option<&[u8]>
         requires from { from < 2 * pair_count pairs.now }
         requires to { to < 2 * pair_count pairs.now }
@@ -59,7 +59,7 @@ impl Walker {
         self.walk_within(pairs, from, to, MOST_STEPS)
     }
 
-    /// Returns the walk that `walk` returns if it has at most `most` steps, and None otherwise. A limit of
+    /// Returns the walk that `walk` returns if this walk has at most `most` steps, and None otherwise. A limit of
     /// [`MOST_STEPS`] or more excludes no walk.
     pub fn walk_within(&mut self, pairs: &Pairs, from: u16, to: u16, most: usize) -> Option<&[u8]>
         requires from { from < 2 * pair_count pairs.now }
@@ -86,7 +86,9 @@ impl Walker {
     }
 }
 
-/// Puts the steps by which the marked pair at a place was reached before the given steps, which are in reverse order.
+/// Completes a walk. At first `steps` has the last steps of the walk, in reverse order. Afterwards it has all steps
+/// in their order: first the steps by which the search reached the marked pair at `place` of the queue, and then the
+/// given steps.
 pub fn spell(queue: &[Reached], place: u16, steps: &mut Vec<u8>)
     requires room { most_steps ≤ vec_capacity steps.old }
     requires place { place < length queue.now }

@@ -1,4 +1,4 @@
-//! Why a list wasn't written to its end.
+//! The reasons why a list wasn't written to its end.
 use ca_io::Failed;
 use std::alloc::AllocError;
 

@@ -1,12 +1,16 @@
 //! The program that lists all rules of a shape that have a property.
 //!
-//! The words name a *property* and a *beginning*, which is a table text with any number of digits. It stands for all
-//! rules whose table begins with these digits. The list has a line for each of these rules that has the property. Its
-//! last line is the number of rules:
+//! The two words of the command line are the name of a *property* and a *beginning*. A beginning is a table text with
+//! any number of digits, and stands for all rules whose table begins with these digits. The list has a line for each
+//! of these rules that has the property. Its last line is the number of rules. The words
 //!
 //! ```text
 //! injective 2:3:-1:t0
+//! ```
 //!
+//! give the list
+//!
+//! ```text
 //! 2:3:-1:t00001111
 //! 2:3:-1:t01010101
 //! 2:3:-1:t00110011

@@ -1,4 +1,4 @@
-//! The lines that the program writes.
+//! The lines that the program writes: a fault of a beginning, a rule, and the number of rules.
 ghost use Rattle.std.specs.Prelude.{◌≡◌, ◌^◌, IfOk, length, map, string_bytes};
 ghost use Rattle.std.specs.Prelude.{ℕ, ◌<◌, ◌-◌};
 ghost use Rattle.word_image.specs.LocalRules.{IsRule};
@@ -9,7 +9,7 @@ use rule_text::{TextFault, fault_kind, print};
 use std::alloc::{AllocError, Global};
 use word_image::{Rule, digit};
 
-/// Returns the line with the fault of a beginning.
+/// Returns the line that reports the fault of a beginning. The only error is lack of memory.
 pub fn fault_line(alloc: Global, fault: TextFault) -> Result<String, AllocError>
     ensures { IfOk result (λ text. string_bytes text ≡ fault_line fault) }
 {
@@ -17,7 +17,7 @@ pub fn fault_line(alloc: Global, fault: TextFault) -> Result<String, AllocError>
     format!(in alloc; "rule fault 1 {kind}\n")
 }
 
-/// Returns the line of a rule.
+/// Returns the line of a rule: its text and the end of the line. The only error is lack of memory.
 pub fn first_line(alloc: Global, rule: &Rule) -> Result<Vec<u8>, AllocError>
     requires { IsRule rule.now }
     ensures { IfOk result (λ line. IsLineOf rule.now line.items) }
@@ -27,14 +27,15 @@ pub fn first_line(alloc: Global, rule: &Rule) -> Result<Vec<u8>, AllocError>
     Ok(line)
 }
 
-/// Returns the line with the number of rules.
+/// Returns the line with the number of rules, for example `rules 3`. The only error is lack of memory.
 pub fn last_line(alloc: Global, count: u64) -> Result<String, AllocError>
     ensures { IfOk result (λ text. string_bytes text ≡ count_line count) }
 {
     format!(in alloc; "rules {count}\n")
 }
 
-/// Changes a line into the line of a rule, at the offset of the rule with its shape. Needs no memory.
+/// Changes the line of the rule `shape` into the line of another rule with the same states and width. The offset in
+/// the line stays the offset of `shape`. Needs no memory.
 pub fn set_table(line: &mut [u8], shape: &Rule, rule: &Rule)
     requires line { IsLineOf shape.now line.old }
     requires states { rule.now.states ≡ shape.now.states }
@@ -46,7 +47,7 @@ pub fn set_table(line: &mut [u8], shape: &Rule, rule: &Rule)
     write_digits(&mut line[place..end], rule);
 }
 
-/// Writes the digits of a table.
+/// Writes the letters of a rule's table as hexadecimal digits.
 fn write_digits(digits: &mut [u8], rule: &Rule)
     requires { length digits.old ≡ rule.now.states ^ rule.now.width }
     ensures { digits.new ≡ map lower_digit rule.now.table }

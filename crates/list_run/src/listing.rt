@@ -1,4 +1,4 @@
-//! Writes the list while it is found.
+//! Writes each line of a list as soon as its rule is found.
 ghost use Rattle.std.specs.Prelude.{◌≡◌, ◌≢◌, ◌⊎◌, ℕ, ◌^◌, ◌<◌, ◌≤◌, List, ◌++◌, length, take, is_some, IfOk, OnOk, OnErr, Err};
 ghost use Rattle.std.specs.Io.KnownBytes.{Appends};
 ghost use Rattle.word_image.specs.LocalRules.{IsRule};
@@ -15,7 +15,8 @@ use rule_text::Beginning;
 use std::alloc::{AllocError, Global};
 use word_image::MOST_ENTRIES;
 
-/// Writes the list of a beginning. It allocates the memory for a line of it before it writes anything.
+/// Writes the list of all rules that have the property and the letters of the beginning: a line for each rule, and
+/// the number of rules. It allocates the memory for a line of a rule before it writes anything.
 pub fn write_list<T: Sink>(
     alloc: Global,
     property: Property,
@@ -42,7 +43,7 @@ pub fn write_list<T: Sink>(
     Ok(())
 }
 
-/// Writes a line for each rule of the list, and returns the number of rules; the count stops at 2^64 - 1.
+/// Writes a line for each rule of the list, and returns the number of rules. The count stops at 2^64 - 1.
 fn write_rules<T: Sink>(
     property: Property,
     beginning: &Beginning,
@@ -77,7 +78,7 @@ fn write_rules<T: Sink>(
     Ok(count)
 }
 
-/// Returns the letters of a beginning, and no letter elsewhere.
+/// Returns the letters of a beginning, each at its window, and 255 at all other windows.
 fn given_letters(beginning: &Beginning) -> Letters
     ensures letters { AreGiven beginning.now result }
     ensures rule { IsRule beginning.now.rule }

@@ -1,4 +1,4 @@
-//! The statuses of the program.
+//! The statuses with which the program ends.
 ghost use Rattle.std.specs.Prelude.{◌≡◌};
 ghost use Rattle.list_run.specs.Statuses.{code_of};
 
@@ -7,18 +7,18 @@ ghost use Rattle.list_run.specs.Statuses.{code_of};
 pub enum Status {
     /// The list was written to its end.
     Done,
-    /// The words aren't a property and a text.
+    /// The words aren't the name of a property and a text.
     Usage,
     /// The text isn't an accepted beginning of a table text.
     RuleFault,
-    /// A write of the output failed.
+    /// A write to the output failed.
     WriteFault,
-    /// There was no memory.
+    /// There was not enough memory.
     Memory,
 }
 
 impl Status {
-    /// Returns the exit status of the program.
+    /// Returns the exit code of the program for this status.
     pub fn code(&self) -> u8
         ensures { result ≡ code_of self.now }
     {

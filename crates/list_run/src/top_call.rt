@@ -1,4 +1,4 @@
-//! The top call.
+//! The function `run`, which writes the list that the words of the command line ask for.
 ghost use Rattle.std.specs.Prelude.{◌≡◌, ◌≢◌, ◌⊎◌, ◌∷◌, [], ℕ, ◌<◌, List, Err, length, take, map, is_some, string_bytes, IfOk, MatchOption};
 ghost use Rattle.std.specs.Io.KnownBytes.{Appends};
 ghost use Rattle.ca_io.specs.Faults.{Rose};
@@ -15,22 +15,22 @@ use rule_lists::Property;
 use rule_text::parse_beginning;
 use std::alloc::{AllocError, Global};
 
-/// Writes the list that the words ask for: a property, and the beginning of a table text. `words` are those of the
-/// command line without the program's name.
+/// Writes the list that the words ask for: a property, and the beginning of a table text. `words` are the words of
+/// the command line without the program's name.
 pub fn run<T: Sink>(alloc: Global, words: &[String], sink: &mut T) -> Status
-    // Every status but WriteFault and Memory is right for the words. The sink took exactly an output that
-    // is right with it, where it tells its bytes.
+    // If the status is neither WriteFault nor Memory, it is right for the words, and the sink took a whole output
+    // that is right for the words and the status. The clause says which bytes it took if the sink tells its bytes.
     ensures answer { IsAnswered result → (out : List ℕ) × IsAnswer (map string_bytes words.now) result out
         × Appends (T.taken sink.old) (T.taken sink.new) out }
 
-    // A failed write is one that the sink has counted. A part of a right output, or of the lines of the
-    // first rules of the list, was taken, and not the whole.
+    // After WriteFault the sink has counted a failed write. It took a part of a right output, or a part of the lines
+    // of the first rules of the list, but not all of them.
     ensures write_counted { result ≡ Status.WriteFault → Rose (T.faults sink.old) (T.faults sink.new) }
     ensures write_part { result ≡ Status.WriteFault → (out : List ℕ) × (n : ℕ)
         × IsBegun (map string_bytes words.now) out × (n < length out)
         × Appends (T.taken sink.old) (T.taken sink.new) (take n out) }
 
-    // Where there was no memory, nothing was written, or the lines of the first rules of the list.
+    // After Memory the sink took nothing, or it took the lines of the first rules of the list.
     ensures memory { result ≡ Status.Memory → (sink.new ≡ sink.old) ⊎ ((out : List ℕ)
         × IsBegun (map string_bytes words.now) out × Appends (T.taken sink.old) (T.taken sink.new) out) }
 
@@ -44,7 +44,7 @@ pub fn run<T: Sink>(alloc: Global, words: &[String], sink: &mut T) -> Status
     }
 }
 
-/// Writes what is right for the words, and returns its status.
+/// Writes the output that is right for the words, and returns the status that belongs to it.
 fn answer<T: Sink>(alloc: Global, words: &[String], sink: &mut T) -> Result<Status, Cut>
     ensures answered { IfOk result IsAnswered }
     ensures whole { IfOk result (λ status. (out : List ℕ) × IsAnswer (map string_bytes words.now) status out
@@ -77,7 +77,7 @@ fn answer<T: Sink>(alloc: Global, words: &[String], sink: &mut T) -> Result<Stat
     }
 }
 
-/// Returns the property and the text, if the words are these two.
+/// Returns the property and the text if the words are the name of a property and a text, and None otherwise.
 fn asked(words: &[String]) -> Option<(Property, &[u8])>
     ensures { MatchOption result
         ((property : Property) (text : List ℕ) → ¬ IsListing (map string_bytes words.now) property text)
@@ -89,7 +89,7 @@ fn asked(words: &[String]) -> Option<(Property, &[u8])>
     }
 }
 
-/// Returns the property with this name.
+/// Returns the property with this name, or None if there is none.
 fn named(name: &str) -> Option<Property>
     ensures { MatchOption result
         ((property : Property) → ¬ (name_of property ≡ name.now))

@@ -2,17 +2,18 @@
 //! by the subset construction of Sutner 1991).
 //!
 //! An orphan is a word without a preimage. A rule is surjective if and only if it has no orphan. Shorter words are
-//! less than longer ones, and words of equal length are in dictionary order. The set of a word holds the last nodes
-//! of its preimages, so the set of an orphan is empty. The family of the rule lists the different sets in the order
-//! of their least words, up to and including the empty set if there is one. So the least word of the empty set is the
-//! least orphan, and without an empty set there is no orphan.
+//! less than longer ones, and words of equal length are in dictionary order. The set of a word has the last nodes of
+//! its preimages: the last m - 1 letters of each word whose image it is. So the set of an orphan is empty. The family
+//! of the rule lists the different sets in the order of their least words, up to and including the empty set if there
+//! is one. So the least word of the empty set is the least orphan, and without an empty set there is no orphan.
 //!
-//! Rule 110 has the family 15, 9, 14, 6, 1, 2, 0 of sets of its nodes 00, 01, 10 and 11. The empty set is found from
-//! 1 by the letter 0, the set 1 from 6 by 0, and so back to 15 by 1, 0 and 1 in turn: the least orphan is 01010.
+//! A set is written as a number: its bit u is 1 if node u is in the set. Rule 110 has the nodes 00, 01, 10 and 11,
+//! and the family 15, 9, 14, 6, 1, 2, 0. The search finds the empty set from the set 1 by the letter 0, the set 1
+//! from 6 by 0, and so back to 15 by 1, 0 and 1 in turn: the least orphan is 01010.
 //!
 //! If no set of the family is empty, a part of the family shows this too. The cover list has the set of all nodes
-//! first, and then each set of the family that contains no other one. Rule 106 has a family of twelve sets and the
-//! cover list 15, 1, 2, 4, 8.
+//! first, and then each set of the family that contains no other set of the family. Rule 106 has a family of twelve
+//! sets and the cover list 15, 1, 2, 4, 8.
 //!
 //! If there are N = k^(m - 1) nodes, a family has at most 2^N sets. A run that finds s sets takes time **O(s k)**,
 //! and **O(N 2^N)** more for a cover list. Memory is allocated once.

@@ -1,4 +1,4 @@
-//! The verdict and its evidence.
+//! The search for the least orphan, with its verdict and its evidence.
 
 ghost use Rattle.std.specs.Prelude.{◌≡◌, ◌≤◌, ◌<◌, ◌↔◌, [], length, Contains, slice_index, vec_capacity, IfOk};
 
@@ -8,12 +8,12 @@ use std::alloc::{AllocError, Global};
 use std::marker::Model;
 use word_image::Rule;
 
-/// The result of a run.
+/// The verdict of a run: whether the rule is surjective.
 #[derive(Clone, Copy, Debug, PartialEq, Eq)]
 pub enum Outcome {
-    /// Every word has a preimage.
+    /// The rule is surjective: every word has a preimage.
     Closed,
-    /// Some word has no preimage.
+    /// The rule isn't surjective: some word has no preimage.
     Orphan,
 }
 
@@ -26,7 +26,7 @@ pub enum Outcome {
 pub struct Search {
     // The family of the last run.
     family: Family,
-    // The least orphan of the last run, which has fewer letters than there are sets, or nothing if there was none.
+    // The least orphan of the last run, or nothing if there was none. It has fewer letters than the family has sets.
     word: Vec<u8>,
     // The cover list of the last run, or nothing if there was an orphan.
     cover: Vec<u16>,
@@ -50,7 +50,8 @@ impl Search {
     ghost use Rattle.word_image.specs.Words.{IsSurjective};
     ghost use Rattle.orphan_search.specs.Verdicts.{IsNothing, IsVerdict};
 
-    /// Allocates the memory of a search. Until it runs, its word, its sets and its cover list are empty.
+    /// Allocates the memory of a search. Until the search runs, its word, its sets and its cover list are empty. The
+    /// only error is lack of memory.
     pub fn new(alloc: Global) -> Result<Search, AllocError>
         ensures { IfOk result IsNothing }
     {
@@ -70,7 +71,8 @@ impl Search {
         self.run_over(&Graph::of(rule))
     }
 
-    /// Does the same as `run` for the rule of this graph.
+    /// Decides whether every word has a preimage under the rule of this graph. The result doesn't depend on earlier
+    /// runs.
     pub fn run_over(&mut self, graph: &Graph) -> Outcome
         ensures verdict { IsVerdict graph.now result self.new }
         ensures exactly { (result ≡ Outcome.Closed) ↔ IsSurjective graph.now }
@@ -104,7 +106,8 @@ impl Search {
     }
 
     /// Returns the cover list of the rule if the last run returned `Closed`: the set of all nodes, and then each
-    /// other set of the family that contains no other one, in the order of the family. Otherwise returns nothing.
+    /// other set of the family that contains no other set of the family, in the order of the family. Otherwise
+    /// returns nothing.
     pub fn cover(&self) -> &[u16]
         ensures { result.now ≡ self.now.cover }
     {
@@ -116,7 +119,8 @@ ghost use Rattle.word_image.specs.LocalRules.{LocalRule};
 ghost use Rattle.word_image.specs.Families.{IsLeastWordOf, covers_of};
 ghost use Rattle.image_subsets.specs.FamilyTrees.{IsFamilyTree};
 
-/// Writes the first set, and after it each other set that contains no other set of the family.
+/// Writes the cover list: the first set of the family, and then each other set of the family that contains no other
+/// set of the family.
 fn write_cover(family: &Family, cover: &mut Vec<u16>)
     requires some { 0 < length family.now.sets }
     requires nonempty { ¬ Contains family.now.sets 0 }
@@ -134,7 +138,8 @@ fn write_cover(family: &Family, cover: &mut Vec<u16>)
     }
 }
 
-/// Writes the least word of the set at this place: the letters on the way from the first set to it.
+/// Writes the least word of the set at the place `at`: the letters on the way from the first set of the family to
+/// this set.
 fn write_word(family: &Family, at: u32, word: &mut Vec<u8>)
     requires set { at < length family.now.sets }
     requires empty { word.old.items ≡ [] }

@@ -1,4 +1,4 @@
-//! Sets of pairs, stored as rows of bits, and the trims of such sets.
+//! Sets of pairs of nodes, stored as rows of bits, and the trims of such sets.
 
 ghost use Rattle.std.specs.Prelude.{◌≡◌, ◌≢◌, ℕ, ◌+◌, ◌*◌, ◌<◌, ◌↔◌, true, length, replicate, IsBitSet, IsTrue};
 ghost use Rattle.std.specs.Int.Bits.{bit_and};
@@ -12,7 +12,8 @@ use std::marker::Model;
 use std::simd::prelude::*;
 use word_image::{EdgeRows, MOST_NODES, Rule, Side};
 
-/// For each node u, the set of nodes v for which the pair (u, v) is in a set of pairs. Bit v stands for node v.
+/// A set of pairs of nodes as rows: row u is the set of the nodes v for which the pair (u, v) is in the set of pairs.
+/// Bit v of a row stands for node v.
 pub(crate) type Rows = [u16; MOST_NODES];
 
 /// A set of pairs of nodes. In contracts it is a list with one truth value for each pair.
@@ -46,7 +47,7 @@ impl Model for PairSet {
 }
 
 impl PairSet {
-    /// Returns the set of all pairs.
+    /// Returns the set of all pairs of nodes.
     pub fn all(pairs: &Pairs) -> PairSet
         ensures set { result ≡ replicate (pair_count pairs.now) true }
         ensures rule { IsRule pairs.now }
@@ -61,7 +62,7 @@ impl PairSet {
         PairSet { nodes, rows }
     }
 
-    /// Returns whether the pair is in the set.
+    /// Returns whether the pair with the number `p` is in the set.
     pub fn holds(&self, p: u16) -> bool
         requires { p < length self.now }
         ensures { result ≡ holds self.now p }
@@ -114,7 +115,7 @@ impl PairSet {
         }
     }
 
-    /// Removes the pair from the set.
+    /// Removes the pair with the number `p` from the set.
     pub(crate) fn remove(&mut self, p: u16)
         requires { p < length self.old }
         ensures count { length self.new ≡ length self.old }
@@ -125,7 +126,8 @@ impl PairSet {
     }
 }
 
-/// Returns the pairs of the rows from which edges with equal labels lead to a pair of the rows.
+/// Returns the rows of the trimmed set: the pairs of the rows from which two edges with equal labels lead to a pair
+/// of the rows. The edges are followed forward on the right side, and backward on the left.
 fn trimmed(rule: &Rule, side: Side, ends: &EdgeRows, rows: &Rows) -> Rows
     ensures kept { AreNodesKept (GoesOn side rule.now ends.now rows.now) rows.now (node_count rule.now) result }
     ensures rule { IsRule rule.now }
@@ -137,8 +139,8 @@ fn trimmed(rule: &Rule, side: Side, ends: &EdgeRows, rows: &Rows) -> Rows
     kept
 }
 
-/// Returns the nodes v for which edges with equal labels lead from u and v to a pair of the rows. All sixteen nodes v
-/// are tested at once, one in each lane.
+/// Returns the nodes v for which two edges with equal labels lead from u and v to a pair of the rows. All sixteen
+/// nodes v are tested at once, each in its own lane.
 fn going_on(rule: &Rule, side: Side, ends: &EdgeRows, rows: &Rows, u: u8) -> u16
     requires { u < node_count rule.now }
     ensures { (v : ℕ) → v < most_nodes → (IsBitSet result v ↔ GoesOn side rule.now ends.now rows.now u v) }
@@ -152,7 +154,7 @@ fn going_on(rule: &Rule, side: Side, ends: &EdgeRows, rows: &Rows, u: u8) -> u16
     hits.simd_ne(u16x16::splat(0)).to_bitmask() as u16
 }
 
-/// Returns for each node which of its ends are in the set, one node in each lane.
+/// Returns for each node v the nodes of `ends[v]` that are in `set`. Each lane has one node v.
 fn among(ends: &[u16; MOST_NODES], set: u16) -> u16x16
     ensures lanes { result ≡ zip2 bit_and ends.now (replicate most_states set) }
     ensures wide { length ends.now ≡ most_states }

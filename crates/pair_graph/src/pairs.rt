@@ -1,4 +1,4 @@
-//! The pairs of nodes of a rule.
+//! The pairs of nodes of a rule, and the steps between the pairs.
 
 ghost use Rattle.std.specs.Prelude.{◌≡◌, ◌+◌, ◌*◌, ◌<◌, ◌↔◌, ℕ, Some, IfSome};
 ghost use Rattle.word_image.specs.LocalRules.{IsRule};
@@ -37,7 +37,7 @@ impl Pairs {
     ghost use Rattle.word_image.specs.BackSteps.{LeadsBack};
     ghost use Rattle.word_image.specs.Edges.{AreEdgeRows};
 
-    /// Makes the pairs of this rule.
+    /// Makes the pairs of nodes of this rule.
     pub fn of(rule: &Rule) -> Pairs
         ensures { result ≡ rule.now }
     {
@@ -85,8 +85,8 @@ impl Pairs {
         self.rule().pairs()
     }
 
-    /// Returns the pair to which the letters `a` and `b` lead from the nodes of pair `p`, or None if the labels of
-    /// the two edges differ.
+    /// Returns the number of the pair to which the letters `a` and `b` lead from the nodes of pair `p`, or None if
+    /// the labels of the two edges differ.
     pub fn follow(&self, p: u16, a: u8, b: u8) -> Option<u16>
         requires pair { p < pair_count self.now }
         requires first { a < self.now.states }
@@ -97,8 +97,8 @@ impl Pairs {
         self.rule().follow(Side::Right, p, a, b)
     }
 
-    /// Returns the pair whose nodes begin with the letters `a` and `b` and from which edges with equal labels lead to
-    /// the nodes of pair `q`, or None if the labels of these edges differ.
+    /// Returns the number of the pair from whose nodes two edges lead to the nodes of pair `q`. Its first node begins
+    /// with the letter `a`, and its second node with `b`. Returns None if the labels of the two edges differ.
     pub fn back(&self, q: u16, a: u8, b: u8) -> Option<u16>
         requires pair { q < pair_count self.now }
         requires first { a < self.now.states }
@@ -109,7 +109,8 @@ impl Pairs {
         self.rule().follow(Side::Left, q, a, b)
     }
 
-    /// Follows the letters `a` and `b` from pair `p`: by `follow` on the right side, and by `back` on the left.
+    /// Returns the pair to which a step on the letters `a` and `b` leads from pair `p`: `follow(p, a, b)` on the
+    /// right side, and `back(p, a, b)` on the left.
     pub(crate) fn step(&self, side: Side, p: u16, a: u8, b: u8) -> Option<u16>
         requires pair { p < pair_count self.now }
         requires first { a < self.now.states }
@@ -120,8 +121,9 @@ impl Pairs {
         self.rule().follow(side, p, a, b)
     }
 
-    /// Follows the letters `a` and `b` in the marked graph, where t is p without the mark and p + N * N with it. The
-    /// step sets the mark if the letters differ. Returns None if the labels of the two edges differ.
+    /// Returns the marked pair to which the letters `a` and `b` lead from the marked pair `t`. The number `t` is p
+    /// for the pair p without the mark, and p + N * N for the pair p with the mark. The step sets the mark if the
+    /// letters differ. Returns None if the labels of the two edges differ.
     pub fn marked(&self, t: u16, a: u8, b: u8) -> Option<u16>
         requires pair { t < 2 * pair_count self.now }
         requires first { a < self.now.states }

@@ -1,4 +1,4 @@
-//! Trims by plain loops over the steps of pairs, to compare with the fast ones.
+//! Slow trims, which loop over the steps of pairs. They are here to be compared with the fast trims.
 
 ghost use Rattle.std.specs.Prelude.{◌≡◌, ◌<◌, ◌↔◌, length, IsTrue};
 ghost use Rattle.word_image.specs.Graphs.{pair_count};
@@ -8,7 +8,7 @@ use crate::pair_set::PairSet;
 use crate::pairs::Pairs;
 use word_image::Side;
 
-/// Returns the same set as `trim_forward`.
+/// Returns the same set as `trim_forward`, by loops over the steps of pairs.
 pub fn plain_forward(set: &PairSet, pairs: &Pairs) -> PairSet
     requires { length set.now ≡ pair_count pairs.now }
     ensures { IsTrimmedSet Side.Right pairs.now set.now result }
@@ -16,7 +16,7 @@ pub fn plain_forward(set: &PairSet, pairs: &Pairs) -> PairSet
     plain(set, pairs, Side::Right)
 }
 
-/// Returns the same set as `trim_backward`.
+/// Returns the same set as `trim_backward`, by loops over the steps of pairs.
 pub fn plain_backward(set: &PairSet, pairs: &Pairs) -> PairSet
     requires { length set.now ≡ pair_count pairs.now }
     ensures { IsTrimmedSet Side.Left pairs.now set.now result }
@@ -37,7 +37,7 @@ fn plain(set: &PairSet, pairs: &Pairs, side: Side) -> PairSet
     kept
 }
 
-/// Returns whether some step leads from the pair into the set.
+/// Returns whether some step leads from pair `p` into the set, forward on the right side and backward on the left.
 fn leads_into(set: &PairSet, pairs: &Pairs, side: Side, p: u16) -> bool
     requires count { length set.now ≡ pair_count pairs.now }
     requires pair { p < pair_count pairs.now }
@@ -51,7 +51,8 @@ fn leads_into(set: &PairSet, pairs: &Pairs, side: Side, p: u16) -> bool
     false
 }
 
-/// Returns whether a step with the first letter `a` leads from the pair into the set.
+/// Returns whether some step whose first letter is `a` leads from pair `p` into the set, forward on the right side
+/// and backward on the left.
 fn leads_into_by(set: &PairSet, pairs: &Pairs, side: Side, p: u16, a: u8) -> bool
     requires count { length set.now ≡ pair_count pairs.now }
     requires pair { p < pair_count pairs.now }

@@ -1,4 +1,4 @@
-//! The pairs of a rule that have no finite rank.
+//! The endless pairs of a rule, which have no finite rank.
 
 ghost use Rattle.std.specs.Prelude.{◌≡◌, ◌<◌, ◌↔◌, ℕ, IsBitSet};
 ghost use Rattle.word_image.specs.LocalRules.{IsRule, node_count, most_nodes};
@@ -9,15 +9,16 @@ use pair_graph::{PairSet, Pairs};
 use std::marker::Model;
 use word_image::{Rule, Side};
 
-/// The pairs of nodes of a rule that are endless, forward and backward. In contracts it is the rule. Two nodes are
-/// endless if walks of any length begin at them, or end at them, with equal labels.
+/// The endless pairs of nodes of a rule, forward and backward. In contracts it is the rule. Two nodes are endless
+/// forward if for each n two walks of n steps with equal labels begin at the nodes. They are endless backward if for
+/// each n two such walks end at the nodes.
 #[derive(Debug, Drop)]
 pub struct Endless {
-    // The rule.
+    // The rule of the pairs.
     pub(crate) rule: Rule,
-    // The pairs from which walks of any length with equal labels begin.
+    // The pairs that are endless forward.
     pub(crate) forward: PairSet,
-    // The pairs at which walks of any length with equal labels end.
+    // The pairs that are endless backward.
     pub(crate) backward: PairSet,
 }
 
@@ -34,7 +35,7 @@ impl Model for Endless {
 }
 
 impl Endless {
-    /// Finds the endless pairs of a rule.
+    /// Finds the endless pairs of nodes of a rule.
     pub fn over(pairs: &Pairs) -> Endless
         ensures { result ≡ pairs.now }
     {
@@ -53,8 +54,8 @@ impl Endless {
         &self.rule
     }
 
-    /// Returns the nodes v for which, for every n, two words of n + m - 1 letters with the same image begin with u
-    /// and v. Bit v stands for node v.
+    /// Returns the set of the nodes v for which u and v are endless forward: for every n two words of n + m - 1
+    /// letters with the same image begin with u and v. Bit v stands for node v.
     pub fn forward(&self, u: u8) -> u16
         requires { u < node_count self.now }
         ensures { (v : ℕ) → v < most_nodes → (IsBitSet result v ↔ IsEndless (BeginTogether self.now u v)) }
@@ -62,8 +63,8 @@ impl Endless {
         self.forward.row(u)
     }
 
-    /// Returns the nodes v for which, for every n, two words of n + m - 1 letters with the same image end with u and
-    /// v. Bit v stands for node v.
+    /// Returns the set of the nodes v for which u and v are endless backward: for every n two words of n + m - 1
+    /// letters with the same image end with u and v. Bit v stands for node v.
     pub fn backward(&self, u: u8) -> u16
         requires { u < node_count self.now }
         ensures { (v : ℕ) → v < most_nodes → (IsBitSet result v ↔ IsEndless (EndTogether self.now u v)) }

@@ -1,8 +1,10 @@
 //! The ranks of pairs of nodes: how long walks from two nodes, or to two nodes, can have equal labels (Sutner 1991).
 //!
 //! The forward rank of two nodes is the greatest n for which two words of n + m - 1 letters with the same image begin
-//! with these nodes. The nodes are endless if there are such words for every n. The backward rank is the same for
-//! words that end with these nodes.
+//! with these nodes. If there are such words for every n, the nodes have no finite forward rank, and they are called
+//! endless forward. The backward rank of two nodes is the greatest n for which two words of n + m - 1 letters with
+//! the same image end with these nodes. If there are such words for every n, the nodes are called endless backward.
+//! On the right side a rank is a forward rank, and on the left side it is a backward rank.
 //!
 //! Rule 204 gives the middle letter of its window. The windows that begin with the node 00 all give 0, and the
 //! windows that begin with 01 all give 1. So the nodes 00 and 01 have the forward rank 0. Two words that end with
@@ -10,10 +12,11 @@
 //! backward.
 //!
 //! Two nodes have a rank of at least n + 1 if two edges with equal labels lead from them to nodes with a rank of at
-//! least n. So the ranks are found in rounds. Each round trims the set of the remaining pairs, and round n removes
-//! the pairs of rank n. The rounds end when nothing is removed, and the remaining pairs are endless. For backward
-//! ranks the rounds follow edges backward. A pair of rank n leads to pairs of each smaller rank, the pairs (u, v) and
-//! (v, u) have equal ranks, and (u, u) is endless. So a finite rank is less than N * (N - 1) / 2, at most 119.
+//! least n. So the ranks are found in rounds. Each round trims the set of the remaining pairs: it keeps the pairs
+//! from which a step leads to a remaining pair. Round n, starting at 0, removes the pairs of rank n. The rounds end
+//! when nothing is removed, and the remaining pairs are endless. For backward ranks the rounds follow edges backward.
+//! A pair of rank n leads to pairs of each smaller rank, the pairs (u, v) and (v, u) have equal ranks, and (u, u) is
+//! endless. So a finite rank is less than N * (N - 1) / 2, at most 119.
 //!
 //! If there are k states and N = k^(m - 1) nodes, a set of pairs is N rows of bits. A round takes time **O(k·N)** in
 //! operations on rows, `of` at most **O(k·N·N²)**, and each look-up **O(1)**. Only [`Ranks::row`] needs memory: it

@@ -1,4 +1,4 @@
-//! The exact ranks of a rule.
+//! The forward and backward ranks of all pairs of nodes of a rule.
 
 ghost use Rattle.std.specs.Prelude.{◌≡◌, ℕ, ◌+◌, ◌*◌, ◌<◌, ◌≤◌, IfSome, MatchOption};
 ghost use Rattle.pair_rank.specs.Sides.{most_rank};
@@ -16,7 +16,7 @@ use word_image::{MOST_NODES, Rule, Side};
 /// The forward and backward ranks of all pairs of nodes of a rule. In contracts it is the rule.
 #[derive(Drop)]
 pub struct Ranks {
-    // The pairs that have no finite rank.
+    // The endless pairs of the rule.
     endless: Endless,
     // The forward rank of each pair of nodes.
     forward: RankTable,
@@ -61,7 +61,7 @@ impl Ranks {
         }
     }
 
-    /// Returns the rule of the ranks.
+    /// Returns the rule that has these ranks.
     pub fn rule(&self) -> &Rule
         ensures value { result.now ≡ self.now }
         ensures rule { IsRule self.now }
@@ -113,8 +113,9 @@ impl Ranks {
     }
 }
 
-/// Law: the ranks of two nodes are less than N (N - 1) / 2 if there are N nodes, so at most 119. Each number below a
-/// rank is a rank of other nodes. Two nodes have the same rank in either order, and a node has no rank with itself.
+/// Law: if there are N nodes, each finite rank of two nodes is less than N (N - 1) / 2, so at most 119. The reason:
+/// each number below a finite rank is the rank of some pair of nodes, too. The pairs (u, v) and (v, u) have the same
+/// rank, and the pair (u, u) has no finite rank.
 pub fn ranks_are_few()
     ensures few { (side : Side) (r : LocalRule) (u v n : ℕ) → IsRule r → IsRank (Together side r u v) n → 2 * (n + 1) + node_count r ≤ pair_count r }
     ensures most { (side : Side) (r : LocalRule) (u v n : ℕ) → IsRule r → IsRank (Together side r u v) n → n ≤ most_rank }

@@ -10,10 +10,11 @@ use word_image::{MOST_NODES, MOST_PAIRS, Side};
 /// The greatest possible finite rank.
 const MOST_RANK: u16 = 119;
 
-/// The rank of the nodes u and v at 16 * u + v, or None if they are endless.
+/// The ranks of all pairs of nodes. The rank of the nodes u and v is at place 16 * u + v. It is None if the nodes are
+/// endless.
 pub type RankTable = [Option<u16>; MOST_PAIRS];
 
-/// Returns the pairs that are endless on this side.
+/// Returns the pairs that are endless on this side: forward on the right, backward on the left.
 pub fn endless_pairs(pairs: &Pairs, side: Side) -> PairSet
     ensures endless { AreEndless side pairs.now result }
     ensures rule { IsRule pairs.now }
@@ -29,7 +30,7 @@ pub fn endless_pairs(pairs: &Pairs, side: Side) -> PairSet
     set
 }
 
-/// Returns the rank of each pair of nodes on this side, and the endless pairs.
+/// Returns the rank of each pair of nodes on this side, and the set of the endless pairs.
 pub fn exact_ranks(pairs: &Pairs, side: Side) -> (RankTable, PairSet)
     ensures ranks { AreRanks side pairs.now result.0 }
     ensures endless { AreEndless side pairs.now result.1 }
@@ -49,7 +50,7 @@ pub fn exact_ranks(pairs: &Pairs, side: Side) -> (RankTable, PairSet)
     (ranks, set)
 }
 
-/// Stores the rank n for the pairs that this round removed.
+/// Stores the rank n for each pair that is in `set` and not in `after`. These are the pairs that round n removed.
 fn note_fallen(ranks: &mut RankTable, nodes: u8, set: &PairSet, after: &PairSet, n: u16)
     requires nodes { nodes ≤ most_nodes }
     requires before { length set.now ≡ nodes * nodes }
@@ -62,7 +63,7 @@ fn note_fallen(ranks: &mut RankTable, nodes: u8, set: &PairSet, after: &PairSet,
     }
 }
 
-/// Stores the rank n for the pairs of u with the nodes of the set.
+/// Stores the rank n for each pair (u, v) with a node v of `set`.
 fn give_rank(ranks: &mut RankTable, u: u8, set: u16, n: u16)
     requires { u < most_nodes }
     ensures given { (v : ℕ) → v < most_nodes → IsBitSet set v → rank_at ranks.new u v ≡ Some n }

@@ -1,4 +1,4 @@
-//! The classes of windows, which put them in order.
+//! The classes of windows, by which windows are put in order.
 ghost use Rattle.std.specs.Prelude.{◌≡◌, ◌≤◌, ◌<◌, ◌+◌, ◌*◌, ◌-◌, ◌/◌, ◌%◌, ◌^◌, ◌==◌, ◌↔◌, ℕ, IsTrue, slice_index};
 ghost use Rattle.word_image.specs.LocalRules.{IsRule, most_windows};
 ghost use Rattle.rule_lists.specs.Orders.{class_of, ring_class, ring_number, turned, has_period, weight_class};
@@ -6,7 +6,7 @@ ghost use Rattle.rule_lists.specs.Orders.{class_of, ring_class, ring_number, tur
 use crate::properties::Property;
 use word_image::{MOST_ENTRIES, Rule};
 
-/// Returns the class of each window.
+/// Returns the class of each window, by the window's value. These classes are followed by zeros.
 pub(crate) fn classes_of(property: Property, shape: &Rule) -> [u32; MOST_ENTRIES]
     ensures { (w : ℕ) → w < shape.now.states ^ shape.now.width → slice_index result w ≡ class_of property shape.now.states shape.now.width w }
 {
@@ -17,7 +17,7 @@ pub(crate) fn classes_of(property: Property, shape: &Rule) -> [u32; MOST_ENTRIES
     classes
 }
 
-/// Returns the class of a window for this property.
+/// Returns the class of a window for this property. Windows of lesser classes come first.
 fn class_for(property: Property, shape: &Rule, window: u16) -> u32
     ensures { result ≡ class_of property shape.now.states shape.now.width window }
 {
@@ -27,7 +27,8 @@ fn class_for(property: Property, shape: &Rule, window: u16) -> u32
     }
 }
 
-/// Returns the length of the shortest ring that contains the window, combined with the least number of its rotations.
+/// Returns 256 times the length of the shortest ring around which the window can be read, plus the least value among
+/// the rotations of this ring.
 fn ring_class(shape: &Rule, window: u16) -> u32
     ensures { result ≡ ring_class shape.now.states shape.now.width window }
 {
@@ -39,7 +40,8 @@ fn ring_class(shape: &Rule, window: u16) -> u32
     ring_number(shape, window, shape.m())
 }
 
-/// Returns the length of the ring of the first letters of a window, combined with the least number of its rotations.
+/// Returns 256 times `length`, plus the least value among the rotations of the ring that has the first `length`
+/// letters of the window.
 fn ring_number(shape: &Rule, window: u16, length: u8) -> u32
     requires { length ≤ shape.now.width }
     ensures { result ≡ ring_number shape.now.states shape.now.width window length }
@@ -52,7 +54,8 @@ fn ring_number(shape: &Rule, window: u16, length: u8) -> u32
     u32::from(length) * 256 + least
 }
 
-/// Returns the number of a ring of `length` letters that is read from the letter at `from`.
+/// Returns the value of a ring of `length` letters that is read from the letter at place `from` on. `ring` is the
+/// value of the ring if it is read from place 0 on.
 fn turned(shape: &Rule, ring: u32, length: u8, from: u8) -> u32
     requires small { ring < 2 ^ 16 }
     requires within { length ≤ shape.now.width }
@@ -63,7 +66,7 @@ fn turned(shape: &Rule, ring: u32, length: u8, from: u8) -> u32
     ring % behind * power(shape, from) + ring / behind
 }
 
-/// Returns whether each letter of the window equals the letter `length` places before it, if there is one.
+/// Returns whether each letter of the window, from place `length` on, equals the letter `length` places before it.
 fn has_period(shape: &Rule, window: u16, length: u8) -> bool
     requires { length ≤ shape.now.width }
     ensures { result ≡ has_period shape.now.states shape.now.width window length }
@@ -73,7 +76,7 @@ fn has_period(shape: &Rule, window: u16, length: u8) -> bool
     first == last
 }
 
-/// Returns the greatest letter of the window, combined with the number of its letters other than 0.
+/// Returns 8 times the greatest letter of the window, plus the number of its letters other than 0.
 fn weight_class(shape: &Rule, window: u16) -> u32
     ensures { result ≡ weight_class shape.now.states shape.now.width window }
 {
@@ -87,7 +90,7 @@ fn weight_class(shape: &Rule, window: u16) -> u32
     greatest * 8 + some
 }
 
-/// Returns the number of words of this length.
+/// Returns the number of words of this length: k to the power of `length`.
 fn power(shape: &Rule, length: u8) -> u32
     requires { length ≤ shape.now.width }
     ensures power { result ≡ shape.now.states ^ length }

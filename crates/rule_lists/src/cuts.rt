@@ -1,4 +1,4 @@
-//! Tests whether some letters of a table rule out a property, whatever the other letters are.
+//! Tests whether known letters of a table rule out a property, whatever the other letters are.
 ghost use Rattle.std.specs.Prelude.{◌≡◌, ◌≢◌, ◌^◌, ◌<◌, ◌≤◌, ℕ, IsTrue, ◌-◌, length, slice_index};
 ghost use Rattle.word_image.specs.LocalRules.{IsRule, most_windows};
 ghost use Rattle.rule_lists.specs.Searches.{AreEntries, AreForbidden, IsOrdered, size_of};
@@ -16,8 +16,9 @@ use crate::tables::Entries;
 use crate::walks::{has_one_node, is_round, is_tail};
 use word_image::{Rule, Side};
 
-/// Returns whether the letters at the first n windows rule out the property. The hints have seen all of these letters
-/// except the last one.
+/// Returns true only if no listed rule has the letters of the table at the first n windows of the order. The hints
+/// must already have all of these letters except the last one. The result may be false although there is no such
+/// rule.
 pub(crate) fn forbids(asked: &Asked, entries: &Entries, n: u16, hints: &mut Hints) -> bool
     requires order { IsOrdered asked.now }
     requires table { AreEntries asked.now entries.now }
@@ -34,7 +35,7 @@ pub(crate) fn forbids(asked: &Asked, entries: &Entries, n: u16, hints: &mut Hint
     bars(asked.property, asked.shape, &letters, hints.last())
 }
 
-/// Returns whether the letter at the last of the first n windows differs from a fixed letter there.
+/// Returns whether the table differs from a fixed letter at the last of the first n windows of the order.
 fn has_other(asked: &Asked, entries: &Entries, n: u16) -> bool
     requires within { n ≤ length asked.now.order.now }
     ensures rule { IsRule asked.now.shape.now }
@@ -51,7 +52,7 @@ fn has_other(asked: &Asked, entries: &Entries, n: u16) -> bool
     letter < k && letter != entries[window]
 }
 
-/// Returns the letters at the first n windows, and the fixed letters at the other ones.
+/// Returns the letters of the table at the first n windows of the order, and the fixed letters at all other windows.
 fn standing(begin: &Letters, order: &[u8], entries: &Entries, n: u16) -> Letters
     requires { n ≤ length order.now }
     ensures { (v : ℕ) → v < most_windows → IsStanding begin.now order.now entries.now n v (slice_index result v) }
@@ -64,7 +65,7 @@ fn standing(begin: &Letters, order: &[u8], entries: &Entries, n: u16) -> Letters
     letters
 }
 
-/// Returns whether the fixed letters rule out the property, as a hint suggests.
+/// Tests a hint. Returns true only if no rule with the letters in `letters` has the property.
 fn bars(property: Property, shape: &Rule, letters: &Letters, hint: &Hint) -> bool
     ensures { IsTrue result → Bars property shape.now.states shape.now.width letters.now }
 {
@@ -78,7 +79,8 @@ fn bars(property: Property, shape: &Rule, letters: &Letters, hint: &Hint) -> boo
     }
 }
 
-/// Returns whether they lead from a node, by different letters, to a pair of two equal nodes.
+/// Tests a hint that no rule with these letters is surjective. Returns whether the links of the hint show that the
+/// letters lead from a node with itself, first by two different letters, to a pair of two equal nodes.
 fn is_lost(shape: &Rule, letters: &Letters, hint: &Hint) -> bool
     ensures { IsTrue result → IsLost shape.now.states shape.now.width letters.now }
 {
@@ -92,8 +94,9 @@ fn is_lost(shape: &Rule, letters: &Letters, hint: &Hint) -> bool
     is_tail(Side::Right, shape, letters, hint.before(), pair)
 }
 
-/// Returns whether they rule out that the rule is injective: by such a pair, or by two different nodes from which
-/// they lead around a loop.
+/// Tests a hint that no rule with these letters is injective. Returns true if `is_lost` returns true. Otherwise
+/// returns whether the links of the hint show that the letters lead from a pair of two different nodes around a loop
+/// back to this pair.
 fn bars_injective(shape: &Rule, letters: &Letters, hint: &Hint) -> bool
     ensures { IsTrue result → Bars Injective shape.now.states shape.now.width letters.now }
 {
@@ -110,8 +113,9 @@ fn bars_injective(shape: &Rule, letters: &Letters, hint: &Hint) -> bool
     is_round(Side::Right, shape, letters, hint.after(), pair)
 }
 
-/// Returns whether they rule out that the rule closes on this side: they lead from a node, by different letters, to a
-/// pair of two equal nodes, or to a pair from which they lead around a loop.
+/// Tests a hint that no rule with these letters closes on this side. Returns true if the links of the hint show two
+/// things about its pair. The letters lead to the pair from a node with itself, first by two different letters. The
+/// pair has two equal nodes, or the letters lead from it around a loop back to it.
 fn bars_closing(side: Side, shape: &Rule, letters: &Letters, hint: &Hint) -> bool
     ensures { IsTrue result → BarsClosing side shape.now.states shape.now.width letters.now }
 {
@@ -128,7 +132,8 @@ fn bars_closing(side: Side, shape: &Rule, letters: &Letters, hint: &Hint) -> boo
     is_round(side, shape, letters, hint.after(), pair)
 }
 
-/// Returns whether they rule out that the rule is open.
+/// Tests a hint that no rule with these letters is open. Returns true if the hint shows that no rule with these
+/// letters closes on the side of the hint.
 fn bars_open(shape: &Rule, letters: &Letters, hint: &Hint) -> bool
     ensures { IsTrue result → Bars Open shape.now.states shape.now.width letters.now }
 {

@@ -1,28 +1,28 @@
-//! The edges of the windows whose letters are known, and steps along them.
+//! The edges of the windows whose letters are known, and steps along these edges.
 use word_image::{EdgeRows, MOST_ENTRIES, MOST_NODES, MOST_STATES, Rule, Side};
 
-/// The edges of the windows whose letters are known: forward edges on the right side, backward edges on the left.
-/// They have no contracts, since everything found with them is tested afterwards.
+/// The edges of the windows whose letters are known: forward edges on the right side, backward edges on the left. Its
+/// functions have no contracts, since everything that is found with them is tested afterwards.
 #[derive(Drop)]
 pub(crate) struct Edges {
-    /// The node at which each window begins.
+    /// For each window the node at which its edge begins.
     from: [u8; MOST_ENTRIES],
-    /// The node at which each window ends.
+    /// For each window the node at which its edge ends.
     to: [u8; MOST_ENTRIES],
-    /// The difference between the windows of two consecutive nodes.
+    /// How much the value of a window grows if its node grows by one.
     node_step: u8,
-    /// The difference between the windows of two consecutive letters.
+    /// How much the value of a window grows if its letter grows by one.
     letter_step: u8,
-    /// The number of letters.
+    /// The number of letters k.
     k: u8,
     /// The number of nodes.
     nodes: u8,
-    /// For each label and node, the set of nodes to which edges lead.
+    /// For each label and node, the set of nodes to which edges with this label lead from the node.
     ends: EdgeRows,
 }
 
 impl Edges {
-    /// Returns no edges.
+    /// Makes the edges of a shape on this side, at first without any edge.
     pub(crate) fn of(side: Side, shape: &Rule) -> Edges {
         let mut from = [0; MOST_ENTRIES];
         let mut to = [0; MOST_ENTRIES];
@@ -46,38 +46,38 @@ impl Edges {
         }
     }
 
-    /// Returns the number of letters.
+    /// Returns the number of letters k.
     pub(crate) fn k(&self) -> u8 {
         self.k
     }
 
-    /// Returns the node at which a window begins.
+    /// Returns the node at which the edge of a window begins.
     pub(crate) fn from(&self, window: u8) -> u8 {
         self.from[usize::from(window)]
     }
 
-    /// Returns the node at which a window ends.
+    /// Returns the node at which the edge of a window ends.
     pub(crate) fn to(&self, window: u8) -> u8 {
         self.to[usize::from(window)]
     }
 
-    /// Returns the window of a node and a letter.
+    /// Returns the window whose edge leads from this node on this letter.
     pub(crate) fn window(&self, node: u8, letter: u8) -> u8 {
         node.wrapping_mul(self.node_step)
             .wrapping_add(letter.wrapping_mul(self.letter_step))
     }
 
-    /// Returns the number of the pair of two nodes.
+    /// Returns the number of the pair of these two nodes.
     pub(crate) fn pair(&self, first: u8, second: u8) -> u8 {
         first.wrapping_mul(self.nodes).wrapping_add(second)
     }
 
-    /// Returns the nodes to which the edges with a label lead from a node.
+    /// Returns the set of nodes to which the edges with this label lead from this node.
     pub(crate) fn ends(&self, label: u8, node: u8) -> u16 {
         self.ends[usize::from(label % 16)][usize::from(node % 16)]
     }
 
-    /// Returns the nodes to which the edges with a label lead from the nodes of a set.
+    /// Returns the set of nodes to which the edges with this label lead from the nodes of a set.
     pub(crate) fn all_ends(&self, label: u8, nodes: u16) -> u16 {
         let mut ends = 0;
         for node in 0..self.nodes {
@@ -88,14 +88,14 @@ impl Edges {
         ends
     }
 
-    /// Adds the edge of a window with this label.
+    /// Adds the edge of this window with this label.
     pub(crate) fn add(&mut self, window: u8, label: u8) {
         let node = usize::from(self.from(window) % 16);
         let end = bit(self.to(window));
         self.ends[usize::from(label % 16)][node] |= end;
     }
 
-    /// Removes the edge of a window with this label.
+    /// Removes the edge of this window with this label.
     pub(crate) fn take(&mut self, window: u8, label: u8) {
         let node = usize::from(self.from(window) % 16);
         let end = bit(self.to(window));
@@ -103,12 +103,12 @@ impl Edges {
     }
 }
 
-/// Returns the set of one node.
+/// Returns the set that contains only this node.
 pub(crate) fn bit(node: u8) -> u16 {
     1u16 << (node % 16)
 }
 
-/// Returns the first node of a set.
+/// Returns the least node of a set that isn't empty.
 pub(crate) fn first_node(set: u16) -> u8 {
     set.trailing_zeros() as u8
 }

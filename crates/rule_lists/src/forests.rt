@@ -1,4 +1,4 @@
-//! What fixed letters say about the flux of a conserving rule.
+//! Finds what fixed letters say about the flux of a conserving rule.
 ghost use Rattle.std.specs.Prelude.{◌≡◌, ◌+◌, ◌*◌, ◌^◌, ◌<◌, ◌≤◌, ℕ, ℤ, List, slice_index};
 ghost use Rattle.word_image.specs.LocalRules.{node_count, most_nodes, most_windows};
 ghost use Rattle.rule_lists.specs.Forests.{AreKnown, AreLevels, AreUpTo, GainsWith, IsMoved};
@@ -6,21 +6,21 @@ ghost use Rattle.rule_lists.specs.Forests.{AreKnown, AreLevels, AreUpTo, GainsWi
 use crate::letters::Letters;
 use word_image::{MOST_NODES, Rule, Side};
 
-/// Trees of nodes. Under each conserving rule with the fixed letters, the flux at two nodes of the same tree differs
-/// by the difference of their levels.
+/// Trees of nodes, with a level for each node. Two nodes of the same tree have levels that differ by the same amount
+/// as the numbers of these nodes in each flux of each conserving rule with the fixed letters.
 #[derive(Clone, Copy, Debug)]
 pub(crate) struct Forest {
-    /// The tree of each node.
+    /// For each node the number of its tree.
     pub(crate) trees: [u8; MOST_NODES],
-    /// The level of each node.
+    /// For each node its level in its tree.
     pub(crate) levels: [u32; MOST_NODES],
 }
 
-/// Two trees aren't joined if a level would grow by more than this. With 16 nodes and 16 letters no level reaches
-/// half of it.
+/// The most by which joining two trees may raise a level. No level reaches half of this number, since there are at
+/// most 16 nodes and 16 letters.
 const MOST_RISE: u32 = 1 << 20;
 
-/// Returns the trees of the nodes that windows with fixed letters join.
+/// Returns the forest in which each window with a fixed letter has joined the trees of its two nodes.
 pub(crate) fn forest_of(shape: &Rule, letters: &Letters) -> Forest
     ensures known { AreKnown shape.now letters.now result.trees result.levels }
     ensures small { AreUpTo (most_windows * 1048576) result.levels }
@@ -32,7 +32,7 @@ pub(crate) fn forest_of(shape: &Rule, letters: &Letters) -> Forest
     forest
 }
 
-/// Returns trees with one node each.
+/// Returns the forest in which each node is a tree of its own, with level 0.
 fn single_nodes() -> Forest
     ensures trees { (v : ℕ) → v < most_nodes → slice_index result.trees v ≡ v }
     ensures levels { AreUpTo 0 result.levels }
@@ -47,7 +47,8 @@ fn single_nodes() -> Forest
     }
 }
 
-/// Joins the trees of a window's nodes if its letter is fixed.
+/// Returns the forest after this window has joined the trees of its two nodes. If its letter isn't fixed, returns the
+/// same forest.
 fn with_letter(shape: &Rule, letters: &Letters, window: u16, forest: &Forest) -> Forest
     requires window { window < shape.now.states ^ shape.now.width }
     requires known { AreKnown shape.now letters.now forest.now.trees forest.now.levels }
@@ -63,7 +64,8 @@ fn with_letter(shape: &Rule, letters: &Letters, window: u16, forest: &Forest) ->
     with_window(shape, window, letter, forest)
 }
 
-/// Joins the trees of a window's nodes. The letter of the window gives the difference of the flux at these nodes.
+/// Returns the forest after this window has joined the trees of its two nodes. The letter for the window, minus the
+/// first letter of the window, is the difference of the flux at its nodes.
 fn with_window(shape: &Rule, window: u16, letter: u8, forest: &Forest) -> Forest
     requires window { window < shape.now.states ^ shape.now.width }
     requires small { AreUpTo (window * 1048576) forest.now.levels }
@@ -88,7 +90,8 @@ fn with_window(shape: &Rule, window: u16, letter: u8, forest: &Forest) -> Forest
     joined(forest, kept, rise, gone, other)
 }
 
-/// Returns the trees after one is joined to another, and the levels of each are raised.
+/// Returns the forest after the tree `gone` has been joined to the tree `kept`. The levels of `kept` grow by `rise`,
+/// and the levels of `gone` grow by `other`.
 fn joined(forest: &Forest, kept: u8, rise: u32, gone: u8, other: u32) -> Forest
     requires levels { (v : ℕ) → v < most_nodes → slice_index forest.now.levels v < 2 ^ 31 }
     requires first { rise < 2 ^ 31 }
@@ -112,7 +115,8 @@ fn joined(forest: &Forest, kept: u8, rise: u32, gone: u8, other: u32) -> Forest
     Forest { trees, levels }
 }
 
-/// Returns the tree and the level of a node after that.
+/// Returns the tree and the level of a node after the tree `gone` has been joined to the tree `kept`. Before that the
+/// node was in `tree` and had the level `level`.
 fn moved(tree: u8, level: u32, kept: u8, rise: u32, gone: u8, other: u32) -> (u8, u32)
     requires level { level < 2 ^ 31 }
     requires first { rise < 2 ^ 31 }

@@ -1,4 +1,4 @@
-//! Hints that the known letters rule out a property, found letter by letter.
+//! Hints that known letters rule out a property, found letter by letter.
 ghost use Rattle.std.specs.Prelude.{◌≤◌, length};
 ghost use Rattle.word_image.specs.LocalRules.{most_windows};
 
@@ -10,31 +10,30 @@ use crate::rounds::Rounds;
 use crate::tables::Entries;
 use word_image::{MOST_ENTRIES, Rule, Side};
 
-/// Walks of pairs of nodes, followed to one side, that may rule out a property. For each number of known letters it
-/// stores what they reach, so that it only looks at the last letter. It has no contract: each hint is tested before
-/// it is used.
+/// Finds hints on one side. For each number of known letters it stores the pairs to which these letters lead, so that
+/// it only looks at the last letter. It has no contract: each hint is tested before it is used.
 #[derive(Drop)]
 pub(crate) struct Hint {
-    /// The property.
+    /// The property that the hints may rule out.
     property: Property,
-    /// The side.
+    /// The side to which edges are followed.
     pub(crate) side: Side,
-    /// The known letters, and 255 elsewhere.
+    /// The known letters, by the values of the windows, and 255 at all other windows.
     letters: Letters,
-    /// The number of windows of the order with a known letter.
+    /// How many windows of the order have a known letter.
     placed: u16,
     /// Whether the fixed letters give a hint.
     begun: bool,
-    /// The pairs that they reach.
+    /// The pairs to which the known letters lead.
     reach: Reach,
-    /// The loop that was found last.
+    /// The search for loops, with the loop that it found last.
     rounds: Rounds,
-    /// The pair that was found last.
+    /// The number of the pair in the last hint. This pair has two equal nodes or is on a loop.
     pair: u8,
 }
 
 impl Hint {
-    /// Starts with only the fixed letters.
+    /// Makes the hints for which only the fixed letters are known.
     fn of(side: Side, asked: &Asked) -> Hint {
         let shape = asked.shape;
         let mut hint = Hint {
@@ -57,23 +56,24 @@ impl Hint {
         hint
     }
 
-    /// Returns the pair that was found last.
+    /// Returns the number of the pair in the last hint.
     pub(crate) fn pair(&self) -> u16 {
         u16::from(self.pair)
     }
 
-    /// Returns for each pair the pair from which it was first reached.
+    /// Returns for each pair the pair from which a step first led to it.
     pub(crate) fn before(&self) -> &Links {
         &self.reach.before
     }
 
-    /// Returns for each pair of the last loop the next pair.
+    /// Returns for each pair of the last loop the next pair on the loop.
     pub(crate) fn after(&self) -> &Links {
         &self.rounds.after
     }
 
-    /// Returns whether there is a hint that the letters at the first n windows rule out the property, if `looking` is
-    /// true. It has seen all of these letters except the last one.
+    /// Adds the letter at the last of the first n windows of the order. The letters at the windows before have been
+    /// added earlier. Returns whether there is a hint that all these letters and the fixed letters rule out the
+    /// property. Looks for loops only if `looking` is true.
     fn see(&mut self, asked: &Asked, entries: &Entries, n: u16, looking: bool) -> bool
         requires within { n ≤ length asked.now.order.now }
         requires few { length asked.now.order.now ≤ most_windows }
@@ -91,7 +91,7 @@ impl Hint {
         hint
     }
 
-    /// Removes the letters after the first n windows.
+    /// Removes the letters after the first n windows of the order, except the fixed letters.
     fn forget(&mut self, asked: &Asked, n: u16) {
         for place in usize::from(n)..usize::from(self.placed).min(asked.order.len()) {
             let window = asked.order[place];
@@ -103,7 +103,8 @@ impl Hint {
         }
     }
 
-    /// Sets a letter, and returns whether this gives a hint.
+    /// Adds the letter at a window, and returns whether this gives a hint. Looks for a loop only if `looking` is
+    /// true.
     fn set(&mut self, window: u8, letter: u8, looking: bool) -> bool {
         self.letters[usize::from(window)] = letter;
         if let Some(pair) = self.reach.add(&self.letters, window, letter) {
@@ -120,7 +121,8 @@ impl Hint {
         false
     }
 
-    /// Returns a pair on a loop that the last letter closes, if the property rules such a loop out.
+    /// Returns the number of a pair on a loop that the last known letter closes, or None if it closes none. The loop
+    /// must rule out the property. For example, no loop rules out that a rule is surjective.
     fn round(&mut self, window: u8, letter: u8) -> Option<u8> {
         let from = self.reach.edges.from(window);
         let nodes = match self.property {
@@ -134,20 +136,20 @@ impl Hint {
     }
 }
 
-/// What a search keeps from step to step and from rule to rule: hints for a property, on its side or on both. They
-/// only change how soon a rule is found, and not which one.
+/// The hints that a search keeps from step to step and from rule to rule. They only change how soon the search finds
+/// a rule, and not which rule it finds.
 #[derive(Drop)]
 pub struct Hints {
-    /// On the right, or on the only side of the property.
+    /// The hints on the left side for left-closing rules, and on the right side for all other properties.
     first: Hint,
-    /// On the left, for open rules.
+    /// The hints on the left side for open rules, and None for all other properties.
     second: Option<Hint>,
-    /// Whether the last hint is the one on the left.
+    /// Whether `see` looked last at the hints in `second`.
     turned: bool,
 }
 
 impl Hints {
-    /// Starts with only the fixed letters.
+    /// Makes the hints for which only the fixed letters are known.
     pub(crate) fn of(asked: &Asked) -> Hints {
         let side = match asked.property {
             Property::LeftClosing => Side::Left,
@@ -164,8 +166,8 @@ impl Hints {
         }
     }
 
-    /// Sees the letters at the first n windows except the last one, one after another, as far as they haven't been
-    /// seen.
+    /// Adds the letters at the first n - 1 windows of the order, one after another, except those that have been added
+    /// before.
     pub(crate) fn catch_up(&mut self, asked: &Asked, entries: &Entries, n: u16)
         requires within { n ≤ length asked.now.order.now }
         requires few { length asked.now.order.now ≤ most_windows }
@@ -175,9 +177,10 @@ impl Hints {
         }
     }
 
-    /// Returns whether there is a hint that the letters at the first n windows rule out the property, if `looking` is
-    /// true. All of these letters except the last one have been seen. For conserving rules it always returns true,
-    /// since they have no hints.
+    /// Adds the letter at the last of the first n windows of the order. The letters at the windows before must have
+    /// been added earlier. Returns whether there is a hint that all these letters and the fixed letters rule out the
+    /// property. Looks for loops only if `looking` is true. Always returns true for conserving rules, since their
+    /// test uses no hints.
     pub(crate) fn see(&mut self, asked: &Asked, entries: &Entries, n: u16, looking: bool) -> bool
         requires within { n ≤ length asked.now.order.now }
         requires few { length asked.now.order.now ≤ most_windows }
@@ -196,7 +199,7 @@ impl Hints {
         false
     }
 
-    /// Returns the last hint.
+    /// Returns the hints of the side at which `see` looked last.
     pub(crate) fn last(&self) -> &Hint {
         match &self.second {
             Some(second) if self.turned => second,

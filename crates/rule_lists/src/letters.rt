@@ -1,10 +1,11 @@
-//! Letters of a table that are fixed.
+//! Fixed letters of a table.
 ghost use Rattle.std.specs.Prelude.{◌≡◌, ◌<◌, IsTrue, slice_index};
 ghost use Rattle.word_image.specs.LocalRules.{most_windows};
 
 use word_image::MOST_ENTRIES;
 
-/// Letters of a table, by the values of windows. A number below k is a fixed letter.
+/// The fixed letters of a table, by the values of the windows. A number below k is a fixed letter. Any other number
+/// means that no letter is fixed at the window.
 pub type Letters = [u8; MOST_ENTRIES];
 
 /// Returns whether the letters at two windows are fixed and equal.

@@ -1,4 +1,4 @@
-//! Properties of rules that can be listed.
+//! The properties of rules for which rules can be listed.
 ghost use Rattle.std.specs.Prelude.{◌≡◌, ◌↔◌, IsTrue};
 ghost use Rattle.rule_lists.specs.Properties.{Has};
 ghost use Rattle.tail_config.specs.Tails.{IsOpen};
@@ -13,7 +13,7 @@ use pair_graph::Pairs;
 use pair_rank::Endless;
 use word_image::{Rule, Weights};
 
-/// A property of rules.
+/// A property of rules for which rules can be listed.
 #[derive(Clone, Copy, Debug, PartialEq, Eq)]
 pub enum Property {
     /// Every word has a preimage.

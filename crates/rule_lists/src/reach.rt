@@ -1,38 +1,39 @@
-//! Pairs of nodes that the known letters reach from a node with itself.
+//! The pairs of nodes to which known letters lead from a node with itself.
 ghost use Rattle.std.specs.Prelude.{◌<◌};
 
 use crate::edges::{Edges, bit, first_node};
 use crate::letters::Letters;
 use word_image::{MOST_NODES, MOST_PAIRS, Rule, Side};
 
-/// For each pair of nodes another pair.
+/// For each pair of nodes the number of another pair.
 pub(crate) type Links = [u8; MOST_PAIRS];
 
-/// The numbers of known letters, from none to the letters of all windows.
+/// How many numbers of known letters there are: from 0 to 256.
 const MOST_LEVELS: usize = 257;
 
-/// The pairs of nodes that known letters reach from a node with itself, by two different letters first, in the order
-/// in which they were found. One more letter only adds pairs, and one letter less removes these.
+/// The pairs of nodes to which known letters lead from a node with itself, first by two different letters. They are
+/// in the order in which they were found. One more known letter only adds pairs at the end, and one letter less
+/// removes these pairs.
 #[derive(Drop)]
 pub(crate) struct Reach {
     /// The edges of the windows whose letters are known.
     pub(crate) edges: Edges,
-    /// For each pair the pair from which it was first reached.
+    /// For each found pair the number of the pair from which a step first led to it.
     pub(crate) before: Links,
-    /// For each node the nodes with which it forms such a pair.
+    /// For each node the set of nodes with which it forms a found pair.
     rows: [u16; MOST_NODES],
-    /// The pairs.
+    /// The found pairs in their order. Only one of (u, v) and (v, u) is in the list.
     found: [(u8, u8); MOST_PAIRS],
-    /// The number of pairs.
+    /// The number of found pairs.
     count: u8,
-    /// The number of pairs whose steps have been followed.
+    /// The number of found pairs whose steps have been followed.
     looked: u8,
-    /// The number of pairs for each number of known letters.
+    /// For each number of known letters the number of found pairs.
     counts: [u8; MOST_LEVELS],
 }
 
 impl Reach {
-    /// Starts with no letters.
+    /// Makes the list of pairs for no known letters.
     pub(crate) fn of(side: Side, shape: &Rule) -> Reach {
         Reach {
             edges: Edges::of(side, shape),
@@ -45,14 +46,14 @@ impl Reach {
         }
     }
 
-    /// Stores the number of pairs for n known letters.
+    /// Stores the number of found pairs for the letters at the first n windows of the order.
     pub(crate) fn settle(&mut self, n: u16)
         requires { n < 257 }
     {
         self.counts[usize::from(n)] = self.count;
     }
 
-    /// Returns to the pairs of n known letters.
+    /// Removes the pairs that were found after the letters at the first n windows of the order were known.
     pub(crate) fn go_back(&mut self, n: u16)
         requires { n < 257 }
     {
@@ -65,12 +66,13 @@ impl Reach {
         self.count = kept;
     }
 
-    /// Returns a node and those with which it forms a pair.
+    /// Returns the set of this node and of all nodes with which it forms a found pair.
     pub(crate) fn partners(&self, node: u8) -> u16 {
         self.rows[usize::from(node % 16)] | bit(node)
     }
 
-    /// Adds the pairs that a window with this label reaches. Returns a pair of two equal nodes if it reaches one.
+    /// Adds the edge of a window with this label, and the pairs to which the edge leads. Returns the number of a pair
+    /// of two equal nodes if such a pair is reached, and None otherwise.
     pub(crate) fn add(&mut self, letters: &Letters, window: u8, label: u8) -> Option<u8> {
         self.edges.add(window, label);
         self.looked = self.count;
@@ -91,7 +93,8 @@ impl Reach {
         self.spread(letters)
     }
 
-    /// Follows the steps from the pairs whose steps haven't been followed.
+    /// Follows the steps from all found pairs whose steps haven't been followed, and adds the pairs that they reach.
+    /// Returns the number of a pair of two equal nodes if such a pair is reached, and None otherwise.
     fn spread(&mut self, letters: &Letters) -> Option<u8> {
         for _ in 0..MOST_PAIRS {
             if self.looked == self.count {
@@ -106,7 +109,8 @@ impl Reach {
         None
     }
 
-    /// Follows the steps from a pair.
+    /// Follows the steps from a pair, and adds the pairs that they reach. Returns the number of a pair of two equal
+    /// nodes if such a pair is reached, and None otherwise.
     fn spread_from(&mut self, letters: &Letters, pair: (u8, u8)) -> Option<u8> {
         for letter in 0..self.edges.k() {
             let window = self.edges.window(pair.0, letter);
@@ -122,8 +126,8 @@ impl Reach {
         None
     }
 
-    /// Adds the pairs of a node and the nodes of a set, which steps reach from a pair. Returns whether the node is in
-    /// the set.
+    /// Adds the pairs of the node `to` with the nodes of `ends`, to which steps lead from `pair`. Returns whether
+    /// `to` is in `ends`, which means that a step leads to a pair of two equal nodes.
     fn join(&mut self, pair: (u8, u8), to: u8, ends: u16) -> bool {
         let mut rest = ends & !self.rows[usize::from(to % 16)];
         for _ in 0..MOST_NODES {
@@ -137,7 +141,7 @@ impl Reach {
         ends & bit(to) != 0
     }
 
-    /// Adds the pair of two nodes that a step reaches from a pair.
+    /// Adds the pair of the nodes `to` and `end`, to which a step leads from `pair`.
     fn link(&mut self, pair: (u8, u8), to: u8, end: u8) {
         self.rows[usize::from(to % 16)] |= bit(end);
         self.rows[usize::from(end % 16)] |= bit(to);

@@ -4,39 +4,40 @@ use crate::letters::Letters;
 use crate::reach::Links;
 use word_image::{MOST_NODES, MOST_PAIRS};
 
-/// More steps than a search takes: each of at most 120 pairs has 16 letters, with up to 256 pairs after each.
+/// More steps than a search takes. There are at most 120 pairs of different nodes, and at most 256 pairs can come
+/// after each of them.
 const MOST_TURNS: u16 = 40_000;
 
-/// A pair of a walk, and the ways from it that haven't been tried.
+/// A pair on the walk, and the next pairs that haven't been tried.
 #[derive(Clone, Copy)]
 struct Stop {
-    /// Its nodes.
+    /// The two nodes of the pair.
     pair: (u8, u8),
-    /// The first letter that hasn't been tried.
+    /// The least letter at the first node that hasn't been tried.
     letter: u8,
-    /// The first node of the pairs that the letter before it reaches.
+    /// The first node of the pairs to which the last tried letter leads.
     to: u8,
-    /// The second nodes of those that haven't been tried.
+    /// The second nodes of those pairs to which the last tried letter leads and which haven't been tried.
     rest: u16,
 }
 
-/// A depth-first search for a loop.
+/// A depth-first search for a loop of pairs.
 #[derive(Drop)]
 pub(crate) struct Rounds {
-    /// For each pair of the walk the next pair.
+    /// For each pair of the walk that closed the last loop, the number of the next pair.
     pub(crate) after: Links,
-    /// The walk.
+    /// The pairs of the walk, in their order.
     stops: [Stop; MOST_PAIRS],
     /// The number of pairs of the walk.
     depth: u8,
-    /// For each node the nodes with which it forms a pair of the walk.
+    /// For each node the set of nodes with which it forms a pair of the walk.
     open: [u16; MOST_NODES],
-    /// For each node the nodes with which it forms a pair whose ways have all been tried.
+    /// For each node the set of nodes with which it forms a pair after which all next pairs have been tried.
     done: [u16; MOST_NODES],
 }
 
 impl Rounds {
-    /// Starts without a walk.
+    /// Makes a search without a walk.
     pub(crate) fn new() -> Rounds {
         let stop = Stop {
             pair: (0, 0),
@@ -53,7 +54,8 @@ impl Rounds {
         }
     }
 
-    /// Searches for a loop after the pairs of a node and the nodes of a set. Returns a pair of the loop.
+    /// Searches for a loop on the walks that begin at a pair of `node` with a node of `others`. Returns the number of
+    /// a pair on the loop, or None if there is no loop.
     pub(crate) fn find(
         &mut self,
         edges: &Edges,
@@ -77,7 +79,8 @@ impl Rounds {
         None
     }
 
-    /// Tries all ways of the walk.
+    /// Continues the walk in all possible ways until it closes a loop. Returns the number of a pair on the loop, or
+    /// None if no way closes a loop.
     fn walk(&mut self, edges: &Edges, letters: &Letters) -> Option<u8> {
         for _ in 0..MOST_TURNS {
             if self.depth == 0 {
@@ -97,7 +100,7 @@ impl Rounds {
         None
     }
 
-    /// Adds a pair to the walk.
+    /// Adds a pair at the end of the walk.
     fn enter(&mut self, pair: (u8, u8)) {
         self.stops[usize::from(self.depth)] = Stop {
             pair,
@@ -110,7 +113,8 @@ impl Rounds {
         self.open[usize::from(pair.1 % 16)] |= bit(pair.0);
     }
 
-    /// Continues the walk with the next pair that a letter reaches.
+    /// Tries the next pair after the last pair of the walk: adds it to the walk, unless all pairs after it have been
+    /// tried before.
     fn go_on(&mut self, top: u8, stop: Stop) {
         let end = first_node(stop.rest);
         self.stops[usize::from(top)].rest = stop.rest & !bit(end);
@@ -119,7 +123,7 @@ impl Rounds {
         }
     }
 
-    /// Removes the last pair of the walk.
+    /// Removes the last pair from the walk, after all next pairs have been tried.
     fn leave(&mut self, top: u8, stop: Stop) {
         let (u, v) = stop.pair;
         self.depth = top;
@@ -129,7 +133,8 @@ impl Rounds {
         self.done[usize::from(v % 16)] |= bit(u);
     }
 
-    /// Takes the next letter that reaches pairs. Returns whether one of these is on the walk.
+    /// Takes the next letter of the last pair that leads to pairs. Returns whether one of these pairs is on the walk,
+    /// which closes a loop.
     fn turn(&mut self, edges: &Edges, letters: &Letters, top: u8) -> bool {
         let stop = self.stops[usize::from(top)];
         for letter in stop.letter..edges.k() {
@@ -152,7 +157,8 @@ impl Rounds {
         false
     }
 
-    /// Stores how the walk continues when the last letter leads back to a pair of it. Returns this pair.
+    /// Stores for each pair of the walk the next pair, after the last letter has closed a loop. Returns the number of
+    /// the pair to which the walk has come back.
     fn closed(&mut self, edges: &Edges, top: u8) -> u8 {
         let stop = self.stops[usize::from(top)];
         let back = stop.rest & self.open[usize::from(stop.to % 16)];
@@ -166,7 +172,8 @@ impl Rounds {
         edges.pair(pair.0, pair.1)
     }
 
-    /// Stores that the walk continues from one pair to another, and the same for the reversed pairs.
+    /// Stores that `next` comes after `pair` on the walk, and that the reversed `next` comes after the reversed
+    /// `pair`.
     fn link(&mut self, edges: &Edges, pair: (u8, u8), next: (u8, u8)) {
         let (here, turned) = (edges.pair(pair.0, pair.1), edges.pair(pair.1, pair.0));
         self.after[usize::from(here)] = edges.pair(next.0, next.1);

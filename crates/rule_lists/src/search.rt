@@ -1,4 +1,4 @@
-//! The search for the next rule.
+//! The search for the next listed rule.
 ghost use Rattle.std.specs.Prelude.{◌≡◌, ◌^◌, ◌<◌, ◌≤◌, ℕ, None, Some, IfSome, IsNone, slice_index, pos};
 ghost use Rattle.word_image.specs.LocalRules.{IsShape, IsRule};
 ghost use Rattle.rule_lists.specs.Tables.{IsTable, IsPast};
@@ -12,25 +12,25 @@ use crate::properties::has;
 use crate::tables::{Entries, advance, has_letters};
 use word_image::{MOST_ENTRIES, Rule};
 
-/// Returns the listed rules one after another, by ascending rank. Needs no memory.
+/// An iterator that returns the listed rules one after another, by ascending rank. Needs no memory.
 ///
 /// A search fills a table letter by letter, in the order of the windows. If the letters so far rule out the property,
 /// it doesn't fill the rest and continues with the next letters. Hints only make it faster, since each is tested
 /// before letters are given up. In the worst case it fills all `k^(k^m)` tables.
 #[derive(Drop)]
 pub struct Search<'a> {
-    /// The question that it answers.
+    /// The question that the search answers.
     asked: Asked<'a>,
-    /// The pairs that the letters of the last table reach.
+    /// The hints for the letters of the last table.
     hints: Hints,
-    /// The rule after which it continues, or None at the beginning.
+    /// The rule after which the search continues, or None if it begins at the least rank.
     last: Option<Rule>,
 }
 
 impl<'a> Search<'a> {
     ghost use Rattle.rule_lists.specs.Searches.{IsBehind};
 
-    /// Starts at the listed rule of least rank.
+    /// Makes a search whose first rule is the listed rule of least rank.
     pub fn new(asked: Asked<'a>) -> Search<'a>
         requires { IsOrdered asked }
         ensures { IsBehind asked.entry None result }
@@ -43,8 +43,8 @@ impl<'a> Search<'a> {
         }
     }
 
-    /// Starts after a rule of the shape, which need not have the property: every rule that it returns has a greater
-    /// rank.
+    /// Makes a search that begins after this rule of the shape. The rule need not have the property. Every rule that
+    /// the search returns has a greater rank.
     pub fn after(asked: Asked<'a>, rule: &Rule) -> Search<'a>
         requires order { IsOrdered asked }
         requires shape { HasShape asked rule.now }
@@ -80,7 +80,8 @@ impl<'a> Iterator for Search<'a> {
     }
 }
 
-/// Returns the first listed rule after the last one.
+/// Returns the listed rule of least rank after the rule `last`, or from the least rank on if `last` is None. Returns
+/// None if there is no such rule.
 fn next_listed(asked: &Asked, last: &Option<Rule>, hints: &mut Hints) -> Option<Rule>
     requires order { IsOrdered asked.now }
     requires shape { IfSome last.now (HasShape asked.now) }
@@ -92,7 +93,7 @@ fn next_listed(asked: &Asked, last: &Option<Rule>, hints: &mut Hints) -> Option<
     }
 }
 
-/// Returns the listed rule of least rank.
+/// Returns the listed rule of least rank, or None if no rule is listed.
 fn first_rule(asked: &Asked, hints: &mut Hints) -> Option<Rule>
     requires { IsOrdered asked.now }
     ensures { IsNextListed asked.now None result }
@@ -100,7 +101,8 @@ fn first_rule(asked: &Asked, hints: &mut Hints) -> Option<Rule>
     rule_from(asked, entries_of(asked.shape), Some(0), hints)
 }
 
-/// Returns the listed rule with the least rank that is greater than the rank of this rule.
+/// Returns the listed rule of least rank whose rank is greater than the rank of this rule, or None if there is no
+/// such rule.
 fn rule_after(asked: &Asked, rule: &Rule, hints: &mut Hints) -> Option<Rule>
     requires order { IsOrdered asked.now }
     requires shape { HasShape asked.now rule.now }
@@ -112,7 +114,7 @@ fn rule_after(asked: &Asked, rule: &Rule, hints: &mut Hints) -> Option<Rule>
     rule_from(asked, entries, next, hints)
 }
 
-/// Returns the letters of a rule, followed by any numbers.
+/// Returns the letters of a rule's table, followed by any numbers.
 fn entries_of(rule: &Rule) -> Entries
     ensures letters { (v : ℕ) → v < rule.now.states ^ rule.now.width → slice_index result v ≡ slice_index rule.now.table v }
     ensures table { IsTable rule.now.states (rule.now.states ^ rule.now.width) result }
@@ -124,7 +126,8 @@ fn entries_of(rule: &Rule) -> Entries
     entries
 }
 
-/// Returns the listed rule of least rank whose table isn't before these letters.
+/// Returns the listed rule of least rank whose letters at the first n windows of the order aren't before the letters
+/// of `start` at these windows, if `first` is n. Returns None if there is no such rule, or if `first` is None.
 fn rule_from(asked: &Asked, start: Entries, first: Option<u16>, hints: &mut Hints) -> Option<Rule>
     requires order { IsOrdered asked.now }
     requires table { AreEntries asked.now start }
@@ -142,7 +145,7 @@ fn rule_from(asked: &Asked, start: Entries, first: Option<u16>, hints: &mut Hint
     None
 }
 
-/// Returns the rule of a complete table if it has the property.
+/// Returns the rule of the table if all n windows are filled and the rule is listed, and None otherwise.
 fn found(asked: &Asked, entries: &Entries, n: u16) -> Option<Rule>
     requires order { IsOrdered asked.now }
     requires table { AreEntries asked.now entries.now }
@@ -163,7 +166,7 @@ fn found(asked: &Asked, entries: &Entries, n: u16) -> Option<Rule>
     Some(rule)
 }
 
-/// Returns the rule of a table.
+/// Returns the rule with k states, width m, offset 0 and this table.
 fn filled(k: u8, m: u8, entries: &Entries) -> Rule
     requires shape { IsShape k m (pos 0) }
     requires table { IsTable k (k ^ m) entries.now }
@@ -174,8 +177,10 @@ fn filled(k: u8, m: u8, entries: &Entries) -> Rule
     Rule::by(k, m, 0, |window| entries[usize::from(window)])
 }
 
-/// Adds a letter at the next window of the order, or continues with the next letters if the table is complete or its
-/// letters rule out the property.
+/// Makes one step of a search after the letters at the first n windows of the order are known. It adds the letter 0
+/// at the next window. If the table is complete or its letters rule out the property, it replaces the letters by the
+/// next ones instead. Returns at how many windows the letters are known afterwards, or None if there are no next
+/// letters.
 fn step(asked: &Asked, entries: &mut Entries, n: u16, hints: &mut Hints) -> Option<u16>
     requires order { IsOrdered asked.now }
     requires table { AreEntries asked.now entries.old }

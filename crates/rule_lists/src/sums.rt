@@ -9,7 +9,7 @@ use crate::forests::{Forest, forest_of};
 use crate::letters::Letters;
 use word_image::{Rule, Side};
 
-/// Returns whether the fixed letters rule out that the rule is conserving, if each letter weighs its own value.
+/// Returns true only if no rule with the fixed letters is conserving, if each letter weighs its own value.
 pub(crate) fn bars_conserving(shape: &Rule, letters: &Letters) -> bool
     ensures { IsTrue result → Bars Conserving shape.now.states shape.now.width letters.now }
 {
@@ -22,8 +22,8 @@ pub(crate) fn bars_conserving(shape: &Rule, letters: &Letters) -> bool
     false
 }
 
-/// Returns whether the nodes of a window are in the same tree and the letter that the difference of their levels
-/// demands isn't a letter, or isn't the fixed one.
+/// Returns whether this window shows that no rule with the fixed letters is conserving. This is the case if its nodes
+/// are in the same tree, and the letter that their levels demand isn't below k or isn't the fixed letter.
 fn has_no_letter(shape: &Rule, letters: &Letters, forest: &Forest, window: u16) -> bool
     requires window { window < shape.now.states ^ shape.now.width }
     requires known { AreKnown shape.now letters.now forest.now.trees forest.now.levels }

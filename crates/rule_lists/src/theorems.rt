@@ -1,4 +1,5 @@
-//! Laws: ranks distinguish rules, a search lists each rule once, and fixed letters rule out properties.
+//! Laws of lists of rules: ranks distinguish rules, a search lists each rule once, and fixed letters rule out
+//! properties.
 ghost use Rattle.std.specs.Prelude.{◌≡◌, ◌≢◌, ◌+◌, ◌/◌, ◌%◌, ◌^◌, ◌<◌, ◌≤◌, ◌↔◌, ℕ, ℤ, List, Contains, None, length, slice_index, slice_set};
 ghost use Rattle.word_image.specs.LocalRules.{LocalRule, IsRule, node_count};
 ghost use Rattle.word_image.specs.Graphs.{first_of, second_of};
@@ -18,19 +19,20 @@ ghost use Rattle.rule_lists.specs.Forests.{AreKnown};
 ghost use Rattle.rule_lists.specs.EndlessPairs.{AreEndlessOn, IsFixedEndless};
 ghost use Rattle.rule_lists.specs.declared.properties.Property.{Property};
 
-/// Law: two rules of a shape with the same rank are equal.
+/// Law: two rules of a shape, both with offset 0, are equal if they have the same rank.
 pub fn one_rule_of_a_rank()
     ensures { (k m : ℕ) (order : List ℕ) (q r : LocalRule) → IsOrder (k ^ m) order → IsOfShape k m q → IsOfShape k m r → rank k order q.table ≡ rank k order r.table → q ≡ r }
 {}
 
-/// Law: the first rule, the rule after it and so on, until there is none, are exactly the rules of the list, each
-/// once.
+/// Law: suppose that a search returns the listed rule of least rank, then the next one, and so on, until there is
+/// none. Then it returns exactly the listed rules, each once.
 pub fn calls_list_each_rule_once()
     ensures { (property : Property) (k m : ℕ) (begin order : List ℕ) (rules : List LocalRule) → IsOrder (k ^ m) order → AreAll property k m begin order None rules → AreListed property k m begin order rules }
 {}
 
-/// Law: if no letter is fixed at a window, each listed rule has some letter there. It is in the list of the part in
-/// which this letter is fixed, and all rules in the list of a part are listed.
+/// Law: suppose that no letter is fixed at a window. Then a rule is listed if and only if it is listed after some
+/// letter a has also been fixed at this window. Only one letter a is possible. So the lists for all letters a are
+/// parts of the whole list, and add up to it.
 pub fn parts_add_up()
     ensures every { (property : Property) (k m : ℕ) (begin : List ℕ) (w : ℕ) (r : LocalRule) → w < k ^ m → w < length begin → k ≤ slice_index begin w
         → IsListed property k m begin r ↔ ((a : ℕ) × (a < k) × IsListed property k m (slice_set begin w a) r) }
@@ -38,34 +40,36 @@ pub fn parts_add_up()
         → IsListed property k m (slice_set begin w a) r → IsListed property k m (slice_set begin w b) r → a ≡ b }
 {}
 
-/// Law: if fixed letters lead from a node, by two different letters first, to a node with itself, two words are
-/// erasable. No rule with these letters is surjective.
+/// Law: suppose that fixed letters lead from a node with itself, first by two different letters, to a pair of two
+/// equal nodes. Then two different words with the same ends have the same image under each rule with these letters,
+/// so no such rule is surjective.
 pub fn fixed_erasable_pair_forbids_surjective()
     ensures { (r s : LocalRule) (letters : List ℕ) (p : ℕ) → IsRule r → IsFixedReached r letters p → first_of r p ≡ second_of r p → IsCompletion r.states r.width letters s → ¬ IsSurjective s }
 {}
 
-/// Law: if fixed letters lead on for ever from a pair of two different nodes, both forward and backward, no rule with
-/// these letters is injective.
+/// Law: suppose that fixed letters lead on for ever from a pair of two different nodes, both forward and backward.
+/// Then no rule with these letters is injective.
 pub fn fixed_endless_nodes_forbid_injective()
     ensures { (r s : LocalRule) (letters on back : List ℕ) (p : ℕ) → IsRule r → AreEndlessOn Right r letters (Contains on) → AreEndlessOn Left r letters (Contains back)
         → Contains on p → Contains back p → first_of r p ≢ second_of r p → IsCompletion r.states r.width letters s → ¬ IsInjective s }
 {}
 
-/// Law: suppose that under each rule with the fixed letters every flux differs at two nodes by the difference of
-/// their levels. If these are the nodes of a window, the levels determine the letter of a conserving rule there.
+/// Law: suppose that the two nodes of a window are in the same tree of a forest for the fixed letters. Then their
+/// levels determine the letter that each conserving rule with the fixed letters gives for this window.
 pub fn levels_give_letters_of_conserving()
     ensures { (r s : LocalRule) (letters trees levels : List ℕ) (w : ℕ) → IsRule r → AreKnown r letters trees levels → IsCompletion r.states r.width letters s → IsConserving (λ a. a) s → w < r.states ^ r.width
         → slice_index trees (w / r.states) ≡ slice_index trees (w % node_count r) → slice_index s.table w + slice_index levels (w % node_count r) ≡ w / node_count r + slice_index levels (w / r.states) }
 {}
 
-/// Law: suppose that two windows with the same fixed letter differ in the letter at their end, and that fixed letters
-/// lead on for ever from the pair of their ends. No rule with these letters closes on this side.
+/// Law: suppose that two windows with the same fixed letter differ only in the letter at their end on this side, and
+/// that fixed letters lead on for ever from the pair of the nodes at their ends. Then no rule with these letters
+/// closes on this side.
 pub fn fixed_endless_first_pair_forbids_closing()
     ensures { (side : Side) (r s : LocalRule) (letters on : List ℕ) (w a : ℕ) → IsRule r → AreEndlessOn side r letters (Contains on) → IsFixedEndless side r letters (Contains on) w a
         → IsCompletion r.states r.width letters s → ¬ IsClosing side s }
 {}
 
-/// Law: no property depends on the offset. A listed rule has the property at every offset.
+/// Law: no property depends on the offset. So a listed rule has the property at every offset.
 pub fn offset_tells_nothing()
     ensures { (property : Property) (r : LocalRule) (o : ℤ) → IsRule r → IsRule (at_offset r o) → (Has property r ↔ Has property (at_offset r o)) }
 {}

@@ -1,4 +1,4 @@
-//! Walks of pairs of nodes by fixed letters, tested step by step.
+//! Tests whether fixed letters lead along the walks of pairs of nodes that hints have found.
 ghost use Rattle.std.specs.Prelude.{◌≡◌, ◌<◌, ◌↔◌, IsTrue, slice_index};
 ghost use Rattle.word_image.specs.Graphs.{pair_count, first_of, second_of};
 ghost use Rattle.rule_lists.specs.EndlessPairs.{FixedLeadsOn, IsFixedStep};
@@ -8,8 +8,9 @@ use crate::letters::{Letters, are_one};
 use crate::reach::Links;
 use word_image::{Rule, Side};
 
-/// Returns whether the fixed letters lead to a pair from a node with itself, first to two different nodes. It follows
-/// links to the pairs before.
+/// Returns true only if the fixed letters lead from a node with itself, first to two different nodes, to this pair.
+/// It follows the links `before` from the pair backward, and tests each step. If a link is wrong, it may return
+/// false.
 pub(crate) fn is_tail(
     side: Side,
     shape: &Rule,
@@ -34,7 +35,8 @@ pub(crate) fn is_tail(
     false
 }
 
-/// Returns whether the fixed letters lead from a pair back to it. It follows links to the next pairs.
+/// Returns true only if the fixed letters lead from this pair around a loop back to the pair. It follows the links
+/// `after`, and tests each step. If a link is wrong, it may return false.
 pub(crate) fn is_round(
     side: Side,
     shape: &Rule,
@@ -59,7 +61,7 @@ pub(crate) fn is_round(
     false
 }
 
-/// Returns whether a number is the number of a pair of two equal nodes.
+/// Returns whether the pair with this number has two equal nodes.
 pub(crate) fn has_one_node(shape: &Rule, pair: u16) -> bool
     requires { pair < pair_count shape.now }
     ensures { IsTrue result ↔ (first_of shape.now pair ≡ second_of shape.now pair) }
@@ -68,7 +70,8 @@ pub(crate) fn has_one_node(shape: &Rule, pair: u16) -> bool
     u == v
 }
 
-/// Returns whether fixed letters lead from one pair to another on this side.
+/// Returns whether a step by fixed letters leads from the pair `from` to the pair `to`, forward on the right side and
+/// backward on the left. Returns false if a number isn't the number of a pair.
 fn leads_on(side: Side, shape: &Rule, letters: &Letters, from: u16, to: u16) -> bool
     ensures from { IsTrue result → from < pair_count shape.now }
     ensures to { IsTrue result → to < pair_count shape.now }
@@ -86,7 +89,8 @@ fn leads_on(side: Side, shape: &Rule, letters: &Letters, from: u16, to: u16) -> 
     }
 }
 
-/// Returns whether two letters lead from one pair to another, along two windows with equal fixed letters.
+/// Returns whether a step forward leads from the pair `from` to the pair `to`, along two windows with equal fixed
+/// letters.
 fn is_step(shape: &Rule, letters: &Letters, from: u16, to: u16) -> bool
     requires from { from < pair_count shape.now }
     requires to { to < pair_count shape.now }

@@ -1,4 +1,4 @@
-//! The beginning of a rule's table text.
+//! Reads the beginning of a rule's table text.
 ghost use Rattle.std.specs.Prelude.{◌≡◌, ◌+◌, ◌-◌, ◌^◌, ◌<◌, ◌≤◌, ◌++◌, IfOk, IfErr, All, map, length, take, replicate};
 ghost use Rattle.word_image.specs.LocalRules.{IsShape, most_windows};
 ghost use Rattle.word_image.specs.Digits.{IsHexDigit, letter_at};
@@ -11,18 +11,19 @@ use crate::head::{Head, Kind, read_head};
 use crate::text_fault::{TextFault, in_text};
 use word_image::{MOST_ENTRIES, Rule, check_shape};
 
-/// The beginning of a table text. For example, `2:3:-1:t01` stands for all rules whose table begins with 0 1.
+/// The beginning of a table text. For example, `2:3:-1:t01` stands for all rules with 2 states, width 3 and offset -1
+/// whose table begins with 0 1.
 #[derive(Clone, Copy, Debug)]
 pub struct Beginning {
-    /// The rule with the given letters, followed by zeros.
+    /// The rule whose table has the given letters, followed by zeros.
     pub rule: Rule,
-    /// The number of given letters.
+    /// The number of given letters, at most as many as there are windows.
     pub given: u16,
 }
 
-/// Reads the beginning of a table text: a head and at most as many letters as there are windows. Returns the first
-/// fault otherwise. The faults are the same as for the text of a rule, except that `Length` means that there are more
-/// letters than windows, and `Kind` that a number is given instead of a table.
+/// Reads the beginning of a table text: a head, and at most as many digits as there are windows. Returns the first
+/// fault if the text isn't such a beginning. The faults are those of a rule's text, with two differences. `Length`
+/// means that there are more digits than windows. `Kind` means that the text gives a number instead of a table.
 pub fn parse_beginning(text: &[u8]) -> Result<Beginning, TextFault>
     ensures beginning { IfOk result (λ b. IsBeginning text.now b) }
     ensures fault { IfErr result (λ f. IsBeginningFault text.now f) }
@@ -36,7 +37,8 @@ pub fn parse_beginning(text: &[u8]) -> Result<Beginning, TextFault>
     begin(&head, digits)
 }
 
-/// Returns the beginning with this head and these digits, or its first fault.
+/// Returns the beginning of a table text with this head and these digits, or the first fault of the text. The digits
+/// have the form that the head announces.
 fn begin(head: &Head, digits: &[u8]) -> Result<Beginning, TextFault>
     requires entries { IsEntries head.now.kind digits.now }
     requires place { head.now.place + 2 ^ 16 < 2 ^ 64 }
@@ -51,7 +53,8 @@ fn begin(head: &Head, digits: &[u8]) -> Result<Beginning, TextFault>
     }
 }
 
-/// Does the same for the table form of an accepted shape.
+/// Returns the beginning of a table text with this head and these digits, or the first fault of the digits. The head
+/// announces a table, and its shape is accepted.
 fn begin_table(head: &Head, digits: &[u8]) -> Result<Beginning, TextFault>
     requires shape { IsShape head.now.k head.now.m head.now.o }
     requires digits { All IsHexDigit digits.now }
@@ -72,7 +75,7 @@ fn begin_table(head: &Head, digits: &[u8]) -> Result<Beginning, TextFault>
     }
 }
 
-/// Returns the letters of the digits, followed by zeros.
+/// Returns the letters of hexadecimal digits, followed by zeros.
 fn filled(digits: &[u8]) -> [u8; MOST_ENTRIES]
     requires { length digits.now ≤ most_windows }
     ensures { result ≡ map letter_at digits.now ++ replicate (most_windows - length digits.now) 0 }

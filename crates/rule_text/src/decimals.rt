@@ -1,4 +1,4 @@
-//! Decimal numbers, and offsets.
+//! Reads decimal numbers and offsets.
 ghost use Rattle.std.specs.Prelude.{◌≡◌, ℕ, ℤ, ◌+◌, ◌*◌, ◌^◌, ◌<◌, All, IfSome, IsTrue, ◌↔◌};
 ghost use Rattle.std.specs.Option.{SomeIff};
 ghost use Rattle.rule_text.specs.RuleTexts.{IsDigit, IsDecimal, IsOffset, decimal_value};
@@ -13,7 +13,7 @@ pub fn is_decimal(text: &[u8], most: usize) -> bool
     !text.is_empty() && text.len() <= most && text.iter().all(|byte| byte.is_ascii_digit())
 }
 
-/// Returns the number of a row of decimal digits, or None if it is `2^128` or more.
+/// Returns the number that decimal digits write, or None if the number is `2^128` or more.
 pub fn decimal_number(digits: &[u8]) -> Option<u128>
     requires { All IsDigit digits.now }
     ensures { SomeIff result (decimal_value digits.now < 2 ^ 128) (decimal_value digits.now) }
@@ -25,7 +25,8 @@ pub fn decimal_number(digits: &[u8]) -> Option<u128>
     number
 }
 
-/// Appends a decimal digit to a number. None stands for the numbers of `2^128` or more.
+/// Returns 10 times a number plus a digit. None stands for any number of `2^128` or more, in the argument and in the
+/// result.
 fn with_digit(number: Option<u128>, digit: u8) -> Option<u128>
     ensures { (n : ℕ) → SomeIff number (n < 2 ^ 128) n
         → SomeIff result (n * 10 + digit < 2 ^ 128) (n * 10 + digit) }
@@ -48,7 +49,7 @@ pub fn decimal_offset(text: &[u8]) -> Option<i8>
     Some(with_sign(minus, number))
 }
 
-/// Returns a number below 100, with a minus sign if `minus` is true.
+/// Returns the number, or its negative if `minus` is true. The number is below 100.
 pub fn with_sign(minus: bool, number: u8) -> i8
     requires { number < 100 }
     ensures { result ≡ signed minus number }

@@ -1,4 +1,4 @@
-//! The digits of a table and of a number.
+//! Checks and reads the digits of a table and of a Wolfram number.
 ghost use Rattle.std.specs.Prelude.{◌≡◌, ◌*◌, ◌/◌, ◌%◌, ◌^◌, ◌<◌, ◌≤◌, All, IfSome, IfNone, IsTrue, ◌↔◌, length, map, reverse};
 ghost use Rattle.std.specs.Bool.{OnTrue};
 ghost use Rattle.word_image.specs.LocalRules.{word_of};
@@ -10,10 +10,11 @@ ghost use Rattle.rule_text.specs.Heads.{IsEntries};
 use crate::head::Kind;
 use word_image::letter;
 
-/// The greatest number of digits of a number in a text.
+/// The greatest number of decimal digits of a Wolfram number in a text.
 const MOST_DIGITS: usize = 39;
 
-/// Returns the place at which the digits of a table or of a number stop being right, if there is one.
+/// Returns the first place at which the digits break the form of their kind, or None if they don't break it. A table
+/// has hexadecimal digits. A number has 1 to 39 decimal digits.
 pub fn first_stop(kind: Kind, digits: &[u8]) -> Option<usize>
     ensures some { IfSome result (λ place. IsFormFault (IsEntries kind) digits.now place) }
     ensures none { IfNone result (IsEntries kind digits.now) }
@@ -24,7 +25,7 @@ pub fn first_stop(kind: Kind, digits: &[u8]) -> Option<usize>
     }
 }
 
-/// Returns the place of the first byte that isn't a hexadecimal digit.
+/// Returns the place of the first byte that isn't a hexadecimal digit, or None if there is no such byte.
 fn hex_stop(digits: &[u8]) -> Option<usize>
     ensures some { IfSome result (λ place. IsFormFault (All IsHexDigit) digits.now place) }
     ensures none { IfNone result (All IsHexDigit digits.now) }
@@ -37,8 +38,8 @@ fn hex_stop(digits: &[u8]) -> Option<usize>
     None
 }
 
-/// Returns the place at which 1 to 39 decimal digits stop being right: at another byte, at the fortieth digit, or at
-/// 0 if there is no digit.
+/// Returns the first place at which a text breaks the form of 1 to 39 decimal digits, or None if it doesn't break
+/// this form. The place is 0 if the text is empty, and 39 if the text begins with 40 digits.
 fn decimal_stop(digits: &[u8]) -> Option<usize>
     ensures some { IfSome result (λ place. IsFormFault (IsDecimal 1 39) digits.now place) }
     ensures none { IfNone result (IsDecimal 1 39 digits.now) }
@@ -51,7 +52,7 @@ fn decimal_stop(digits: &[u8]) -> Option<usize>
     if digits.is_empty() { Some(0) } else { None }
 }
 
-/// Writes the letters of hexadecimal digits. Any other byte counts as 0.
+/// Writes the letters of hexadecimal digits into a table of the same length. Any other byte counts as the letter 0.
 pub fn write_letters(table: &mut [u8], digits: &[u8])
     requires { length table.old ≡ length digits.now }
     ensures { table.new ≡ map letter_at digits.now }
@@ -61,8 +62,8 @@ pub fn write_letters(table: &mut [u8], digits: &[u8])
     }
 }
 
-/// Writes the digits of a number in base k into a table, beginning with the least significant one. Returns whether
-/// the table has room for all of them.
+/// Writes the digits of a number in base k into a table, beginning with the least significant digit. Returns whether
+/// the table has room for all digits of the number.
 pub fn write_number(table: &mut [u8], k: u8, number: u128) -> bool
     requires { 2 ≤ k }
     ensures fits { IsTrue result ↔ (number < k ^ length table.old) }

@@ -1,4 +1,4 @@
-//! The words for the faults of a text.
+//! The names of the faults of a text.
 ghost use Rattle.std.specs.Prelude.{◌≡◌, IfOk, string_bytes};
 ghost use Rattle.rule_text.specs.FaultTexts as texts;
 ghost use Rattle.rule_text.specs.FaultTexts.{fault_text};
@@ -6,7 +6,8 @@ ghost use Rattle.rule_text.specs.FaultTexts.{fault_text};
 use crate::text_fault::TextFault;
 use std::alloc::{AllocError, Global};
 
-/// Returns the word for a fault, followed by a blank and its place if it has one. The only error is lack of memory.
+/// Returns the name of a fault, for example `states`. If the fault has a place, the result is its name, a blank and
+/// the place, for example `form 3`. The only error is lack of memory.
 pub fn fault_kind(alloc: Global, fault: TextFault) -> Result<String, AllocError>
     ensures { IfOk result (λ text. string_bytes text ≡ fault_text fault) }
 {
@@ -17,7 +18,7 @@ pub fn fault_kind(alloc: Global, fault: TextFault) -> Result<String, AllocError>
     }
 }
 
-/// Returns the word for a fault.
+/// Returns the name of a fault.
 pub fn fault_name(fault: TextFault) -> &'static str
     ensures { result.now ≡ texts.fault_name fault }
 {
@@ -34,7 +35,7 @@ pub fn fault_name(fault: TextFault) -> &'static str
     }
 }
 
-/// Returns the place of a fault. Only faults of the form and of a letter have one.
+/// Returns the place of a fault in the text. Only `Form` and `Letter` have one.
 pub fn fault_place(fault: TextFault) -> Option<usize>
     ensures { result ≡ texts.fault_place fault }
 {

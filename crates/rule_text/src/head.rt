@@ -1,4 +1,4 @@
-//! The head of a text, which is the part before its entries.
+//! Reads the head of a text, which is the part before the table's letters or the number's digits.
 ghost use Rattle.std.specs.Prelude.{IfOk, IfErr};
 ghost use Rattle.rule_text.specs.RuleTexts.{IsTextFault};
 ghost use Rattle.rule_text.specs.Heads.{IsForm, IsHead};
@@ -6,7 +6,7 @@ ghost use Rattle.rule_text.specs.Heads.{IsForm, IsHead};
 use crate::parts::{field, kind, offset};
 use crate::text_fault::TextFault;
 
-/// The entries of a text: the letters of the table, or the digits of its number.
+/// What follows the head of a text: the letters of a table, or the digits of a number.
 #[derive(Clone, Copy)]
 pub enum Kind {
     /// Hexadecimal digits, one for each window.
@@ -15,7 +15,7 @@ pub enum Kind {
     Number,
 }
 
-/// The head of a text, and the place at which the entries begin.
+/// The head of a text, and the place of the text after the head.
 #[derive(Clone, Copy)]
 pub struct Head {
     // The number of states, below 100.
@@ -24,13 +24,14 @@ pub struct Head {
     pub m: u8,
     // The offset, from -99 to 99.
     pub o: i8,
-    // The kind of the entries.
+    // What follows the head.
     pub kind: Kind,
-    // The place at which they begin.
+    // The place of the text at which the letters or the digits begin.
     pub place: usize,
 }
 
-/// Reads the head of a text. A text that doesn't begin with a field has the bare form, and no head.
+/// Reads the head of a text, or returns a fault of form. A text that doesn't begin with a number and a colon has the
+/// bare form, and no head of its own: the result is the head `2:3:-1:w` with the place 0.
 pub fn read_head(text: &[u8]) -> Result<Head, TextFault>
     ensures head { IfOk result (λ h. IsHead text.now h) }
     ensures fault { IfErr result (λ f. IsTextFault text.now f) }

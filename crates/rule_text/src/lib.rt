@@ -8,15 +8,18 @@
 //! | table | `K:M:O:t` and hexadecimal digits of either case | the table's letters, in the order of the windows' values |
 //! | number | `K:M:O:w` and 1 to 39 decimal digits | the Wolfram number |
 //!
-//! K and M have one or two decimal digits. So does O, which may have a minus sign. The Wolfram number is a sum over
-//! all windows: the letter for the window times k to the power of the window's value. So `110`, `2:3:-1:w110` and
-//! `2:3:-1:t01110110` are texts of the same rule.
+//! K and M have one or two decimal digits. So does O, which may have a minus sign before them. The Wolfram number is
+//! a sum over all windows: the letter for the window times k to the power of the window's value. So `110`,
+//! `2:3:-1:w110` and `2:3:-1:t01110110` are texts of the same rule.
 //!
-//! The part of a text before its entries, `K:M:O:` and `t` or `w`, is called its head. `parse` reads the head part by
-//! part, and then the entries that the head announces. A call takes **O(n + k^m)** time for a text of n bytes, and no
-//! memory. Only `print` needs memory, for its text.
+//! A text is in the grammar if it has one of these forms. The part `K:M:O:` and `t` or `w` is called its head, and
+//! the digits after the head are its entries. The shape of a rule is its k, m and o together. A shape is accepted if
+//! it keeps the limits of word_image. `parse` reads the head part by part, and then the entries that the head
+//! announces. A call takes **O(n + k^m)** time for a text of n bytes, and no memory. Only `print` needs memory, for
+//! its text.
 //!
-//! `parse_beginning` reads the beginning of a table text, which stands for all rules whose table begins like this.
+//! `parse_beginning` reads the beginning of a table text: a head with `t`, and the first letters of a table. It
+//! stands for all rules whose table begins with these letters.
 //!
 //! `numbered` makes a rule from a shape and a number, without a text, and `check_shape` only checks the shape.
 //! `is_decimal`, `decimal_number` and `decimal_offset` read the decimal operands of commands.

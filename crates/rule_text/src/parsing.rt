@@ -14,7 +14,8 @@ use crate::text_fault::{TextFault, in_text};
 use crate::wolfram_numbers::{MOST_NUMBERED_STATES, rule_of_number};
 use word_image::{MOST_ENTRIES, Rule, check_shape};
 
-/// Returns the rule of a text, or the text's first fault, in the order of `TextFault`.
+/// Returns the rule of a text. If the text isn't the text of an accepted rule, returns its first fault, in the order
+/// of `TextFault`.
 pub fn parse(text: &[u8]) -> Result<Rule, TextFault>
     ensures rule { IfOk result (λ r. IsRuleText text.now r) }
     ensures fault { IfErr result (λ f. IsTextFault text.now f) }
@@ -30,7 +31,8 @@ pub fn parse(text: &[u8]) -> Result<Rule, TextFault>
     accept(&head, digits)
 }
 
-/// Returns the rule with this head and these digits, or the first fault.
+/// Returns the rule of a text with this head and these digits, or the text's first fault. The digits have the form
+/// that the head announces.
 fn accept(head: &Head, digits: &[u8]) -> Result<Rule, TextFault>
     requires entries { IsEntries head.now.kind digits.now }
     requires place { head.now.place + 2 ^ 16 < 2 ^ 64 }
@@ -45,7 +47,8 @@ fn accept(head: &Head, digits: &[u8]) -> Result<Rule, TextFault>
     }
 }
 
-/// Returns the rule of the table form, for an accepted shape.
+/// Returns the rule whose shape is in the head and whose table has the letters of these hexadecimal digits, or the
+/// first fault of the digits. The shape is accepted.
 fn accept_table(head: &Head, digits: &[u8]) -> Result<Rule, TextFault>
     requires shape { IsShape head.now.k head.now.m head.now.o }
     requires digits { All IsHexDigit digits.now }
@@ -65,7 +68,8 @@ fn accept_table(head: &Head, digits: &[u8]) -> Result<Rule, TextFault>
     }
 }
 
-/// Returns the rule of the number form and of the bare form, for an accepted shape.
+/// Returns the rule whose shape is in the head and whose Wolfram number these decimal digits write, or the first
+/// fault. The shape is accepted. The bare form has the head `2:3:-1:w`.
 fn accept_number(head: &Head, digits: &[u8]) -> Result<Rule, TextFault>
     requires shape { IsShape head.now.k head.now.m head.now.o }
     requires digits { IsDecimal 1 39 digits.now }

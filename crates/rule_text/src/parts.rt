@@ -1,4 +1,4 @@
-//! The parts of a head. Each is read from a given place of a text.
+//! Reads the parts of a head, each from a given place of a text.
 ghost use Rattle.std.specs.Prelude.{◌≡◌, ◌≢◌, false, ◌+◌, ◌<◌, ◌≤◌, ◌∷◌, [], ◌↔◌, IfOk, IfErr, IfSome, IfNone, IsTrue, length, slice_index};
 ghost use Rattle.std.specs.Bool.{OnTrue};
 ghost use Rattle.rule_text.specs.RuleTexts.{IsDigit};
@@ -8,7 +8,8 @@ use crate::decimals::with_sign;
 use crate::head::Kind;
 use crate::text_fault::TextFault;
 
-/// Reads one or two digits and the colon after them. Returns their number and the place after the colon.
+/// Reads one or two digits and the colon after them, from the place `from` of a text. Returns the number that the
+/// digits write, and the place after the colon. Returns `Form` if the text has something else there.
 pub fn field(text: &[u8], from: usize) -> Result<(u8, usize), TextFault>
     requires { from ≤ length text.now }
     ensures number { IfOk result (λ r. GoesOverField text.now from r.1 r.0) }
@@ -25,8 +26,9 @@ pub fn field(text: &[u8], from: usize) -> Result<(u8, usize), TextFault>
     Ok((number, end + 1))
 }
 
-/// Reads one or two digits, which may have a minus sign before them, and the colon after them. Returns their number
-/// with its sign and the place after the colon.
+/// Reads an offset and the colon after it, from the place `from` of a text. An offset has one or two digits, which
+/// may have a minus sign before them. Returns the offset and the place after the colon. Returns `Form` if the text
+/// has something else there.
 pub fn offset(text: &[u8], from: usize) -> Result<(i8, usize), TextFault>
     requires { from ≤ length text.now }
     ensures offset { IfOk result (λ r. GoesOverOffset text.now from r.1 r.0) }
@@ -38,7 +40,8 @@ pub fn offset(text: &[u8], from: usize) -> Result<(i8, usize), TextFault>
     Ok((with_sign(minus, number), end))
 }
 
-/// Reads the letter of a kind. Returns the kind and the place after the letter.
+/// Reads the letter `t` or `w` at the place `from` of a text. Returns what it announces, a table or a number, and the
+/// place after the letter. Returns `Form` if another byte is there.
 pub fn kind(text: &[u8], from: usize) -> Result<(Kind, usize), TextFault>
     requires { from ≤ length text.now }
     ensures over { IfOk result (λ r. GoesOver text.now from r.1 (kind_text r.0)) }
@@ -54,7 +57,8 @@ pub fn kind(text: &[u8], from: usize) -> Result<(Kind, usize), TextFault>
     }
 }
 
-/// Reads two digits, or one if there aren't two. Returns their number and the place after them.
+/// Reads two digits from the place `from` of a text, or one digit if there aren't two. Returns the number that they
+/// write and the place after them, or None if there is no digit.
 fn small(text: &[u8], from: usize) -> Option<(u8, usize)>
     requires { from ≤ length text.now }
     ensures number { IfSome result (λ r. GoesOverSmall text.now from r.1 r.0) }
@@ -69,7 +73,8 @@ fn small(text: &[u8], from: usize) -> Option<(u8, usize)>
     }
 }
 
-/// Returns whether there is a minus sign, and the place after it if there is one.
+/// Returns whether a minus sign is at the place `from` of a text. Also returns the place after the minus sign, or
+/// `from` if there is none.
 pub fn minus(text: &[u8], from: usize) -> (bool, usize)
     requires { from ≤ length text.now }
     ensures over { GoesOver text.now from result.1 (sign result.0) }
@@ -99,7 +104,7 @@ fn digit(text: &[u8], place: usize) -> Option<u8>
     }
 }
 
-/// Returns whether this byte is at a place.
+/// Returns whether this byte is at this place of a text.
 fn stands(text: &[u8], place: usize, byte: u8) -> bool
     requires { 0 < byte }
     ensures within { OnTrue result (place < length text.now) }

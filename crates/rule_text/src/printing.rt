@@ -1,4 +1,4 @@
-//! Prints a rule, and computes its number.
+//! Prints a rule, and computes its Wolfram number.
 ghost use Rattle.std.specs.Prelude.{◌≡◌, ◌<◌, IfOk};
 ghost use Rattle.std.specs.Option.{SomeIff};
 ghost use Rattle.word_image.specs.LocalRules.{LocalRule, IsRule, wolfram_number};

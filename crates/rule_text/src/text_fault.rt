@@ -7,8 +7,8 @@ use word_image::RuleFault;
 /// Why a text isn't the text of an accepted rule.
 #[derive(Clone, Copy, Debug, PartialEq, Eq)]
 pub enum TextFault {
-    /// The text isn't in the grammar. This is the length of its longest prefix with which some text of the grammar
-    /// begins.
+    /// The text isn't in the grammar. The number is the length of the text's longest prefix with which some text of
+    /// the grammar begins.
     Form(usize),
     /// The number of states isn't from 2 to 16.
     States,
@@ -16,7 +16,7 @@ pub enum TextFault {
     Width,
     /// There are more than 16 words of m - 1 letters.
     Nodes,
-    /// A window reaches further than 16 cells to the left or to the right.
+    /// The window of a cell reaches further than 16 cells to the left or to the right of the cell.
     Offset,
     /// The number form is used for a rule of 7 states or more.
     Kind,
@@ -28,7 +28,7 @@ pub enum TextFault {
     Number,
 }
 
-/// Returns the fault of a text for a fault of its rule. The table begins at this place of the text.
+/// Returns the fault of a text whose rule has this fault. The table begins at the place `place` of the text.
 pub fn in_text(fault: RuleFault, place: usize) -> TextFault
     requires { place + 2 ^ 16 < 2 ^ 64 }
     ensures { result ≡ in_text place fault }

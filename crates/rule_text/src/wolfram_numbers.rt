@@ -11,7 +11,7 @@ use crate::digits::write_number;
 use crate::text_fault::{TextFault, in_text};
 use word_image::{MOST_ENTRIES, Rule};
 
-/// The greatest number of states of a rule that has a number.
+/// The greatest number of states of a rule that can be given by its Wolfram number.
 pub const MOST_NUMBERED_STATES: u8 = 6;
 
 /// Checks whether a rule can have k states, width m and offset o. Returns the first of `States`, `Width`, `Nodes` and
@@ -25,8 +25,9 @@ pub fn check_shape(k: u8, m: u8, o: i8) -> Result<(), TextFault>
     }
 }
 
-/// Returns the rule of k states, width m and offset o with this Wolfram number. Otherwise returns the first fault: a
-/// fault of the shape, then `Kind` for 7 states or more, then `Number` if the number is at least `k^(k^m)`.
+/// Returns the rule with k states, width m and offset o that has this Wolfram number. If there is none, returns the
+/// first fault: a fault of the shape, then `Kind` for 7 states or more, then `Number` if the number is at least
+/// `k^(k^m)`.
 pub fn numbered(k: u8, m: u8, o: i8, number: u128) -> Result<Rule, TextFault>
     ensures { IsReading (by_number k m o number) result }
 {
@@ -37,7 +38,7 @@ pub fn numbered(k: u8, m: u8, o: i8, number: u128) -> Result<Rule, TextFault>
     rule_of_number(k, m, o, number).ok_or(TextFault::Number)
 }
 
-/// Returns the rule of an accepted shape with this number, or None if no table has it.
+/// Returns the rule of an accepted shape with this Wolfram number, or None if no table of this shape has the number.
 pub fn rule_of_number(k: u8, m: u8, o: i8, number: u128) -> Option<Rule>
     requires { IsShape k m o }
     ensures { SomeIff result (number < k ^ (k ^ m)) (rule_of (by_number k m o number)) }

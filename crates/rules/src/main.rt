@@ -9,7 +9,7 @@ use std::process::ExitCode;
 use std::rt::Env;
 use std::{env, io};
 
-/// The exit status if the system can't pass the words, for example if one isn't UTF-8.
+/// The exit code if the system can't pass the words of the command line, for example if a word isn't UTF-8.
 const NO_WORDS: u8 = 9;
 
 fn main(rt: HostRuntime) -> ExitCode {

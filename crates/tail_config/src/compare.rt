@@ -22,7 +22,8 @@ pub fn differ(a: &Tail, b: &Tail) -> Option<i64>
     }
 }
 
-/// Returns the place `right`, or the place `left` cells to the left of -1 if it is nearer to 0.
+/// Returns one of two places, namely the one nearer to 0: the place `right`, or the place `left` cells to the left of
+/// -1. Returns `right` if both are equally near.
 fn nearer(right: usize, left: usize) -> i64
     requires near_right { right ≤ 2 ^ 12 }
     requires near_left { left ≤ 2 ^ 12 }
@@ -36,7 +37,8 @@ fn nearer(right: usize, left: usize) -> i64
     }
 }
 
-/// Returns whether two Tails have the same image under a rule. All three have the same k.
+/// Returns whether two Tails have the same image under a rule. The rule and both Tails have the same number of
+/// letters.
 pub fn share(rule: &Rule, a: &Tail, b: &Tail) -> bool
     requires first { rule.now.states ≡ a.now.states }
     requires second { rule.now.states ≡ b.now.states }
@@ -62,7 +64,7 @@ pub fn agree_right(a: &Tail, b: &Tail) -> bool
     first_right(a, b, longer(a, b)).is_none()
 }
 
-/// Returns the length of the longer middle.
+/// Returns the length of the longer of the two middles.
 fn longer(a: &Tail, b: &Tail) -> usize
     ensures longer { result ≡ most_middle a.now.config b.now.config }
     ensures short { result ≤ 1024 }
@@ -71,7 +73,7 @@ fn longer(a: &Tail, b: &Tail) -> usize
 }
 
 /// Returns the first place at which two Tails differ, starting at `start`. It is enough to look at as many places
-/// after the longer middle as both right periods have letters together.
+/// after the longer middle as the two right periods have letters together.
 fn first_right(a: &Tail, b: &Tail, start: usize) -> Option<usize>
     requires { start ≤ most_middle a.now.config b.now.config }
     ensures none { IfNone result ((i : ℕ)
@@ -90,8 +92,8 @@ fn first_right(a: &Tail, b: &Tail, start: usize) -> Option<usize>
     None
 }
 
-/// Returns how far to the left of place -1 two Tails first differ. It is enough to look at as many places as both
-/// left periods have letters together.
+/// Returns the least i for which two Tails differ at the place -1 - i, or None if all their cells to the left of
+/// place 0 are equal. It is enough to look at as many places as the two left periods have letters together.
 fn first_left(a: &Tail, b: &Tail) -> Option<usize>
     ensures none { IfNone result ((i : ℕ)
         → left_cells a.now.config i ≡ left_cells b.now.config i) }
@@ -108,7 +110,7 @@ fn first_left(a: &Tail, b: &Tail) -> Option<usize>
     None
 }
 
-/// Returns whether two Tails have equal image cells at `count` places, starting at `start`.
+/// Returns whether the images of two Tails have equal cells at `count` places, starting at `start`.
 fn share_run(rule: &Rule, a: &Tail, b: &Tail, start: i64, count: usize) -> bool
     requires first { rule.now.states ≡ a.now.states }
     requires second { rule.now.states ≡ b.now.states }

@@ -1,4 +1,4 @@
-//! Why three parts don't form a Tail.
+//! Finds out why three parts don't form a Tail.
 ghost use Rattle.std.specs.Prelude.{◌≡◌};
 ghost use Rattle.std.specs.Result.{result_err};
 ghost use Rattle.tail_config.specs.TailValues.{config_of};
@@ -27,9 +27,9 @@ pub enum TailFault {
     LeftEmpty,
     /// The right period has no letter.
     RightEmpty,
-    /// This part has more than 1,024 letters. It is the first such part.
+    /// This part has more than 1,024 letters. It is the first such part from the left.
     Long(Part),
-    /// The letter at this place of this part isn't below k. It is the first such letter.
+    /// The letter at this place of this part isn't below k. It is the first such letter from the left.
     Letter(Part, usize),
 }
 
@@ -46,8 +46,8 @@ pub struct TailRefusal {
     pub right: Vec<u8>,
 }
 
-/// Checks whether three parts form a Tail over the letters below k. Returns their first fault otherwise, in the order
-/// of `TailFault` and, for the same fault, with the parts from left to right.
+/// Checks whether three parts form a Tail over the letters below k. Otherwise returns the first fault, in the order
+/// of `TailFault`. Of two faults of the same kind, the fault of the part further to the left comes first.
 pub fn check_parts(k: u8, left: &[u8], middle: &[u8], right: &[u8]) -> Result<(), TailFault>
     ensures { result_err result ≡ tail_fault k (config_of left.now middle.now right.now) }
 {
@@ -57,7 +57,8 @@ pub fn check_parts(k: u8, left: &[u8], middle: &[u8], right: &[u8]) -> Result<()
     check_letters(k, Part::Right, right)
 }
 
-/// Checks that both periods have a letter and that no part is too long.
+/// Checks that both periods have a letter and that no part has more than 1,024 letters. Returns the first fault
+/// otherwise, in the order of `TailFault`.
 pub fn check_lengths(left: &[u8], middle: &[u8], right: &[u8]) -> Result<(), TailFault>
     ensures { result_err result ≡ first_fault (length_faults left.now middle.now right.now) }
 {
@@ -72,7 +73,7 @@ pub fn check_lengths(left: &[u8], middle: &[u8], right: &[u8]) -> Result<(), Tai
     check_length(Part::Right, right)
 }
 
-/// Checks that a part isn't too long.
+/// Checks that a part has at most 1,024 letters. Returns `Long` otherwise.
 fn check_length(part: Part, letters: &[u8]) -> Result<(), TailFault>
     ensures { result_err result ≡ long_fault part letters.now }
 {
@@ -82,7 +83,7 @@ fn check_length(part: Part, letters: &[u8]) -> Result<(), TailFault>
     Ok(())
 }
 
-/// Checks that all letters of a part are below k. Returns the first other letter otherwise.
+/// Checks that all letters of a part are below k. Otherwise returns `Letter` for the first letter that isn't.
 fn check_letters(k: u8, part: Part, letters: &[u8]) -> Result<(), TailFault>
     ensures { result_err result ≡ letter_fault k part letters.now }
 {

@@ -1,4 +1,4 @@
-//! A Tail, its cells, its image cells and its mirror image.
+//! A Tail, its cells, the cells of its image, and its mirror image.
 ghost use Rattle.std.specs.Prelude.{◌≡◌, ◌^◌, ◌<◌, ◌≤◌, ◌↔◌, IfOk, IfErr, IsOk, length, unsigned_abs, ℤ, pos, ◌+ℤ◌, ◌-ℤ◌, ◌<ℤ◌};
 ghost use Rattle.std.specs.Option.{option_map};
 ghost use Rattle.std.specs.Result.{result_err};
@@ -16,13 +16,13 @@ use word_image::{MOST_WIDTH, Rule};
 /// each.
 #[derive(Debug, Drop)]
 pub struct Tail {
-    // From 2 to 16.
+    // The number of letters, from 2 to 16.
     k: u8,
-    // At least one letter. The last letter is at place -1.
+    // The left period, which has at least one letter. Its last letter is at place -1.
     left: Vec<u8>,
-    // The first letter is at place 0.
+    // The middle. Its first letter is at place 0.
     middle: Vec<u8>,
-    // At least one letter. The first letter is at the place where the middle ends.
+    // The right period, which has at least one letter. Its first letter is at the place where the middle ends.
     right: Vec<u8>,
 }
 
@@ -102,7 +102,7 @@ impl Tail {
         &self.right
     }
 
-    /// Returns the letter at a place.
+    /// Returns the letter at the place `i`.
     pub fn cell(&self, i: i64) -> u8
         ensures cell { result ≡ cell self.now.config i }
         ensures letter { result < self.now.states }
@@ -118,8 +118,8 @@ impl Tail {
         }
     }
 
-    /// Returns the letter of the image at a place. The rule has the same letters, and the absolute value of the place
-    /// is at most `2^61`.
+    /// Returns the letter of the image at the place `i`. The rule and the Tail have the same number of letters, and
+    /// the absolute value of the place is at most `2^61`.
     pub fn image_cell(&self, rule: &Rule, i: i64) -> u8
         requires place { unsigned_abs i ≤ 2 ^ 61 }
         requires one_k { rule.now.states ≡ self.now.states }
@@ -133,7 +133,7 @@ impl Tail {
         rule.apply(window)
     }
 
-    /// Writes the letters that begin at a place.
+    /// Writes the letters of the Tail at the places from `start` on into the row.
     fn write_cells(&self, start: i64, row: &mut [u8])
         requires { (start +ℤ pos (length row.old)) <ℤ pos (2 ^ 63) }
         ensures { row.new ≡ cells self.now.config start (length row.old) }
@@ -143,7 +143,8 @@ impl Tail {
         }
     }
 
-    /// Returns the reversed Tail. Its middle begins at place 0, too.
+    /// Returns the reversed Tail. Each of its periods is the reversed period of the other side, and its middle is the
+    /// reversed middle, which begins at place 0, too.
     pub fn mirror(self) -> Tail
         ensures states { result.states ≡ self.states }
         ensures config { result.config ≡ mirror_of self.config }
@@ -166,8 +167,8 @@ impl Tail {
     }
 }
 
-/// Law: if the middle has s + 1 letters, the mirrored rule's image cell at i of the reversed Tail is the rule's image
-/// cell at s - i of the Tail.
+/// Law: suppose that the middle of a Tail has s + 1 letters. The image of the reversed Tail under the mirrored rule
+/// has at place i the same letter as the image of the Tail under the rule at place s - i.
 pub fn mirrored_image_cell()
     ensures { (r : LocalRule) (t : TailConfig) (i : ℤ) → IsRule r → IsTail r.states t
         → image_cell (mirrored r) (mirror_of t) i

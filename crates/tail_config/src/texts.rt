@@ -1,4 +1,4 @@
-//! The texts of Tails: `L|M|R`, each part a row of hexadecimal digits.
+//! Reads and prints the texts of Tails: `L|M|R`, where each part is a row of hexadecimal digits.
 ghost use Rattle.std.specs.Prelude.{◌≡◌, ◌≤◌, ◌⊎◌, ◌↔◌, IsTrue, length, map, nat_le, position, alloc_error, IfOk, IfErr};
 ghost use Rattle.std.specs.Result.{result_err};
 ghost use Rattle.word_image.specs.LocalRules.{most_states};
@@ -18,16 +18,16 @@ use word_image::{letter, text_word, word_text};
 /// Why a text doesn't describe a Tail.
 #[derive(Clone, Copy, Debug, PartialEq, Eq)]
 pub enum TailTextFault {
-    /// The text isn't in the grammar. This is the length of its longest prefix with which some text of the grammar
-    /// begins.
+    /// The text doesn't have the form `L|M|R`. The number is the length of the text's longest prefix with which some
+    /// text of this form begins.
     Form(usize),
-    /// The parts don't form a Tail.
+    /// The text has the form `L|M|R`, but its parts don't form a Tail.
     Tail(TailFault),
     /// There is not enough memory.
     Memory(AllocError),
 }
 
-/// Three rows of hexadecimal digits.
+/// The digits of the three parts of a text.
 #[derive(Drop)]
 struct Parts<'a> {
     // The digits of the left period.
@@ -49,8 +49,8 @@ pub fn has_form(text: &[u8]) -> bool
     }
 }
 
-/// Reads a Tail over the letters below k, from 2 to 16. Returns the first fault of the text, in the order of
-/// `TailTextFault`.
+/// Reads a Tail over the letters below k, from 2 to 16. If the text doesn't describe a Tail, returns its first fault,
+/// in the order of `TailTextFault`. Returns `Memory` only if there is not enough memory.
 pub fn parse(alloc: Global, k: u8, text: &[u8]) -> Result<Tail, TailTextFault>
     requires least { 2 ≤ k }
     requires most { k ≤ most_states }
@@ -86,7 +86,8 @@ pub fn printed_text_is_read()
     ensures { (t : TailOver) → IsAcceptedTail t → IsTailText t.states (printed t.config) t.config }
 {}
 
-/// Splits a text of the grammar into its parts.
+/// Splits a text at its two bars into the digits of its three parts. Returns `Form` if the text doesn't have the form
+/// `L|M|R`.
 fn split(text: &[u8]) -> Result<Parts<'_>, TailTextFault>
     ensures parts { IfOk result (λ p. IsCut text.now p.left.now p.middle.now p.right.now) }
     ensures fault { IfErr result (λ f. IsFormAt f (IsFormFault HasForm text.now)) }
@@ -104,7 +105,8 @@ fn split(text: &[u8]) -> Result<Parts<'_>, TailTextFault>
     })
 }
 
-/// Returns the place of the bar after the digits that begin at a place.
+/// Returns the place of the bar after the digits that begin at `start`. Returns `Form` if no bar follows these
+/// digits.
 fn bar_after(text: &[u8], start: usize) -> Result<usize, TailTextFault>
     requires { start ≤ length text.now }
     ensures bar { IfOk result (IsBarAfter text.now start) }
@@ -118,7 +120,7 @@ fn bar_after(text: &[u8], start: usize) -> Result<usize, TailTextFault>
     }
 }
 
-/// Returns the place at which the digits that begin at a place end.
+/// Returns the place after the digits that begin at `start`.
 fn digits_end(text: &[u8], start: usize) -> usize
     requires { start ≤ length text.now }
     ensures { IsDigitsEnd text.now start result }
@@ -131,7 +133,7 @@ fn digits_end(text: &[u8], start: usize) -> usize
     text.len()
 }
 
-/// Checks whether rows of digits describe a Tail. Returns the first fault of the parts otherwise.
+/// Checks whether rows of digits are the parts of a Tail over the letters below k. Returns the first fault otherwise.
 fn check_digits(k: u8, parts: &Parts) -> Result<(), TailFault>
     ensures { let p = parts.now in
         result_err result ≡ tail_fault k (letters_of p.left.now p.middle.now p.right.now) }
@@ -142,7 +144,8 @@ fn check_digits(k: u8, parts: &Parts) -> Result<(), TailFault>
     check_row(k, Part::Right, parts.right)
 }
 
-/// Checks that all letters of a row of digits are below k. Returns the first other letter otherwise.
+/// Checks that all letters of a row of digits are below k. Otherwise returns `Letter` for the first letter that
+/// isn't.
 fn check_row(k: u8, part: Part, digits: &[u8]) -> Result<(), TailFault>
     ensures { result_err result ≡ letter_fault k part (map letter_at digits.now) }
 {
@@ -152,7 +155,7 @@ fn check_row(k: u8, part: Part, digits: &[u8]) -> Result<(), TailFault>
     }
 }
 
-/// Returns the place of the first digit whose letter isn't below k.
+/// Returns the place of the first digit whose letter isn't below k, or None if there is no such digit.
 fn first_foreign(k: u8, digits: &[u8]) -> Option<usize>
     ensures { result ≡ position (λ b. nat_le k (letter_at b)) digits.now }
 {
@@ -161,7 +164,7 @@ fn first_foreign(k: u8, digits: &[u8]) -> Option<usize>
         .position(|byte| letter(*byte).unwrap_or(0) >= k)
 }
 
-/// Makes the Tail that rows of digits describe.
+/// Makes the Tail that rows of digits describe. The only error is lack of memory.
 fn tail_of(alloc: Global, k: u8, parts: &Parts) -> Result<Tail, AllocError>
     requires least { 2 ≤ k }
     requires most { k ≤ most_states }

@@ -1,4 +1,5 @@
-//! The edges of the de Bruijn graph, stored as sets of nodes, and steps of sets along them.
+//! The edges of the de Bruijn graph, stored as sets of nodes, and steps from a set of nodes along the edges with one
+//! label.
 
 ghost use Rattle.std.specs.Prelude.{◌≡◌, ◌^◌, ◌<◌, ◌≤◌, ℕ, List, [], ◌∷◌, ◌++◌, length, slice_index, slice_index_or, IsBitSet};
 ghost use Rattle.word_image.specs.LocalRules.{IsRule, most_states, most_nodes};
@@ -13,8 +14,7 @@ use crate::side::Side;
 /// set says whether node v is in it. Entries past the last label or the last node are empty sets.
 pub type EdgeRows = [[u16; MOST_NODES]; MOST_STATES];
 
-/// Returns the edges of the rule's de Bruijn graph. On the right side they lead forward, and on the left side
-/// backward.
+/// Returns the edges of the rule's de Bruijn graph: on the right side as they are, and on the left side reversed.
 pub fn edge_rows(rule: &Rule, side: Side) -> EdgeRows
     ensures edges { AreEdgeRows side rule.now result }
     ensures tall { length result ≡ most_states }
@@ -33,9 +33,9 @@ pub fn edge_rows(rule: &Rule, side: Side) -> EdgeRows
     ends
 }
 
-/// Returns the nodes to which edges with the label `a` lead from the nodes of `set`. If `set` holds the last nodes of
-/// all preimages of a word, the result holds those of the word followed by `a`. `edges` are the rule's edges to the
-/// right.
+/// Returns the nodes to which edges with the label `a` lead from the nodes of `set`. Suppose that `set` has the last
+/// nodes of all preimages of a word. Then the result has the last nodes of all preimages of the word followed by `a`.
+/// `edges` are the rule's edges on the right side.
 pub fn step(rule: &Rule, edges: &EdgeRows, set: u16, a: u8) -> u16
     requires edges { AreEdgeRows Side.Right rule.now edges.now }
     requires letter { a < rule.now.states }
@@ -45,8 +45,7 @@ pub fn step(rule: &Rule, edges: &EdgeRows, set: u16, a: u8) -> u16
     after(rule.nodes(), &edges[usize::from(a)], set)
 }
 
-/// Returns the union of the rows of those nodes that are in `set`: row u is the set of nodes that are related to node
-/// u. There are at most 16 nodes.
+/// Returns the union of the sets `rows[u]` for all nodes u of `set`. There are `nodes` nodes, at most 16.
 pub fn after(nodes: u8, rows: &[u16; MOST_NODES], set: u16) -> u16
     requires few { nodes ≤ most_nodes }
     requires within { (u : ℕ) → u < nodes → slice_index rows.now u < 2 ^ nodes }

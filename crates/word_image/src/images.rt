@@ -1,4 +1,4 @@
-//! The image of a word.
+//! Computes the image of a word.
 ghost use Rattle.std.specs.Prelude.{◌≡◌, ◌+◌, ◌≤◌, length, alloc_error, IfOk, IfSome, IfNone, IsOkUnless};
 ghost use Rattle.word_image.specs.LocalRules.{IsRule, IsWord};
 ghost use Rattle.word_image.specs.Words.{image};
@@ -19,10 +19,10 @@ pub enum ImageFault {
 }
 
 /// Returns the image of a word: the letters that the rule gives for its windows of m letters, from left to right. The
-/// word has at least m - 1 letters, all below k, and the image has m - 1 letters fewer.
+/// word must have at least m - 1 letters, all below k. Its image has m - 1 letters fewer.
 ///
-/// Returns `Letter` or `Short` if the word breaks one of these conditions; a wrong letter is named first. Returns
-/// `Memory` only for a word that breaks neither.
+/// Returns `Letter` if some letter isn't below k, and otherwise `Short` if the word is too short. Returns `Memory`
+/// only if the word has an image.
 pub fn image(alloc: Global, rule: &Rule, word: &[u8]) -> Result<Vec<u8>, ImageFault>
     ensures image { IfOk result (λ v. v.items ≡ image rule.now word.now) }
     ensures refused { IfSome (image_fault rule.now word.now) (λ fault. result ≡ Err fault) }
@@ -37,7 +37,7 @@ pub fn image(alloc: Global, rule: &Rule, word: &[u8]) -> Result<Vec<u8>, ImageFa
     windows_image(alloc, rule, word).map_err(ImageFault::Memory)
 }
 
-/// Returns the letters that the rule gives for the windows of a word.
+/// Returns the image of a word that has at least m - 1 letters, all below k. The only error is lack of memory.
 fn windows_image(alloc: Global, rule: &Rule, word: &[u8]) -> Result<Vec<u8>, AllocError>
     requires rule { IsRule rule.now }
     requires word { IsWord rule.now.states word.now }

@@ -1,4 +1,4 @@
-//! Letters and words, and how they are written.
+//! Reads and writes letters and words as hexadecimal digits.
 ghost use Rattle.std.specs.Prelude.{◌≡◌, ◌<◌, map, IfOk};
 ghost use Rattle.word_image.specs.LocalRules.{IsWord, most_states};
 ghost use Rattle.word_image.specs.Digits.{lower_digit, hex_value, letter_at, word_text};
@@ -29,7 +29,8 @@ pub fn letter(byte: u8) -> Option<u8>
     }
 }
 
-/// Reads each hexadecimal digit as a letter. Any other byte counts as 0. The only error is lack of memory.
+/// Returns the letters of hexadecimal digits. A byte that isn't such a digit counts as the letter 0. The only error
+/// is lack of memory.
 pub fn text_word(alloc: Global, digits: &[u8]) -> Result<Vec<u8>, AllocError>
     ensures { IfOk result (λ word. word.items ≡ map letter_at digits.now) }
 {
@@ -39,7 +40,8 @@ pub fn text_word(alloc: Global, digits: &[u8]) -> Result<Vec<u8>, AllocError>
         .collect(alloc)
 }
 
-/// Writes each letter, which is below 16, as a lower-case hexadecimal digit. The only error is lack of memory.
+/// Returns the text of a word: one lower-case hexadecimal digit for each letter. The letters are below 16. The only
+/// error is lack of memory.
 pub fn word_text(alloc: Global, word: &[u8]) -> Result<Vec<u8>, AllocError>
     requires { IsWord most_states word.now }
     ensures { IfOk result (λ text. text.items ≡ word_text word.now) }

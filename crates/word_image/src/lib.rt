@@ -9,13 +9,27 @@
 //! 3.
 //!
 //! The image of a word consists of the letters that the rule gives for the word's windows, from left to right. Under
-//! rule 110 the image of 0 1 1 0 0 is 1 1 0. The image of 0 1 is empty.
+//! rule 110 the image of 0 1 1 0 0 is 1 1 0. The image of 0 1 is empty. A word is a preimage of its image.
 //!
-//! A node of the de Bruijn graph is a word of m - 1 letters. There are N = k^(m - 1) nodes, at most 16. `at` takes
-//! time O(1), `apply` O(m), and `image` takes time O(n m) and space O(n) for an image of n letters.
+//! A ring is a word that is read in a circle, so its first letter follows its last one. The image of a ring is a ring
+//! of the same length. Under rule 110 the image of the ring 0 0 1 is the ring 0 1 1.
 //!
-//! `Word`, `SetList`, `RankRow` and `FluxRow` are the lists that evidence consists of. `Weights` has a weight for
-//! each letter.
+//! A node of the de Bruijn graph is a word of m - 1 letters, and its number is the value of this word. There are
+//! N = k^(m - 1) nodes, at most 16. Each window is an edge from the node of its first m - 1 letters to the node of
+//! its last m - 1 letters. The label of the edge is the letter that the rule gives for the window. Under rule 110 the
+//! window 0 1 1 is an edge from node 1 to node 3, with the label 1. The last node of a word consists of the last
+//! m - 1 letters of the word. On the right side, walks follow edges forward. On the left side, they follow edges
+//! backward.
+//!
+//! A set of nodes is a number: its bit u is 1 if node u is in the set. The pair of the nodes u and v has the number
+//! u * N + v.
+//!
+//! `Word`, `SetList`, `RankRow` and `FluxRow` are the lists in the evidence for a verdict on a rule. The rank of a
+//! pair of nodes tells how long walks with equal labels can be that begin, or end, at the two nodes. A flux has a
+//! whole number for each node, and shows that a rule keeps the sum of every ring. `Weights` has a weight for each
+//! letter.
+//!
+//! `at` takes time O(1), `apply` O(m), and `image` takes time O(n m) and space O(n) for an image of n letters.
 #![tactic(auto)]
 
 mod edges;

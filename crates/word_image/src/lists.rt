@@ -1,4 +1,5 @@
-//! Lists that evidence consists of. In contracts each is the list of its items.
+//! Lists in the evidence for a verdict: words, sets of nodes, ranks and fluxes. In contracts each of them is the list
+//! of its items.
 ghost use Rattle.std.specs.Prelude.{◌≡◌};
 
 use std::marker::Model;
@@ -93,7 +94,7 @@ impl RankRow {
     }
 }
 
-/// The flux of each node, in the order of the nodes' values.
+/// The number that a flux gives to each node, in the order of the nodes.
 #[derive(Debug, Drop)]
 pub struct FluxRow {
     flows: Vec<i32>,
@@ -108,14 +109,14 @@ impl Model for FluxRow {
 }
 
 impl FluxRow {
-    /// Makes a row of these numbers.
+    /// Makes a row of these numbers, one for each node.
     pub fn of(items: Vec<i32>) -> Self
         ensures { result ≡ items.items }
     {
         FluxRow { flows: items }
     }
 
-    /// Returns the flux of each node, beginning with node 0.
+    /// Returns the numbers of the nodes in the flux, beginning with node 0.
     pub fn as_slice(&self) -> &[i32]
         ensures { result.now ≡ self.now }
     {

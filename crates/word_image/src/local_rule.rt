@@ -1,4 +1,4 @@
-//! A rule, and the letter that it gives for a window.
+//! A rule, and the letter that the rule gives for a window.
 ghost use Rattle.std.specs.Prelude.{◌≡◌, ℕ, ◌-◌, ◌^◌, ◌<◌, ◌≤◌, ◌↔◌, List, length, reverse, ℤ, nat_le, position, slice_index, IfOk, IfSome, IsOk, IsTrue};
 ghost use Rattle.std.specs.Cmp.Rules.{comparing};
 ghost use Rattle.std.proofs.Common.{rules};
@@ -26,7 +26,7 @@ pub const MOST_PAIRS: usize = 256;
 /// The greatest number of letters in a table. A rule of 16 states and width 2 has this many.
 pub const MOST_ENTRIES: usize = 256;
 
-/// The limit that a rule breaks.
+/// The limit that a rule breaks, so that it isn't accepted.
 #[derive(Clone, Copy, Debug, PartialEq, Eq)]
 pub enum RuleFault {
     /// The number of states isn't from 2 to 16.
@@ -35,7 +35,7 @@ pub enum RuleFault {
     Width,
     /// There are more than 16 words of m - 1 letters.
     Nodes,
-    /// A window reaches further than 16 cells to the left or to the right.
+    /// The window of a cell reaches further than 16 cells to the left or to the right of the cell.
     Offset,
     /// The table doesn't have one letter for each window.
     Length,
@@ -46,15 +46,15 @@ pub enum RuleFault {
 /// An accepted local rule. In contracts it is a `LocalRule` with its states, width, offset and table.
 #[derive(Clone, Copy, Debug)]
 pub struct Rule {
-    // How many states there are.
+    // The number of states, from 2 to 16.
     k: u8,
-    // How many letters a window has.
+    // The number of letters in a window, from 2 to 5.
     m: u8,
-    // Where the window of cell 0 begins.
+    // The place at which the window of cell 0 begins, from -16 to 15.
     o: i8,
-    // How many nodes there are: words of m - 1 letters.
+    // The number of nodes, which are the words of m - 1 letters.
     nodes: u8,
-    // The letters of the table, and zeros after them.
+    // The letters of the table, followed by zeros.
     entries: [u8; MOST_ENTRIES],
 }
 
@@ -107,8 +107,8 @@ impl Rule {
         })
     }
 
-    /// Makes the rule whose table has, at the value of each window, the letter that the function returns for that
-    /// value.
+    /// Makes the rule with k states, width m and offset o that gives for each window the letter `letter(value)`,
+    /// where `value` is the value of the window.
     pub fn by<F: Fn(u16) -> u8>(k: u8, m: u8, o: i8, letter: F) -> Rule
         requires rule { (r : LocalRule) × IsRuleBy k m o (F.post letter) r }
         requires callable { (v : ℕ) → v < k ^ m → F.pre letter v }
@@ -127,14 +127,14 @@ impl Rule {
         }
     }
 
-    /// States in its contract that the rule keeps all limits. It does nothing.
+    /// Does nothing. Its contract says that a rule keeps all limits in `RuleFault`.
     pub fn keeps_limits(&self)
         ensures { IsRule self.now }
     {
         let _ = &self.k;
     }
 
-    /// The number of states k, from 2 to 16.
+    /// Returns the number of states k, from 2 to 16.
     pub fn k(&self) -> u8
         ensures states { result ≡ self.now.states }
         ensures rule { IsRule self.now }
@@ -142,7 +142,7 @@ impl Rule {
         self.k
     }
 
-    /// The width m, from 2 to 5.
+    /// Returns the width m, from 2 to 5.
     pub fn m(&self) -> u8
         ensures width { result ≡ self.now.width }
         ensures rule { IsRule self.now }
@@ -150,7 +150,7 @@ impl Rule {
         self.m
     }
 
-    /// The offset o, from -16 to 15.
+    /// Returns the offset o, from -16 to 15.
     pub fn o(&self) -> i8
         ensures offset { result ≡ self.now.offset }
         ensures rule { IsRule self.now }
@@ -190,8 +190,8 @@ impl Rule {
         self.entries[usize::from(value)]
     }
 
-    /// Returns one letter of a node. The node is the value of a word of m - 1 letters, and `place` counts from its
-    /// left end, starting at 0.
+    /// Returns the letter at a place of a node, which is a word of m - 1 letters. `place` counts from the left end,
+    /// starting at 0.
     pub fn node_letter(&self, node: u8, place: u8) -> u8
         requires node { node < node_count self.now }
         requires place { place < self.now.width - 1 }
@@ -239,7 +239,7 @@ impl PartialEq for Rule {
 
     ghost laws = { Prim.search (comparing, rules) depth 9 };
 
-    /// Compares states, widths, offsets and tables.
+    /// Returns whether two rules have the same states, width, offset and table.
     fn eq(&self, other: &Rule) -> bool
         ensures parts { result ≡ same_rule self.now other.now }
         ensures same { IsTrue result ↔ (self.now ≡ other.now) }
@@ -262,7 +262,7 @@ fn in_memory(table: &[u8]) -> [u8; MOST_ENTRIES]
     entries
 }
 
-/// Returns the number of words of m - 1 letters. Some rule has k states and width m.
+/// Returns the number of words of m - 1 letters below k. It may be called only if some rule has k states and width m.
 fn node_count(k: u8, m: u8) -> u8
     requires { (o : ℤ) × IsShape k m o }
     ensures { result ≡ k ^ (m - 1) }
@@ -291,7 +291,8 @@ pub fn check_shape(k: u8, m: u8, o: i8) -> Result<(), RuleFault>
     Ok(())
 }
 
-/// Returns the first fault of a table, if any. Some rule has k states and width m.
+/// Checks whether a rule with k states and width m can have this table. Returns the first of `Length` and `Letter`
+/// that applies, if any. There are at most 256 windows.
 fn check_table(k: u8, m: u8, table: &[u8]) -> Result<(), RuleFault>
     requires { k ^ m ≤ most_windows }
     ensures { result_err result ≡ table_fault k m table.now }
@@ -305,7 +306,7 @@ fn check_table(k: u8, m: u8, table: &[u8]) -> Result<(), RuleFault>
     }
 }
 
-/// Returns the place of the first letter that isn't below k.
+/// Returns the place of the first letter of the word that isn't below k, if there is one.
 pub fn first_foreign(k: u8, word: &[u8]) -> Option<usize>
     ensures place { result ≡ position (λ a. nat_le k a) word.now }
     ensures within { IfSome result (λ i. i < length word.now) }
@@ -326,7 +327,8 @@ fn value_of(k: u8, window: &[u8]) -> u16
     value
 }
 
-/// Returns the value of the reversed window.
+/// Returns the value of the window that is read from right to left. `window` is the value of this window read from
+/// left to right.
 fn backwards(k: u8, m: u8, window: u16) -> u16
     requires states { 0 < k }
     requires fits { k ^ m ≤ most_windows }

@@ -1,4 +1,4 @@
-//! Pairs of nodes: their numbers, the steps between them, and the set of all nodes.
+//! Pairs of nodes: their numbers, the steps between pairs, and the set of all nodes.
 
 ghost use Rattle.std.specs.Prelude.{◌≡◌, ◌<◌, IfSome};
 ghost use Rattle.word_image.specs.LocalRules.{IsRule, node_count};
@@ -49,8 +49,9 @@ impl Rule {
         u16::from(first) * u16::from(self.nodes()) + u16::from(second)
     }
 
-    /// Follows the letter `a` from the first node of a pair and `b` from the second, forward on the right side and
-    /// backward on the left. Returns the pair that is reached, or None if the labels of the two edges differ.
+    /// Returns the pair that is reached from `pair` by one edge from each of its two nodes. The letter `a` chooses
+    /// the edge of the first node, and `b` the edge of the second. The edges are followed forward on the right side
+    /// and backward on the left. Returns None if the labels of the two edges differ.
     pub fn follow(&self, side: Side, pair: u16, a: u8, b: u8) -> Option<u16>
         requires pair { pair < pair_count self.now }
         requires first { a < self.now.states }

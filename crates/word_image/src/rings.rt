@@ -1,4 +1,4 @@
-//! The image of a ring, and its sum of weights.
+//! Computes the image of a ring, and tests whether a ring and its image have the same sum of weights.
 ghost use Rattle.std.specs.Prelude.{◌≡◌, ◌^◌, ◌<◌, ◌↔◌, length, pos, slice_index, alloc_error, IfOk, IfSome, IfNone, IsOkUnless, IsTrue};
 ghost use Rattle.std.specs.Int.{int_rem_euclid};
 ghost use Rattle.word_image.specs.LocalRules.{IsRule, local_map};
@@ -20,11 +20,12 @@ pub enum RingFault {
     Memory(AllocError),
 }
 
-/// Returns the image of a ring: a ring of the same length. Each letter is what the rule gives for the window of its
-/// place, which may go around the ring. The ring has at least one letter, and its letters are below k.
+/// Returns the image of a ring: a ring of the same length. It has at each place the letter that the rule gives for
+/// the window of this place. The window may go around the ring. The ring must have at least one letter, and all its
+/// letters must be below k.
 ///
-/// Returns `Letter` or `Empty` if the ring breaks one of these conditions; a wrong letter is named first. Returns
-/// `Memory` only for a ring that breaks neither.
+/// Returns `Letter` if some letter isn't below k, and `Empty` if the ring has no letter. Returns `Memory` only if the
+/// ring has an image.
 pub fn ring_image(alloc: Global, rule: &Rule, ring: &[u8]) -> Result<Vec<u8>, RingFault>
     ensures image { IfOk result (λ v. v.items ≡ ring_image rule.now ring.now) }
     ensures refused { IfSome (ring_fault rule.now ring.now) (λ fault. result ≡ Err fault) }
@@ -39,7 +40,7 @@ pub fn ring_image(alloc: Global, rule: &Rule, ring: &[u8]) -> Result<Vec<u8>, Ri
     new_letters(alloc, rule, ring).map_err(RingFault::Memory)
 }
 
-/// Returns the letters that the rule gives for the windows of all places of a ring.
+/// Returns the image of a ring that has at least one letter, all below k. The only error is lack of memory.
 fn new_letters(alloc: Global, rule: &Rule, ring: &[u8]) -> Result<Vec<u8>, AllocError>
     requires rule { IsRule rule.now }
     requires ring { IsRing rule.now.states ring.now }
@@ -54,7 +55,7 @@ fn new_letters(alloc: Global, rule: &Rule, ring: &[u8]) -> Result<Vec<u8>, Alloc
     Ok(letters)
 }
 
-/// Returns the place at which the window of place 0 begins, on a ring of `count` letters.
+/// Returns the place of a ring with `count` letters at which the window of place 0 begins.
 fn first_place(rule: &Rule, count: usize) -> usize
     requires some { 0 < count }
     requires fits { count < 2 ^ 63 }
@@ -63,7 +64,7 @@ fn first_place(rule: &Rule, count: usize) -> usize
     i64::from(rule.o()).rem_euclid(count as i64) as usize
 }
 
-/// Returns the letter that the rule gives for the window of m letters that begins at the place `first` of a ring.
+/// Returns the letter that the rule gives for the window of m letters that begins at place `first` of a ring.
 pub fn ring_apply(rule: &Rule, ring: &[u8], first: usize) -> u8
     requires ring { IsRing rule.now.states ring.now }
     requires first { first < length ring.now }
@@ -78,7 +79,7 @@ pub fn ring_apply(rule: &Rule, ring: &[u8], first: usize) -> u8
     rule.apply(&window[..width])
 }
 
-/// Returns whether the weights of a ring's letters have the same sum as the weights of its image's letters.
+/// Returns whether the letters of a ring have the same sum of weights as the letters of its image.
 pub fn keeps_sum(rule: &Rule, weights: &Weights, ring: &[u8]) -> bool
     requires letters { length weights.now ≡ rule.now.states }
     requires ring { IsRing rule.now.states ring.now }

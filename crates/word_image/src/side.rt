@@ -1,4 +1,4 @@
-//! The right and the left side of the line, and the ends of a window on each side.
+//! The two sides of the line of cells, and the ends of a window on each side.
 
 ghost use Rattle.std.specs.Prelude.{◌≡◌, ◌^◌, ◌<◌};
 ghost use Rattle.word_image.specs.LocalRules.{IsRule, node_count};
@@ -7,7 +7,8 @@ ghost use Rattle.word_image.specs.Ends.{window_with, end_node, end_letter};
 
 use crate::local_rule::Rule;
 
-/// A side of the line. On the right, edges of the de Bruijn graph are followed forward, and on the left backward.
+/// A side of the line of cells. Walks follow the edges of the de Bruijn graph forward on the right side, and backward
+/// on the left.
 #[derive(Clone, Copy, Debug, PartialEq, Eq)]
 pub enum Side {
     Right,
@@ -25,7 +26,8 @@ impl Side {
         }
     }
 
-    /// Returns the value of the window that consists of a node and one more letter on this side of it.
+    /// Returns the value of the window that consists of a node and one more letter. On the right side the letter
+    /// follows the node, and on the left side it precedes the node.
     pub fn window_with(self, rule: &Rule, node: u8, letter: u8) -> u16
         requires node { node < node_count rule.now }
         requires letter { letter < rule.now.states }

@@ -1,4 +1,4 @@
-//! The value of a word, and the letters of a value.
+//! Computes the value of a word, and the letters of a word from its value.
 ghost use Rattle.std.specs.Prelude.{◌≡◌, ℕ, ◌^◌, ◌<◌, ◌≤◌, List, slice_index};
 ghost use Rattle.word_image.specs.LocalRules.{value, word_of, most_windows};
 ghost use Rattle.word_image.specs.WordsBy.{IsWordBy};

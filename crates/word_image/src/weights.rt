@@ -1,4 +1,4 @@
-//! The weights of the letters.
+//! Weights: one number for each letter.
 ghost use Rattle.std.specs.Prelude.{◌≡◌, ◌<◌, ◌≤◌, ◌↔◌, length, slice_index, IfOk, IsOk, IsTrue};
 ghost use Rattle.word_image.specs.LocalRules.{most_states};
 ghost use Rattle.word_image.specs.Weights.{own_weights};
@@ -6,19 +6,20 @@ ghost use Rattle.word_image.specs.Weights.{own_weights};
 use crate::local_rule::MOST_STATES;
 use std::marker::Model;
 
-/// Why a list isn't accepted as weights.
+/// Why a list of numbers isn't accepted as weights.
 #[derive(Clone, Copy, Debug, PartialEq, Eq)]
 pub enum WeightFault {
     /// The list doesn't have one number for each letter.
     Length,
 }
 
-/// A weight from 0 to 255 for each of 2 to 16 letters. In contracts it is the list of the weights.
+/// A weight from 0 to 255 for each of the k letters. There are from 2 to 16 letters. In contracts it is the list of
+/// the weights.
 #[derive(Clone, Copy, Debug, PartialEq, Eq)]
 pub struct Weights {
-    // How many letters there are.
+    // The number of letters.
     k: u8,
-    // What each letter weighs, and zeros after the last one.
+    // The weight of each letter, followed by zeros.
     numbers: [u8; MOST_STATES],
 }
 
@@ -42,7 +43,8 @@ impl Model for Weights {
 }
 
 impl Weights {
-    /// Takes these weights if the list has one for each of the k letters, and returns `Length` otherwise.
+    /// Makes the weights that this list gives to the k letters. Returns `Length` if the list doesn't have exactly k
+    /// numbers. There are from 2 to 16 letters.
     pub fn new(k: u8, list: &[u8]) -> Result<Weights, WeightFault>
         requires least { 2 ≤ k }
         requires most { k ≤ most_states }
@@ -57,7 +59,7 @@ impl Weights {
         Ok(Weights { k, numbers })
     }
 
-    /// Returns the weights under which each letter weighs its own value.
+    /// Returns the weights under which each of the k letters weighs its own value.
     pub fn own(k: u8) -> Weights
         requires least { 2 ≤ k }
         requires most { k ≤ most_states }
