@@ -48,7 +48,7 @@ impl From<AllocError> for CallFault {
     }
 }
 
-/// The reply to words in one of the two forms, with its status.
+/// The reply to words, as printed lines or as JSON, with its status.
 #[derive(Drop)]
 pub struct FormedReply {
     /// The status of the reply.

@@ -9,7 +9,7 @@
 //! | `done` | `finding` with an object, or `verdicts` with the verdicts of an accepted certificate |
 //! | `notfit` | `cause` with an object whose key says why nothing fits |
 //! | `rulefault` | `operand` with its number, `fault` with its kind, and `place` if the fault has a place |
-//! | `refused` | `cause` with its kind, `at` with its numbers, and `because`, `side`, `key`, `fault` if they exist |
+//! | `refused` | `cause` with a word, `at` with numbers, and `because`, `side`, `key`, `fault` if they exist |
 //! | `toolong`, `usage` | no other key |
 //!
 //! A word is a string of hexadecimal digits. A rule is a string with its text. A configuration is an object with the

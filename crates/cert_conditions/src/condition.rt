@@ -6,8 +6,8 @@ use word_image::Side;
 /// evidence meets them.
 #[derive(Clone, Copy, Debug, PartialEq, Eq)]
 pub enum Condition {
-    /// If a number is claimed for a pair on this side, a lesser number is claimed for each pair to which a step on
-    /// this side leads from the pair.
+    /// If a number is claimed on this side for a pair, a lesser number is claimed on this side for each pair that a
+    /// step reaches from the pair. Steps go forward on the right and backward on the left.
     SideClaims(Side),
     /// The set of all nodes is a listed set.
     FullListed,

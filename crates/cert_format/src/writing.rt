@@ -47,7 +47,7 @@ pub fn certificate_value(alloc: Global, cert: &Cert) -> Result<Value, AllocError
     Ok(Value::from(members))
 }
 
-/// Returns the members of the JSON object of a certificate that each certificate has.
+/// Returns the members that the JSON object of each certificate has: all members except the weights.
 fn common_members(alloc: Global, cert: &Cert) -> Result<Map<String, Value>, AllocError>
     ensures { IfOk result (λ ms. members_view ms.entries ≡ members_before no_members cert.now) }
 {

@@ -4,8 +4,8 @@ use crate::parts::{InjectivePart, SidePart, SumPart, SurjectivePart};
 use std::marker::Model;
 use word_image::{RankRow, Rule, Weights};
 
-/// A certificate of a rule: its claims with their evidence. Each part is within its limits, but the claims need not
-/// be true.
+/// A certificate of a rule: its answers with their evidence. Each part is within its limits, but what the certificate
+/// says needn't be true.
 #[derive(Debug, Drop)]
 pub struct Cert {
     /// The version of the certificate. It says which conditions the certificate must meet.

@@ -30,7 +30,7 @@ IsUnread r z set = Walk (StepsInto r) set z 0
 abbrev pub IsUnreadSet : LocalRule → ℕ → Type 0
 IsUnreadSet r set = (z : List ℕ) × IsUnread r z set
 
--- `closure` is the closure of the set: the intersection of the unread sets that contain it
+-- `closure` is the closure of the set: the intersection of the unread sets that contain it (an unread set consists of the nodes from which some word isn't read)
 pub record IsClosure (r : LocalRule) (set closure : ℕ) : Type 0 where
   pub of : IsNodeSet r (λ u. (unread : ℕ) → IsUnreadSet r unread → IsWithin r set unread → IsBitSet unread u) closure
 

@@ -29,7 +29,7 @@ pub record AreListed (sets : List ℕ) (n : ℕ) (rows : List ℕ) : Type 0 wher
   pub within : (i : ℕ) → i < length sets → slice_index sets i < 2 ^ n
   pub marked : (x : ℕ) → x < 2 ^ n → (IsSetMarked rows x ↔ Contains sets x)
 
--- among the sets of n nodes, exactly those are marked that have a set of the list as a subset
+-- of the sets of nodes below n, exactly those are marked that contain a set of the list
 abbrev pub AreAbove : List ℕ → ℕ → List ℕ → Type 0
 AreAbove sets n rows = (x : ℕ) → x < 2 ^ n → (IsSetMarked rows x ↔ ((i : ℕ) × (i < length sets) × IsPart (slice_index sets i) x))
 

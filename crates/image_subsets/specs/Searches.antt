@@ -5,7 +5,7 @@ use Rattle.word_image.specs.Graphs.{full_set}
 use Rattle.word_image.specs.Edges.{IsStep}
 use Rattle.search_laws.specs.SearchQueues.{Place, IsSearch}
 
--- the way to place i of a tree: the first place has none, and each other place has the step from its parent
+-- `way` has the parent and the letter of place i of a tree, or nothing if i is the first place
 abbrev pub IsWay : List (Place ℕ) → ℕ → Option (ℕ × ℕ) → Type 0
 IsWay tree i way = MatchOption way (i ≡ 0) (λ (p, a). (x : Place ℕ) × (0 < i) × (slice_get tree i ≡ Some x) × (x.parent ≡ p) × (x.letter ≡ a))
 

@@ -42,6 +42,6 @@ pub record AreUndetermined (letter : ℕ → ℕ) (images : List ℕ) (x y : ℕ
   pub one_image : slice_index images x ≡ slice_index images y
   pub differ : letter x ≢ letter y
 
--- some word has the same image as the word x and another letter
+-- some word has the same image as the word of the value x, but a different letter at the place
 abbrev pub HasApart : (ℕ → ℕ) → List ℕ → ℕ → Type 0
 HasApart letter images x = (y : ℕ) × AreUndetermined letter images x y

@@ -10,7 +10,7 @@ use Rattle.rule_algebra.specs.Algebra.{recoloured}
 abbrev pub ShiftsImages : LocalRule → ℤ → LocalRule → Type 0
 ShiftsImages r by g = (t : TailConfig) (i : ℤ) → image_cell g t i ≡ image_cell r t (i +ℤ by)
 
--- the image of every renamed word is the renamed image
+-- under g, the image of every renamed word is the renamed image of the word under f
 abbrev pub RecoloursImages : List ℕ → LocalRule → LocalRule → Type 0
 RecoloursImages colours f g = (x : List ℕ) → IsWord f.states x → image g (recoloured colours x) ≡ recoloured colours (image f x)
 

@@ -37,7 +37,7 @@ split_of w v = (first_tail w v, second_tail w v)
 abbrev pub IsNoSplitAt : LocalRule → ℕ → Type 0
 IsNoSplitAt r t = (w v : List (ℕ × ℕ)) → ¬ IsSplitAt r t w v
 
--- no normal split has its period at a state below t
+-- in no normal split, the walk of the right periods begins at a state below t
 abbrev pub IsNoSplitBelow : LocalRule → ℕ → Type 0
 IsNoSplitBelow r t = (s : ℕ) → s < t → IsNoSplitAt r s
 
