@@ -1,4 +1,4 @@
--- The words that are read along edges from the nodes of a set, and the greatest set from which no other words are read. A word is read from a node if its letters are the labels of successive edges from this node.
+-- A word is read from a node if its letters are the labels of successive edges, the first of which begins at this node. A set of nodes is unread if it consists of the nodes from which some word isn't read. The closure of a set is the intersection of the unread sets that contain it.
 use Rattle.std.specs.Prelude.{◌≡◌, ℕ, ◌^◌, ◌<◌, ◌≤◌, List, length, slice_index, IsBitSet}
 use Rattle.word_image.specs.LocalRules.{LocalRule, node_count}
 use Rattle.word_image.specs.Graphs.{IsNodeSet}
@@ -6,7 +6,7 @@ use Rattle.word_image.specs.Edges.{IsEdge, IsStep}
 use Rattle.word_image.specs.declared.side.Side.TheVariants.{Right}
 use Rattle.search_laws.specs.Walks.{Walk}
 
--- every node of the first set is in the other set
+-- every node of the set `set` is in the set `other`
 abbrev pub IsWithin : LocalRule → ℕ → ℕ → Type 0
 IsWithin r set other = (u : ℕ) → u < node_count r → IsBitSet set u → IsBitSet other u
 
@@ -30,7 +30,7 @@ IsUnread r z set = Walk (StepsInto r) set z 0
 abbrev pub IsUnreadSet : LocalRule → ℕ → Type 0
 IsUnreadSet r set = (z : List ℕ) × IsUnread r z set
 
--- `closure` is the closure of the set: the intersection of the unread sets that contain it (an unread set consists of the nodes from which some word isn't read)
+-- `closure` is the closure of the set: the intersection of the unread sets that contain it
 pub record IsClosure (r : LocalRule) (set closure : ℕ) : Type 0 where
   pub of : IsNodeSet r (λ u. (unread : ℕ) → IsUnreadSet r unread → IsWithin r set unread → IsBitSet unread u) closure
 
@@ -40,11 +40,11 @@ pub record IsClosedStep (r : LocalRule) (set a after : ℕ) : Type 0 where
   pub step : IsStep r set a to
   pub closure : IsClosure r to after
 
--- the list has, for each set with a number from n on, its closure at this number
+-- for each set whose number is at least n, the list has the closure of the set at the place of this number
 pub record AreClosuresFrom (r : LocalRule) (n : ℕ) (closures : List ℕ) : Type 0 where
   pub long : length closures ≡ 2 ^ node_count r
   pub closure : (set : ℕ) → n ≤ set → set < 2 ^ node_count r → IsClosure r set (slice_index closures set)
 
--- the list has the closure of each set
+-- the list has the closure of each set, at the place of the number of the set
 abbrev pub AreClosures : LocalRule → List ℕ → Type 0
 AreClosures r = AreClosuresFrom r 0

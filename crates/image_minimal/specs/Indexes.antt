@@ -1,4 +1,4 @@
--- Lists of different sets, with an index by set.
+-- A list of different sets of nodes, and an index, which has the place of each set in the list. A set is a number, in which bit u says whether node u is in the set.
 use Rattle.std.specs.Prelude.{◌≡◌, ℕ, ◌<◌, ◌↔◌, ◌⊎◌, List, [], ◌∷◌, ◌++◌, length, slice_get, get_or, Option, Some, None, Contains}
 use Rattle.word_image.specs.LocalRules.{most_sets}
 
@@ -6,7 +6,7 @@ use Rattle.word_image.specs.LocalRules.{most_sets}
 abbrev pub IsPlaceOf : List ℕ → ℕ → Option ℕ → Type 0
 IsPlaceOf sets set place = (i : ℕ) → (place ≡ Some i) ↔ (slice_get sets i ≡ Some set)
 
--- the index stores the place of each set
+-- the index `places` has for each set its place in the list, or None if the set isn't in the list
 pub record IsExactIndex (sets : List ℕ) (places : List (Option ℕ)) : Type 0 where
   pub long : length places ≡ most_sets
   pub within : (i set : ℕ) → slice_get sets i ≡ Some set → set < most_sets

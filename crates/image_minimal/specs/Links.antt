@@ -19,7 +19,7 @@ link_places = map link_place
 abbrev pub HaveOneColour : ℕ → ℕ → List Link → ℕ → (ℕ → Bool) → Type 0
 HaveOneColour n k links e f = (i : ℕ) (x : Link) → slice_get links i ≡ Some x → filled k i (link_place x) ≤ e → f x.first ≡ f (n + x.second)
 
--- a step from one pair of sets to another, on the same letter under both rules
+-- on the letter a, a step under the rule r leads from the first set of the pair `from` to the first set of the pair `to`, and a step under the rule q leads from the second set of `from` to the second set of `to`
 abbrev pub LinkStep : LocalRule → LocalRule → ℕ × ℕ → ℕ → ℕ × ℕ → Type 0
 LinkStep r q from a to = IsStep r from.0 a to.0 × IsStep q from.1 a to.1
 
@@ -35,7 +35,7 @@ set_count r q = 2 ^ node_count r + 2 ^ node_count q
 abbrev pub most_links : LocalRule → LocalRule → ℕ
 most_links r q = total (range_with_len 0 (set_count r q)) + 1
 
--- A breadth-first search through linked sets of two rules, starting with all nodes on both sides, in which the first e edges have been followed. A pair that is already joined makes no link, each pair that was reached is empty on both sides or on neither, and the links join the sets of both rules into classes.
+-- A breadth-first search through pairs of sets, a set of r and a set of q, that starts with the two sets of all nodes and has followed the first e edges. A pair whose sets earlier links join makes no link. In each link both sets are empty or neither is. The list `parents` joins the sets of both rules into classes, as the links do.
 pub record IsLinkSearch (r q : LocalRule) (links : List Link) (parents : List ℕ) (e : ℕ) : Type 0 where
   pub fills : IsFilled (LinkStep r q) (HasChain r links) r.states (full_set r, full_set q) (link_places links) e
   pub even : (i : ℕ) (x : Link) → slice_get links i ≡ Some x → nat_eq x.first 0 ≡ nat_eq x.second 0
@@ -43,6 +43,6 @@ pub record IsLinkSearch (r q : LocalRule) (links : List Link) (parents : List �
   pub joined : (f : ℕ → Bool) → HaveOneColour (2 ^ node_count r) r.states links e f → AreColours parents f
   pub few : length links + total parents ≤ most_links r q
 
--- the word of the letters on the way from the first link to this one
+-- the word has the letters of the steps from the first link to the link at this place
 abbrev pub SpellsLink : List Link → ℕ → List ℕ → Type 0
 SpellsLink links = TreeSpells (link_places links)

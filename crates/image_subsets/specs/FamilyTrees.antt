@@ -1,11 +1,11 @@
--- The family of a rule is the list of its sets of last nodes of preimages. A tree has also, for each set of the family, the step by which the set is reached first.
+-- The last node of a preimage is its last m - 1 letters, if the rule has width m. Each word has a set: the last nodes of all its preimages. The family of a rule is the list of these sets. A tree also has the parent of each set: the place of an earlier set and the letter of a step from that set to this one.
 use Rattle.std.specs.Prelude.{◌≡◌, ℕ, ◌<◌, ◌≤◌, List, length, slice_index, slice_get, Option, Some, MatchOption}
 use Rattle.word_image.specs.LocalRules.{LocalRule, IsRule, most_sets}
 use Rattle.word_image.specs.Graphs.{full_set}
 use Rattle.word_image.specs.Edges.{IsStep}
 use Rattle.word_image.specs.Families.{IsFamily}
 
--- a family as a tree: the sets in their order, and for each set the place and the letter of a step that leads to it, if it has such a step
+-- a family as a tree: the sets in their order, and for each set its parent, which is the place of an earlier set and the letter of a step from there, or None
 pub record FamilyTree : Type 0 where
   pub sets : List ℕ
   pub parents : List (Option (ℕ × ℕ))
@@ -16,7 +16,7 @@ pub record IsTree (tree : FamilyTree) : Type 0 where
   pub one_each : length tree.parents ≡ length tree.sets
   pub earlier : (i : ℕ) (way : Option (ℕ × ℕ)) → slice_get tree.parents i ≡ Some way → MatchOption way (i ≡ 0) (λ (p, a). p < i)
 
--- p is the least place from which a step leads to the set at place i, and a is the least letter of such a step
+-- p comes before place i and is the least place from which a step leads to the set at place i, and a is the least letter on which a step leads from place p to this set
 pub record IsLeastParent (r : LocalRule) (sets : List ℕ) (i p a : ℕ) : Type 0 where
   pub earlier : p < i
   pub letter : a < r.states

@@ -1,14 +1,14 @@
--- A list of different sets of at most 16 nodes, and rows of marks, which mark the sets of the list.
+-- A list of different sets of at most 16 nodes, and rows of bits, which mark the sets of the list. A set is a number, in which bit u says whether node u is in the set.
 use Rattle.std.specs.Prelude.{◌≡◌, ◌≢◌, ◌↔◌, AllPairs, ℕ, ◌<◌, List, [], ◌∷◌, ◌++◌, length, slice_index, Contains, Bool, true, false}
 use Rattle.word_image.specs.LocalRules.{most_sets}
 use Rattle.image_subsets.specs.Marks.{IsSetMarked}
 
--- the set was new and was appended, or it was in the list and nothing changed
+-- if the result is true, the set wasn't in the old list and was appended; if it is false, the set was in the old list and the list is the same
 abbrev pub IsInserted : List ℕ → List ℕ → ℕ → Bool → Type 0
 IsInserted old new set true = (¬ Contains old set) × (new ≡ old ++ set ∷ [])
 IsInserted old new set false = Contains old set × (new ≡ old)
 
--- the sets of the list are all different, and exactly these sets are marked
+-- the sets of the list are all different, and the rows mark these sets and no others
 pub record AreMembers (sets rows : List ℕ) : Type 0 where
   pub long : length rows ≡ 1024
   pub below : (i : ℕ) → i < length sets → slice_index sets i < most_sets

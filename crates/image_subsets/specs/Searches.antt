@@ -1,4 +1,4 @@
--- A search through the sets of nodes that words reach from the set of all nodes, in which some edges have been followed. An edge is the step from a set on a letter.
+-- A breadth-first search through the sets of nodes that words reach from the set of all nodes. An edge is a step from a set on one letter. The search has followed some of the edges so far.
 use Rattle.std.specs.Prelude.{◌≡◌, ℕ, ◌-◌, ◌<◌, List, length, slice_get, Option, Some, MatchOption, Contains, Bool, true, false}
 use Rattle.word_image.specs.LocalRules.{LocalRule}
 use Rattle.word_image.specs.Graphs.{full_set}
@@ -19,7 +19,7 @@ pub record IsTreeSearch (r : LocalRule) (sets : List ℕ) (parents : List (Optio
 abbrev pub EndsEmpty : List ℕ → Type 0
 EndsEmpty sets = slice_get sets (length sets - 1) ≡ Some 0
 
--- the search stopped at the empty set, or it followed the first e edges and found no empty set
+-- if the result is true, the search stopped at the empty set, which is the last set of the list; if it is false, the search has followed the first e edges and has found no empty set
 abbrev pub IsExpanded : LocalRule → List ℕ → List (Option (ℕ × ℕ)) → ℕ → Bool → Type 0
 IsExpanded r sets parents e true = ((n : ℕ) × IsTreeSearch r sets parents n) × EndsEmpty sets
 IsExpanded r sets parents e false = IsTreeSearch r sets parents e × ¬ Contains sets 0

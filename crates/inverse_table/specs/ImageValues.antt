@@ -1,4 +1,4 @@
--- All words of one length in their order: the values of their images under a rule of width m, and their letters at one place.
+-- All words of one length, given by their values: the values of their images under a rule of width m, and their letters at one place. The list `images` has the value of the image of each word, and the function `letter` gives the letter of a word at this place.
 use Rattle.std.specs.Prelude.{◌≡◌, ◌≢◌, ℕ, ◌+◌, ◌-◌, ◌*◌, ◌/◌, ◌%◌, ◌^◌, ◌<◌, ◌⊎◌, List, length, slice_index, slice_range}
 use Rattle.word_image.specs.LocalRules.{LocalRule, IsWord, value}
 use Rattle.word_image.specs.Words.{image}
@@ -8,7 +8,7 @@ pub record AreImageValues (r : LocalRule) (n : ℕ) (images : List ℕ) : Type 0
   pub long : length images ≡ r.states ^ (n + (r.width - 1))
   pub each : (x : List ℕ) → IsWord r.states x → length x ≡ n + (r.width - 1) → slice_index images (value r.states x) ≡ value r.states (image r x)
 
--- the labels of the edges from a node, by letters
+-- the letters that the rule gives for the windows that begin with node u, by the last letter of the window
 abbrev pub labels_from : LocalRule → ℕ → List ℕ
 labels_from r u = slice_range r.table (u * r.states) (u * r.states + r.states)
 
@@ -22,11 +22,11 @@ IsLetterBack letter images count e a =
     ((word : ℕ) × (word < count) × (slice_index images word ≡ e) × (a ≡ letter word))
     ⊎ (((word : ℕ) → word < count → slice_index images word ≢ e) × (a ≡ 16))
 
--- the list has for each image the letter of one of the first `count` words with this image, or 16 if none of these words has it
+-- for each e, place e of the list has the letter of one of the first `count` words with the image e, or 16 if none of these words has the image e
 abbrev pub AreLettersBack : (ℕ → ℕ) → List ℕ → ℕ → List ℕ → Type 0
 AreLettersBack letter images count letters = (e : ℕ) → e < length letters → IsLetterBack letter images count e (slice_index letters e)
 
--- the list has the letter of each of the first `count` words at the place of its image
+-- for each of the first `count` words, the list has the letter of the word at the place of the value of the word's image
 abbrev pub AreReadBack : (ℕ → ℕ) → List ℕ → ℕ → List ℕ → Type 0
 AreReadBack letter images count letters = (word : ℕ) → word < count → slice_index letters (slice_index images word) ≡ letter word
 
@@ -35,7 +35,7 @@ pub record IsRead (letter : ℕ → ℕ) (images : List ℕ) (count : ℕ) (lett
   pub each : AreReadBack letter images count letters
   pub back : AreLettersBack letter images count letters
 
--- x and y are words with the same image and different letters
+-- x and y are the values of two words that have the same image and different letters at the place
 pub record AreUndetermined (letter : ℕ → ℕ) (images : List ℕ) (x y : ℕ) : Type 0 where
   pub first : x < length images
   pub second : y < length images

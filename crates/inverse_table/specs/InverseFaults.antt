@@ -1,4 +1,4 @@
--- The reasons why a window of a rule has no inverse map.
+-- The window (n, c) of a rule is determined if n letters of an image determine the letter at place c of each preimage. Then the window has an inverse map, which computes this letter. This file defines the reasons why a window has no inverse map.
 use Rattle.std.specs.Prelude.{◌≢◌, ℕ, ◌^◌, ◌<◌, ◌≤◌, List, slice_index}
 use Rattle.inverse_table.specs.MapLimits.{most_map_entries}
 use Rattle.word_image.specs.LocalRules.{LocalRule}

@@ -1,4 +1,4 @@
--- Properties of the inverse map of a determined window of a rule of width m, and the map as a rule.
+-- The inverse map of a determined window (n, c) of a rule of width m computes the letter at place c of a word from the n letters of its image. This file defines the properties of the map, and the map as a rule.
 use Rattle.std.specs.Prelude.{◌≡◌, ℕ, ◌+◌, ◌*◌, ◌/◌, List, length, map, max, slice_index, ◌==◌, if◌then◌else◌, ℤ, pos, ◌-◌, slice_range, ◌+ℤ◌}
 use Rattle.std.specs.List.{range_with_len}
 use Rattle.word_image.specs.LocalRules.{LocalRule, IsWord, local_map}
@@ -15,7 +15,7 @@ map_rule g = record {
   table = if g.width == 1 then map (λ v. slice_index g.table (v / g.states)) (range_with_len 0 (g.states * g.states)) else g.table;
 }
 
--- the letters that the map gives for the consecutive words of `width` letters of a word
+-- the image of a word under the map: the letters that the map gives for each `width` consecutive letters of the word
 abbrev pub map_image : WindowMap → List ℕ → List ℕ
 map_image g x = map (λ i. map_letter g (slice_range x i (i + g.width))) (range_with_len 0 (length x + 1 - g.width))
 
@@ -23,9 +23,9 @@ map_image g x = map (λ i. map_letter g (slice_range x i (i + g.width))) (range_
 pub record GivesBack (r : LocalRule) (n c : ℕ) (g : WindowMap) : Type 0 where
   -- the map computes each cell of a configuration from n cells of its image, starting at the offset
   pub cells : (t : TailConfig) → IsTail r.states t → (i : ℤ) → map_letter g (map (λ j. image_cell r t (i +ℤ g.offset +ℤ pos j)) (range_with_len 0 n)) ≡ cell t i
-  -- the map computes a letter of a word from the word's image
+  -- the map computes the letter of a word at place c from the image of the word
   pub back : (x : List ℕ) → IsWord r.states x → length x ≡ n + (r.width - 1) → map_letter g (image r x) ≡ slice_index x c
-  -- the rule undoes the map on words
+  -- the rule undoes the map: from the letters that the map computes for a word, the rule computes the letter of the word at place c
   pub forth : (x : List ℕ) → IsWord r.states x → length x ≡ n + (r.width - 1) → local_map r (map_image g x) ≡ slice_index x c
-  -- every word of n letters has a preimage, so no letter is 0 for lack of one
+  -- every word of n letters has a preimage, so each letter in the table of the map is the letter of some preimage
   pub onto : (w : List ℕ) → IsWord r.states w → length w ≡ n → (x : List ℕ) × IsPreimage r w x

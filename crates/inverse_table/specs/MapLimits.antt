@@ -9,7 +9,7 @@ use Rattle.word_image.specs.declared.local_rule.RuleFault.TheVariants.{Width, No
 abbrev pub most_map_entries : ℕ
 most_map_entries = 65536
 
--- the greatest number of letters of the image in a window for which a map can be computed: least windows have at most half as many
+-- the greatest number of letters of the image in a window whose map can be computed: the least determined windows have at most half as many
 abbrev pub longest_window : ℕ
 longest_window = 480
 
