@@ -1,4 +1,4 @@
--- Sets of marked pairs as rows of bits. A marked pair is a pair of nodes with a mark, which is 1 if the two walks to the pair have had different letters.
+-- Sets of marked pairs as rows of bits. A marked pair is a pair of nodes with a mark, which is 1 if the letters that led to the pair differed somewhere, and 0 if not.
 use Rattle.std.specs.Prelude.{◌≡◌, ℕ, ◌+◌, ◌*◌, ◌/◌, ◌%◌, ◌<◌, ◌↔◌, ◌⊎◌, List, slice_index, IsBitSet}
 use Rattle.word_image.specs.LocalRules.{LocalRule, node_count, most_nodes}
 use Rattle.least_walk.specs.declared.marks.PairParts.{PairParts}

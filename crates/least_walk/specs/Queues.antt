@@ -1,4 +1,4 @@
--- The marked pairs that a search has reached, as a breadth first queue. A marked pair is a pair of nodes with a mark. The parent of a place is the place from which it was reached.
+-- The marked pairs that a search has reached, as a breadth first queue. A marked pair is a pair of nodes with a mark, which is 1 if the letters that led to the pair differed somewhere. The parent of a place is the place from which it was reached. A search has a start and perhaps a goal, which are marked pairs.
 use Rattle.std.specs.Prelude.{◌≡◌, ◌≢◌, ℕ, ◌+◌, ◌*◌, ◌<◌, ◌≤◌, List, ◌++◌, map, reverse, slice_get, Some, IsBitSet}
 use Rattle.word_image.specs.LocalRules.{LocalRule, IsRule, most_states}
 use Rattle.word_image.specs.Graphs.{pair_count}
@@ -79,6 +79,6 @@ IsOldBut r queue rows place a letters =
 abbrev pub IsBackward : List Reached → Type 0
 IsBackward queue = (i : ℕ) (x : Reached) → 0 < i → slice_get queue i ≡ Some x → x.parent < i
 
--- the list has the steps from the start to this place, followed by the old steps in reverse order
+-- the list `steps` has the steps from the start to this place, followed by the steps of the list `old` in reverse order
 abbrev pub SpellsBefore : List Reached → ℕ → List ℕ → List ℕ → Type 0
 SpellsBefore queue place old steps = (w : List ℕ) × TreeSpells (places_of queue) place w × (steps ≡ w ++ reverse old)

@@ -1,4 +1,4 @@
--- The least walks from one marked pair to all others. A marked pair is a pair of nodes with a mark, 0 or 1.
+-- The least walks from one marked pair, the start, to all marked pairs. A marked pair is a pair of nodes with a mark, which is 1 if the letters that led to the pair differed somewhere, and 0 if not.
 use Rattle.std.specs.Prelude.{◌≡◌, ℕ, ◌<◌, ◌≤◌, List, length, slice_get, slice_index, Some, None}
 use Rattle.word_image.specs.MarkedPairs.{most_marked_pairs}
 use Rattle.word_image.specs.LocalRules.{LocalRule}
@@ -17,7 +17,7 @@ pub record AreApart (queue : List Reached) : Type 0 where
   pub below : (i : ℕ) (x : Reached) → slice_get queue i ≡ Some x → x.pair < most_marked_pairs
   pub apart : (i j : ℕ) (x y : Reached) → slice_get queue i ≡ Some x → slice_get queue j ≡ Some y → x.pair ≡ y.pair → i ≡ j
 
--- the list `places` has the place in the queue of each marked pair of the queue
+-- for each marked pair of the queue, the list `places` has its place in the queue at the number of the pair
 abbrev pub IsPairIndex : List Reached → List ℕ → Type 0
 IsPairIndex queue places = (i : ℕ) (x : Reached) → slice_get queue i ≡ Some x → slice_index places x.pair ≡ i
 

@@ -1,10 +1,10 @@
--- Rules that are made of rules: shifted, permuted, composed, widened and trimmed.
+-- Rules that are made of other rules: shifted, composed and widened rules, rules with renamed letters, and trimmed rules, from which ignored cells at the ends of the window are dropped. A list of colours gives each letter a new letter, its colour.
 use Rattle.std.specs.Prelude.{◌≡◌, ℕ, ◌+◌, ◌-◌, ◌^◌, ◌<◌, ◌≤◌, List, length, map, take, drop, slice_index, ℤ, pos, ◌+ℤ◌}
 use Rattle.word_image.specs.LocalRules.{LocalRule, IsWord, local_map}
 use Rattle.word_image.specs.Words.{image}
 use Rattle.tail_config.specs.Tails.{TailConfig, IsTail, image_cell}
 
--- each configuration has the same image under both rules
+-- each configuration has the same image under g as under r
 abbrev pub KeepsImages : LocalRule → LocalRule → Type 0
 KeepsImages r g = (t : TailConfig) (i : ℤ) → IsTail r.states t → image_cell g t i ≡ image_cell r t i
 
@@ -12,7 +12,7 @@ KeepsImages r g = (t : TailConfig) (i : ℤ) → IsTail r.states t → image_cel
 abbrev pub shifted : LocalRule → ℤ → LocalRule
 shifted r by = record { states = r.states; width = r.width; offset = r.offset +ℤ by; table = r.table }
 
--- the list is a permutation of the k letters
+-- the list `colours` is a permutation of the k letters
 pub record IsRecolouring (k : ℕ) (colours : List ℕ) : Type 0 where
   pub word : IsWord k colours
   pub long : length colours ≡ k
@@ -22,21 +22,21 @@ pub record IsRecolouring (k : ℕ) (colours : List ℕ) : Type 0 where
 abbrev pub recoloured : List ℕ → List ℕ → List ℕ
 recoloured colours w = map (slice_index colours) w
 
--- g is f with renamed letters: for each renamed window g gives the new name of the letter that f gives for the window
+-- g is f with renamed letters: for each window, the letter that g gives for the renamed window is the colour of the letter that f gives for the window
 pub record IsRecoloured (colours : List ℕ) (f g : LocalRule) : Type 0 where
   pub states : g.states ≡ f.states
   pub width : g.width ≡ f.width
   pub entries : length g.table ≡ f.states ^ f.width
   pub letters : (w : List ℕ) → IsWord f.states w → length w ≡ f.width → local_map g (recoloured colours w) ≡ slice_index colours (local_map f w)
 
--- g is the composition: the image of a word under g is the second rule's image of the first rule's image of the word
+-- g is the composition of two rules: the image of a word under g is the image under the second rule of the word's image under the first rule
 pub record IsComposed (first second g : LocalRule) : Type 0 where
   pub states : g.states ≡ first.states
   pub width : g.width ≡ first.width + second.width - 1
   pub offset : g.offset ≡ first.offset +ℤ second.offset
   pub images : (x : List ℕ) → IsWord first.states x → g.width ≤ length x + 1 → image g x ≡ image second (image first x)
 
--- g is r at width m: it has the same offset and the same images, so it ignores its last cells
+-- g is r widened to m cells: it has the offset of r and gives the same images, so it ignores its last cells
 pub record IsWidened (r : LocalRule) (m : ℕ) (g : LocalRule) : Type 0 where
   pub states : g.states ≡ r.states
   pub width : g.width ≡ m

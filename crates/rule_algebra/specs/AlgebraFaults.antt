@@ -8,23 +8,23 @@ use Rattle.rule_algebra.specs.declared.fault.AlgebraFault.TheVariants.{States, W
 abbrev pub offset_fault : ℕ → ℤ → Option AlgebraFault
 offset_fault m o = if int_lt o (negsuc 15) || int_lt (pos 16) (o +ℤ pos (m - 1)) then Some Offset else None
 
--- the first limit that a rule with k states, which are accepted, width m and this offset breaks, if there is one
+-- the first limit of accepted rules that a rule with width m and offset o breaks, if there is one; its number k of states is accepted
 abbrev pub limit_fault : ℕ → ℕ → ℤ → Option AlgebraFault
 limit_fault k m o =
     if nat_lt most_width m then Some Width
     else (if nat_lt most_nodes (k ^ (m - 1)) then Some Nodes
     else offset_fault m o)
 
--- the fault of shifting a rule by this number of cells, if there is one
+-- the reason why the rule can't be shifted by this number of cells, if there is one
 abbrev pub shift_fault : LocalRule → ℤ → Option AlgebraFault
 shift_fault r by = offset_fault r.width (r.offset +ℤ by)
 
--- the fault of composing two rules, if there is one
+-- the reason why two rules can't be composed, if there is one
 abbrev pub compose_fault : LocalRule → LocalRule → Option AlgebraFault
 compose_fault first second =
     if not (first.states == second.states) then Some States
     else limit_fault first.states (first.width + second.width - 1) (first.offset +ℤ second.offset)
 
--- the fault of widening a rule to m cells, if there is one
+-- the reason why the rule can't be widened to m cells, if there is one
 abbrev pub widen_fault : LocalRule → ℕ → Option AlgebraFault
 widen_fault r m = if nat_lt m r.width then Some Width else limit_fault r.states m r.offset

@@ -24,7 +24,7 @@ sum_of_products = refl
 product_of_sums : composed sum_mod_two both ≡ record { states = 2; width = 3; offset = pos 0; table = 0 ∷ 0 ∷ 1 ∷ 0 ∷ 0 ∷ 1 ∷ 0 ∷ 0 ∷ [] }
 product_of_sums = refl
 
--- the image of a word under the composition is the second rule's image of the first rule's image of the word
+-- the image of the word 1101 under the composition is the image under the second rule of its image under the first rule
 sum_of_products-image : image (composed both sum_mod_two) (1 ∷ 1 ∷ 0 ∷ 1 ∷ []) ≡ image sum_mod_two (image both (1 ∷ 1 ∷ 0 ∷ 1 ∷ []))
 sum_of_products-image = refl
 
@@ -36,7 +36,7 @@ widened-sum = refl
 without_first-204 : without_first rule204 ≡ record { states = 2; width = 2; offset = pos 0; table = 0 ∷ 0 ∷ 1 ∷ 1 ∷ [] }
 without_first-204 = refl
 
--- the word with each letter replaced by its colour
+-- the word 0021 with each letter replaced by its colour: 0 becomes 1, 1 becomes 2, and 2 becomes 0
 recoloured-word : recoloured (1 ∷ 2 ∷ 0 ∷ []) (0 ∷ 0 ∷ 2 ∷ 1 ∷ []) ≡ 1 ∷ 1 ∷ 0 ∷ 2 ∷ []
 recoloured-word = refl
 

@@ -1,4 +1,4 @@
--- Composed, widened and narrower rules by their tables.
+-- The tables of composed and widened rules, and of rules without the first cells of their window. A list of colours gives each letter a new letter, its colour.
 use Rattle.std.specs.Prelude.{◌≡◌, ℕ, ◌+◌, ◌-◌, ◌<◌, ◌≤◌, List, length, take, drop, slice_index, pos, ◌+ℤ◌}
 use Rattle.word_image.specs.LocalRules.{LocalRule, IsWord, local_map, node_count, most_states}
 use Rattle.word_image.specs.Words.{image}
@@ -23,7 +23,7 @@ widened r m = record {
   table = table_by r.states m (λ w. local_map r (take r.width w));
 }
 
--- the rule that is left if the first cell is always 0
+-- the rule r without the first cell of its window, if this cell is always 0
 abbrev pub without_first : LocalRule → LocalRule
 without_first r = record {
   states = r.states;
@@ -32,13 +32,13 @@ without_first r = record {
   table = take (node_count r) r.table;
 }
 
--- the list has each letter below n at the place of its colour, and any letters below k at the other places
+-- the list `letters` has 16 letters below k, and it has each letter below n at the place of the colour of this letter
 pub record AreOldLetters (k : ℕ) (colours : List ℕ) (n : ℕ) (letters : List ℕ) : Type 0 where
   pub long : length letters ≡ most_states
   pub word : IsWord k letters
   pub back : (a : ℕ) → a < n → slice_index letters (slice_index colours a) ≡ a
 
--- g gives for a window without its first n letters the letter that r gives for the window
+-- g is r without the first n cells: for each window, g gives for the window without its first n letters the letter that r gives for the window
 pub record IsRest (r : LocalRule) (n : ℕ) (g : LocalRule) : Type 0 where
   pub states : g.states ≡ r.states
   pub width : n + g.width ≡ r.width

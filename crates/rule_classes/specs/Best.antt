@@ -1,4 +1,4 @@
--- The least rule that a search has found so far, with its table.
+-- The least rule that a search has found so far, with its table. A colouring gives each letter a new letter, its colour. The rule that a colouring makes is a rule r with renamed letters, mirrored or not.
 use Rattle.std.specs.Prelude.{◌≡◌}
 use Rattle.word_image.specs.LocalRules.{LocalRule}
 use Rattle.word_image.specs.Storage.{padded}

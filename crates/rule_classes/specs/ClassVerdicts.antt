@@ -1,4 +1,4 @@
--- The verdicts that rules of the same class share.
+-- The verdicts that two rules of the same class share. The class of a rule has all rules that are the rule or its mirrored rule with renamed letters.
 use Rattle.std.specs.Prelude.{◌↔◌, Bool, IsTrue, IsFalse}
 use Rattle.word_image.specs.LocalRules.{LocalRule}
 use Rattle.word_image.specs.Words.{IsSurjective}

@@ -1,4 +1,4 @@
--- Colourings, which give each letter a new letter, its colour; the rules that colourings make; and the search for the least of these rules.
+-- Colourings, which give each letter a new letter, its colour; the rules that colourings make by renaming the letters of an old rule, mirrored or not; and the search for the least of these rules. While the search chooses the letters of the colours, the colours from `low` to `high` - 1 are free.
 use Rattle.std.specs.Prelude.{◌≡◌, ◌⊎◌, ℕ, ◌^◌, ◌<◌, ◌≤◌, List, length, reverse, slice_index, Bool, if◌then◌else◌, pos}
 use Rattle.word_image.specs.LocalRules.{LocalRule, value, word_of, local_map, wolfram_number}
 use Rattle.word_image.specs.declared.side.Side.{Side}
@@ -17,11 +17,11 @@ pub record AreInverse (k : ℕ) (colours letters : List ℕ) : Type 0 where
   pub back : (a : ℕ) → a < k → slice_index letters (slice_index colours a) ≡ a
   pub there : (a : ℕ) → a < k → slice_index colours (slice_index letters a) ≡ a
 
--- the colours and the letters of a colouring undo each other
+-- the list of colours and the list of letters of the colouring undo each other
 abbrev pub IsColouring : ℕ → Colouring → Type 0
 IsColouring k c = AreInverse k c.colours c.letters
 
--- the side of an old window on which the new window has its last letter
+-- the side of the old rule's window on which the last letter of the new rule's window is: the left if the rule is mirrored, and the right if not
 abbrev pub last_side : Bool → Side
 last_side mirror = if mirror then Left else Right
 
@@ -57,7 +57,7 @@ recoloured_number r c = wolfram_number (in_colours r c)
 abbrev pub IsChosen : ℕ → ℕ → ℕ → Type 0
 IsChosen low high colour = (colour < low) ⊎ (high ≤ colour)
 
--- d is a colouring that completes c: at the chosen colours it has the letters of c
+-- d is a colouring that completes c: it is mirrored if and only if c is, and at the chosen colours it has the letters of c
 pub record Completes (k : ℕ) (c : Colouring) (low high : ℕ) (d : Colouring) : Type 0 where
   pub colouring : IsColouring k d
   pub mirrored : d.mirrored ≡ c.mirrored
@@ -69,6 +69,6 @@ pub record IsLeastColouring (r : LocalRule) (c : Colouring) (low high : ℕ) (be
   pub one : (found ≡ before) ⊎ (Completes r.states c low high found × (recoloured_number r found < recoloured_number r before))
   pub least : (d : Colouring) → Completes r.states c low high d → recoloured_number r found ≤ recoloured_number r d
 
--- from the window with the value v on, every colouring that completes c makes a rule with the letters of the best rule
+-- for the windows with values from v on, every colouring that completes c makes a rule that gives the same letters as the rule that the best colouring makes
 pub record AgreeFrom (r : LocalRule) (c : Colouring) (low high : ℕ) (best : Colouring) (v : ℕ) : Type 0 where
   pub same : (d : Colouring) → Completes r.states c low high d → (u : ℕ) → v ≤ u → u < r.states ^ r.width → entry r d u ≡ entry r best u

@@ -3,7 +3,7 @@ use Rattle.std.specs.Prelude.{◌≡◌, ℕ, ◌+◌, ◌-◌, ◌*◌, ◌<◌
 use Rattle.word_image.specs.LocalRules.{LocalRule, IsWord}
 use Rattle.word_image.specs.Words.{image}
 
--- the second rule's image of the first rule's image of a word of n + 2 (m - 1) letters has n letters, and its letter j is letter j - 2 o of the word
+-- if the first rule maps a word of n + 2 (m - 1) letters to its image, and the second rule maps this image to a word, then the last word has n letters, and its letter j is letter j - 2 o of the first word
 abbrev pub IsUndone : LocalRule → LocalRule → Type 0
 IsUndone first second = (n : ℕ) (x : List ℕ) → IsWord first.states x → length x ≡ n + 2 * (first.width - 1)
     → (length (image second (image first x)) ≡ n)

@@ -1,4 +1,4 @@
--- Walks in the de Bruijn graph whose letters form a placed configuration, and the first of these walks.
+-- Walks in the de Bruijn graph whose letters form a placed configuration, which is a configuration whose middle begins at a given place. A walk along a word is a preimage of the word, and it leads from its first m - 1 letters to its last m - 1 letters, if the rule has width m.
 use Rattle.std.specs.Prelude.{◌≡◌, ℕ, ◌+◌, ◌-◌, ◌*◌, ◌^◌, ◌≤◌, List, length, drop, slice_index, pos, ◌-ℤ◌}
 use Rattle.std.specs.List.{repeat}
 use Rattle.word_image.specs.LocalRules.{LocalRule}
@@ -8,7 +8,7 @@ use Rattle.tail_config.specs.TailValues.{config_of}
 use Rattle.tail_preimage.specs.Walks.{IsWalk, HasWalk, Reaches, IsLeastWalkInto, before_last}
 use Rattle.tail_preimage.specs.Preimages.{PlacedConfig, Shape, stretch}
 
--- x is a walk along left periods from node v back to v, y a walk along the middle with some periods from v to w, and z a walk along right periods from w back to w
+-- the walks x, y and z have the shape s: x is a walk along left periods of t from node v back to v, y is a walk from v to w along left periods, the middle and right periods of t, and z is a walk along right periods of t from w back to w
 pub record AreLoopWalks (r : LocalRule) (t : TailConfig) (s : Shape) (v w : ℕ) (x y z : List ℕ) : Type 0 where
   pub back_some : 1 ≤ s.back
   pub on_some : 1 ≤ s.on
@@ -16,11 +16,11 @@ pub record AreLoopWalks (r : LocalRule) (t : TailConfig) (s : Shape) (v w : ℕ)
   pub middle : IsWalk r (stretch t s.before s.after) v w y
   pub right : IsWalk r (repeat s.on t.right) w w z
 
--- the placed configuration that three walks spell
+-- the placed configuration whose left period, middle and right period are the letters of the walks x, y and z without their last nodes
 abbrev pub placed_of : LocalRule → TailConfig → ℕ → List ℕ → List ℕ → List ℕ → PlacedConfig
 placed_of r t before x y z = record { at = r.offset -ℤ pos (before * length t.left); config = config_of (before_last r x) (before_last r y) (before_last r z) }
 
--- the first walks of a shape: those from the least possible node, each the first in dictionary order
+-- x, y and z are the first walks of the shape: v is the least node from which walks of this shape lead, and each of the three walks is the first possible one in dictionary order
 pub record AreFirstWalks (r : LocalRule) (t : TailConfig) (s : Shape) (v w : ℕ) (x y z : List ℕ) : Type 0 where
   pub back_some : 1 ≤ s.back
   pub on_some : 1 ≤ s.on
@@ -31,7 +31,7 @@ pub record AreFirstWalks (r : LocalRule) (t : TailConfig) (s : Shape) (v w : ℕ
   pub middle : IsLeastWalkInto r (stretch t s.before s.after) v turns w y
   pub right : IsLeastWalkInto r (repeat s.on t.right) w (2 ^ w) w z
 
--- set j of the list, for j up to n, has the nodes from which the last j letters of the word lead into the goal
+-- for each j from 0 to n, the set at place j of the list has the nodes from which some walk along the last j letters of the word w leads into the set `goal`
 pub record AreOpen (r : LocalRule) (w : List ℕ) (goal n : ℕ) (sets : List ℕ) : Type 0 where
   pub long : length sets ≡ n + 1
   pub each : (j : ℕ) → j ≤ n → IsNodeSet r (Reaches r (drop (length w - j) w) goal) (slice_index sets j)

@@ -1,4 +1,4 @@
--- The parts of a configuration as relations between nodes: a part relates two nodes if a walk whose labels spell the part leads from one to the other. This file also defines which shapes of walks are possible, and along how many periods no walk leads.
+-- Relations between nodes for the three parts of a configuration: a part relates two nodes if a walk whose labels spell the part leads between them. This file also defines which shapes of walks are possible, and along how many periods no walk leads. A shape has the numbers of left and right periods along which the walks lead.
 use Rattle.std.specs.Prelude.{◌≢◌, ℕ, ◌<◌, ◌≤◌, [], get_or}
 use Rattle.std.specs.declared.cmp.Ordering.TheVariants.{Greater}
 use Rattle.word_image.specs.LocalRules.{LocalRule, IsRule, node_count, most_nodes}
@@ -11,7 +11,7 @@ use Rattle.tail_preimage.specs.declared.periods.Periods.{Periods}
 use Rattle.tail_preimage.specs.declared.shapes.Parts.{Parts}
 use Rattle.tail_preimage.specs.declared.shapes.Spans.{Spans}
 
--- the stored relations of 0 to 16 periods are right: n periods relate the nodes between which n steps of the relation of one period lead
+-- for each n from 0 to 16, the stored relation of n periods is right: it relates u to v if n steps of the relation of one period lead from u to v
 pub record ArePeriods (r : LocalRule) (periods : Periods) : Type 0 where
   pub period : AreSets r periods.period
   pub powers : (n : ℕ) → n ≤ most_nodes → IsRelation r (Steps (HasBit periods.period) n) (get_or periods.powers n [])
@@ -29,7 +29,7 @@ pub record AreTailParts (r : LocalRule) (t : TailConfig) (parts : Parts) : Type 
 abbrev pub HaveParts : LocalRule → Parts → Type 0
 HaveParts r parts = (t : TailConfig) × AreTailParts r t parts
 
--- the middle leads from a node with the property `Before` to a node with the property `Behind`
+-- the relation of the middle relates some node with the property `Before` to some node with the property `Behind`
 abbrev pub Through : LocalRule → Parts → (ℕ → Type 0) → (ℕ → Type 0) → Type 0
 Through r parts Before Behind = (v : ℕ) × (w : ℕ) × (v < node_count r) × (w < node_count r) × Before v × HasBit parts.middle v w × Behind w
 
@@ -37,11 +37,11 @@ Through r parts Before Behind = (v : ℕ) × (w : ℕ) × (v < node_count r) × 
 abbrev pub PassesThrough : LocalRule → Parts → ℕ → ℕ → Type 0
 PassesThrough r parts b a = Through r parts (Open (HasBit parts.left.period) b) (Open (HasBit parts.right.period) a)
 
--- the shape with these numbers of periods
+-- the shape with the numbers of periods that the program has found
 abbrev pub shape_of : Spans → Shape
 shape_of s = record { before = s.before; back = s.back; after = s.after; on = s.on }
 
--- from node v left periods lead back to v, and other left periods, the middle and right periods lead on to a loop of right periods, all with the numbers of this shape
+-- walks of this shape start at node v: a walk along `back` left periods leads from v to v, and a walk along `before` left periods, the middle and `after` right periods leads from v to a node with a loop of `on` right periods
 abbrev pub Starts : LocalRule → Parts → Shape → ℕ → Type 0
 Starts r parts s v =
     Steps (HasBit parts.left.period) s.back v v
@@ -62,7 +62,7 @@ pub record IsFirstShape (r : LocalRule) (parts : Parts) (s : Shape) : Type 0 whe
   pub small : IsSmall s
   pub least : (u : Shape) → IsPossible r parts u → shape_cmp s u ≢ Greater
 
--- b and a are the least numbers of periods, at most 16, along which no walk leads: first b left periods before 16 right ones, then a right periods after b left ones
+-- no walk leads along b left periods, the middle and a right periods; b is the least number of left periods for which no walk leads along 16 right periods, a is the least number of right periods for this b, and both are at most 16
 pub record IsFirstGap (r : LocalRule) (parts : Parts) (b a : ℕ) : Type 0 where
   pub before_few : b ≤ most_nodes
   pub after_few : a ≤ most_nodes

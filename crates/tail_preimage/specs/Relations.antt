@@ -24,15 +24,15 @@ Open E n u = (v : ℕ) × Steps E n u v
 abbrev pub Rounds : (ℕ → ℕ → Type 0) → ℕ → ℕ → ℕ → Type 0
 Rounds E n on u = (v : ℕ) × Steps E n u v × Steps E on v v
 
--- n steps lead from u to a node with a loop of `on` steps, `on` is at least 1, and n + on is this sum
+-- for some n and some `on` of at least 1 whose sum is `sum`, n steps of the relation lead from u to a node with a loop of `on` steps
 abbrev pub SomeRounds : (ℕ → ℕ → Type 0) → ℕ → ℕ → Type 0
 SomeRounds E sum u = (n : ℕ) × (on : ℕ) × (n + on ≡ sum) × (1 ≤ on) × Rounds E n on u
 
--- some node with the property is in the set
+-- some node for which Holds is true is in the set
 abbrev pub Meets : LocalRule → (ℕ → Type 0) → ℕ → Type 0
 Meets r Holds set = (u : ℕ) × (u < node_count r) × Holds u × IsBitSet set u
 
--- n is the least number with the property
+-- n is the least number for which Holds is true
 pub record IsFirst (Holds : ℕ → Type 0) (n : ℕ) : Type 0 where
   pub holds : Holds n
   pub none : (i : ℕ) → i < n → ¬ Holds i
