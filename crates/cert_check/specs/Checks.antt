@@ -11,6 +11,6 @@ use Rattle.cert_conditions.specs.Breaches.{EachBelow, IsFirstBreach}
 abbrev pub IsChecked : Certificate → Condition → Result Unit Refusal → Type 0
 IsChecked c one result = MatchResult result (λ _. Holds c one) (IsBreach c one)
 
--- the first number below n for which P doesn't hold, or None if it holds for each
+-- the first number below n for which P doesn't hold, or None if P holds for each number below n
 abbrev pub FirstBreach : ℕ → (ℕ → Type 0) → Option ℕ → Type 0
 FirstBreach n P found = MatchOption found (EachBelow n P) (IsFirstBreach n P)

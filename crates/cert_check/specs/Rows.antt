@@ -4,7 +4,7 @@ use Rattle.std.specs.Int.{bit_not, w16}
 use Rattle.cert_values.specs.declared.cert_version.CertVersion.{CertVersion}
 use Rattle.cert_conditions.specs.Sets.{IsKept}
 
--- the set without this node, one of 16
+-- the set without the given node, which is one of 16 nodes
 abbrev pub without : ℕ → ℕ → ℕ
 without set node = bit_and set (bit_not w16 (1 * 2 ^ node % 2 ^ 16))
 
@@ -16,6 +16,6 @@ IsMarked rows s = IsBitSet (slice_index rows (s / 16)) (s % 16)
 abbrev pub AreMarked : List ℕ → List ℕ → Type 0
 AreMarked rows sets = (s : ℕ) → IsMarked rows s ↔ Contains sets s
 
--- among the sets up to the set of all nodes, the rows mark exactly those that meet the condition of the version on sets that a step reaches
+-- of the sets of nodes of the rule, the rows mark exactly those that may be reached by a step from a listed set: in version 1 the listed sets, and from version 2 on the sets that contain a listed set
 abbrev pub AreKept : CertVersion → ℕ → List ℕ → List ℕ → Type 0
 AreKept version full sets rows = (s : ℕ) → s ≤ full → (IsMarked rows s ↔ IsKept version sets s)

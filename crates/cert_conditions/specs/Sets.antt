@@ -16,10 +16,10 @@ IsKept One = Contains
 IsKept Two = HasPart
 IsKept Three = HasPart
 
--- the set that the letter a reaches from the given set meets the condition of the version
+-- the set that the letter a reaches from the given set meets the condition of this version on sets that a step reaches
 abbrev pub StepIsKept : CertVersion → LocalRule → List ℕ → ℕ → ℕ → Type 0
 StepIsKept version r sets set a = (after : ℕ) × IsStep r set a after × IsKept version sets after
 
--- the letters of a word lead step by step from one set of nodes to another
+-- the letters of the word lead from the first set of nodes to the second set, step by step
 abbrev pub LeadsTo : LocalRule → ℕ → List ℕ → ℕ → Type 0
 LeadsTo r = Walk (IsStep r)

@@ -15,7 +15,7 @@ abbrev steps_to : ℕ → ℕ → Config
 steps_to a b (pos i) = if i == 0 then a else (if i == 1 then b else 0)
 steps_to a b (negsuc i) = a
 
--- the image of zeros before a 2 and the image of ones before a 3 are equal to the left of place 1, and differ there
+-- the image of zeros before a 2 and the image of ones before a 3 are equal to the left of place 1, and differ at place 1
 
 image_of-zeros_2 : run (image_of parities (steps_to 0 2)) (negsuc 1) 5 ≡ 0 ∷ 0 ∷ 0 ∷ 1 ∷ 0 ∷ []
 image_of-zeros_2 = refl

@@ -1,4 +1,4 @@
--- Windows that differ only in the letter at their end on a side, and first pairs that are endless: walks with equal labels from their nodes, or to them, have any length.
+-- Two different windows with equal labels that differ only in their last letter have a first pair on the right: the nodes of their last m - 1 letters, if the rule has width m. A first pair is endless on the right if two walks with equal labels and of any length begin at its nodes. The left side is the mirror image: the windows differ only in their first letter, and the walks end at the nodes.
 use Rattle.std.specs.Prelude.{◌≡◌, ◌≢◌, ℕ, ◌^◌, ◌<◌, slice_index}
 use Rattle.word_image.specs.LocalRules.{LocalRule}
 use Rattle.word_image.specs.Graphs.{pair_of}
@@ -12,14 +12,14 @@ use Rattle.word_image.specs.Ends.{window_with, end_node}
 abbrev pub with_end : Side → LocalRule → ℕ → ℕ → ℕ
 with_end side r w a = window_with side r (end_node (other side) r w) a
 
--- two windows with equal labels that differ only in the letter at their end on this side
+-- the window w and the window with the letter a in place of the letter at its end on this side are different and have equal labels
 pub record AreFirst (side : Side) (r : LocalRule) (w a : ℕ) : Type 0 where
   pub window : w < r.states ^ r.width
   pub letter : a < r.states
   pub different : w ≢ with_end side r w a
   pub one_label : slice_index r.table w ≡ slice_index r.table (with_end side r w a)
 
--- the pair of the nodes at the ends of the window w and of w with the letter a at its end
+-- the pair of two nodes: the node at the end of the window w on this side, and the node at this end after the letter a has replaced the letter there
 abbrev pub end_pair : Side → LocalRule → ℕ → ℕ → ℕ
 end_pair side r w a = pair_of r (end_node side r w) (end_node side r (with_end side r w a))
 

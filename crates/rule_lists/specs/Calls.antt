@@ -5,22 +5,22 @@ use Rattle.rule_lists.specs.Ranks.{rank}
 use Rattle.rule_lists.specs.Listed.{IsListed, IsFirst, NoneIs}
 use Rattle.rule_lists.specs.declared.properties.Property.{Property}
 
--- the rule q has a greater rank than the last rule r; if there is no last rule, q may be any rule
+-- the rule q comes after the last rule: the table of q has a greater rank than the table of the last rule, or there is no last rule
 abbrev pub IsAfter : ℕ → List ℕ → Option LocalRule → LocalRule → Type 0
 IsAfter k order None q = ⊤
 IsAfter k order (Some r) q = rank k order r.table < rank k order q.table
 
--- each rule of the list is the first listed one after the rule before it, and no listed rule comes after the last rule of the list
+-- the list has all listed rules after the rule `last`: each of its rules is the first listed rule after the rule before it, and no listed rule comes after them
 abbrev pub AreAll : Property → ℕ → ℕ → List ℕ → List ℕ → Option LocalRule → List LocalRule → Type 0
 AreAll property k m begin order last [] = NoneIs property k m begin (IsAfter k order last)
 AreAll property k m begin order last (r ∷ rs) = IsFirst property k m begin order (IsAfter k order last) r × AreAll property k m begin order (Some r) rs
 
--- each rule of the list is the first listed one after the rule before it, and `last` is the last of these rules
+-- the list has listed rules from the rule `first` up to the rule `last`: each of its rules is the first listed rule after the rule before it, and `last` is the last of them, or `first` if the list is empty
 abbrev pub AreSoFar : Property → ℕ → ℕ → List ℕ → List ℕ → Option LocalRule → List LocalRule → Option LocalRule → Type 0
 AreSoFar property k m begin order first [] last = first ≡ last
 AreSoFar property k m begin order first (r ∷ rs) last = IsFirst property k m begin order (IsAfter k order first) r × AreSoFar property k m begin order (Some r) rs last
 
--- each rule has a greater rank than the rule before it, so no rule occurs twice
+-- the table of each rule of the list has a greater rank than the table of the rule before it, and the first rule comes after the rule `last`
 abbrev pub AreAscending : ℕ → List ℕ → Option LocalRule → List LocalRule → Type 0
 AreAscending k order last [] = ⊤
 AreAscending k order last (r ∷ rs) = IsAfter k order last r × AreAscending k order (Some r) rs

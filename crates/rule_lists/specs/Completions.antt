@@ -4,7 +4,7 @@ use Rattle.word_image.specs.LocalRules.{LocalRule, IsRule}
 use Rattle.word_image.specs.Words.{IsSurjective}
 use Rattle.rule_lists.specs.Tables.{HasLetters}
 
--- a rule with this number of states and this width that has each fixed letter
+-- s is an accepted rule of k states and width m that has each fixed letter
 pub record IsCompletion (k m : ℕ) (letters : List ℕ) (s : LocalRule) : Type 0 where
   pub rule : IsRule s
   pub states : s.states ≡ k

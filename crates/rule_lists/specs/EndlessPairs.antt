@@ -1,4 +1,4 @@
--- Pairs of nodes from which steps by fixed letters of a table lead on without end, forward on the right and backward on the left.
+-- Pairs of nodes from which steps by fixed letters of a table lead on without end, forward on the right and backward on the left. The list `letters` has a number for each window, and the number fixes a letter if it is below the number of states.
 use Rattle.std.specs.Prelude.{◌≡◌, ◌≢◌, ℕ, ◌^◌, ◌<◌, ◌⊎◌, List, slice_index}
 use Rattle.word_image.specs.LocalRules.{LocalRule, node_count}
 use Rattle.word_image.specs.Ends.{window_with}
@@ -7,7 +7,7 @@ use Rattle.word_image.specs.declared.side.Side.{Side}
 use Rattle.pair_laws.specs.FirstWindows.{with_end, end_pair}
 use Rattle.word_image.specs.declared.side.Side.TheVariants.{Right, Left}
 
--- two letters lead from pair p to pair q, along two windows with equal fixed letters; of the rule r only the shape matters
+-- two letters a and b lead from pair p to pair q along two windows that have the same fixed letter; of the rule r only the number of states and the width matter
 pub record IsFixedStep (r : LocalRule) (letters : List ℕ) (p q : ℕ) : Type 0 where
   pub a : ℕ
   pub b : ℕ
@@ -23,11 +23,11 @@ abbrev pub FixedLeadsOn : Side → LocalRule → List ℕ → ℕ → ℕ → Ty
 FixedLeadsOn Right r letters p q = IsFixedStep r letters p q
 FixedLeadsOn Left r letters p q = IsFixedStep r letters q p
 
--- each pair of the set has two equal nodes, or leads on to a pair of the set
+-- each pair of the set has two equal nodes, or a step by fixed letters leads from it on this side to a pair of the set
 abbrev pub AreEndlessOn : Side → LocalRule → List ℕ → (ℕ → Type 0) → Type 0
 AreEndlessOn side r letters Set = (p : ℕ) → Set p → (p < pair_count r) × ((first_of r p ≡ second_of r p) ⊎ ((q : ℕ) × FixedLeadsOn side r letters p q × Set q))
 
--- two windows that differ only in the letter at their end on this side have equal fixed letters, and the nodes at their ends are a pair of the set
+-- the window w and the window with the letter a in place of the letter at its end on this side are different, they have the same fixed letter, and the pair of the nodes at their ends on this side is in the set
 pub record IsFixedEndless (side : Side) (r : LocalRule) (letters : List ℕ) (Set : ℕ → Type 0) (w a : ℕ) : Type 0 where
   pub window : w < r.states ^ r.width
   pub letter : a < r.states
@@ -37,7 +37,7 @@ pub record IsFixedEndless (side : Side) (r : LocalRule) (letters : List ℕ) (Se
   pub inside : with_end side r w a < r.states ^ r.width
   pub endless : Set (end_pair side r w a)
 
--- two different letters lead from one node to the two nodes of pair p, along two windows with equal fixed letters
+-- two different letters lead from one node to the two nodes of pair p, along two windows that have the same fixed letter
 pub record IsFixedFirst (r : LocalRule) (letters : List ℕ) (p : ℕ) : Type 0 where
   pub node : ℕ
   pub a : ℕ

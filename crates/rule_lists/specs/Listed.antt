@@ -6,7 +6,7 @@ use Rattle.rule_lists.specs.Ranks.{rank}
 use Rattle.rule_lists.specs.Tables.{IsTable, HasLetters, IsPast, IsFurther}
 use Rattle.rule_lists.specs.declared.properties.Property.{Property}
 
--- the rule with the same table at another offset
+-- the rule with the states, the width and the table of r at the offset o
 abbrev pub at_offset : LocalRule → ℤ → LocalRule
 at_offset r o = record { states = r.states; width = r.width; offset = o; table = r.table }
 
@@ -17,7 +17,7 @@ pub record IsOfShape (k m : ℕ) (r : LocalRule) : Type 0 where
   pub width : r.width ≡ m
   pub offset : r.offset ≡ pos 0
 
--- a rule of the shape that has the property and each fixed letter
+-- r is listed: it has k states, width m and offset 0, the property, and each fixed letter
 pub record IsListed (property : Property) (k m : ℕ) (begin : List ℕ) (r : LocalRule) : Type 0 where
   pub shape : IsOfShape k m r
   pub has : Has property r
@@ -33,21 +33,21 @@ pub record IsFirst (property : Property) (k m : ℕ) (begin order : List ℕ) (F
 abbrev pub NoneIs : Property → ℕ → ℕ → List ℕ → (LocalRule → Type 0) → Type 0
 NoneIs property k m begin From = (q : LocalRule) → IsListed property k m begin q → ¬ From q
 
--- no rule with these letters at the first n windows and all fixed letters has the property
+-- no rule of k states and width m that has the letters of the table at the first n windows of the order and each fixed letter has the property
 abbrev pub Forbids : Property → ℕ → ℕ → List ℕ → List ℕ → List ℕ → ℕ → Type 0
 Forbids property k m begin order table n = (q : LocalRule) → IsOfShape k m q → HasLetters k (k ^ m) begin q.table → ((i : ℕ) → i < n → slice_index q.table (slice_index order i) ≡ slice_index table (slice_index order i)) → ¬ Has property q
 
--- the letter at window v is known to be a: the table has it there and v is one of the first n windows of the order, or it is the fixed letter
+-- the letter at window v is known to be a: v is one of the first n windows of the order and the table has a at v, or a is the number of `begin` at v
 abbrev pub IsStanding : List ℕ → List ℕ → List ℕ → ℕ → ℕ → ℕ → Type 0
 IsStanding begin order table n v a = ((i : ℕ) × (i < n) × (slice_index order i ≡ v) × (a ≡ slice_index table v)) ⊎ (a ≡ slice_index begin v)
 
--- the letters of the table are known at all windows, and r is the rule with these letters and is listed
+-- the letters of the table are known at all windows, and r is a listed rule with these letters
 pub record IsFilled (property : Property) (k m : ℕ) (begin table : List ℕ) (n : ℕ) (r : LocalRule) : Type 0 where
   pub full : n ≡ k ^ m
   pub listed : IsListed property k m begin r
   pub letters : (v : ℕ) → v < k ^ m → slice_index r.table v ≡ slice_index table v
 
--- the search went on from n known letters of the old table to the known letters of the new one, and the same listed rules are still to come
+-- the search went on from n known letters of the table `old` to `next` known letters of the table `new`, and the same listed rules are still to come; if `next` is None, none are
 pub record IsOn (property : Property) (k m : ℕ) (begin order old : List ℕ) (n : ℕ) (new : List ℕ) (next : Option ℕ) : Type 0 where
   pub table : IsTable k (k ^ m) new
   pub within : IfSome next (λ i. i ≤ k ^ m)

@@ -1,4 +1,4 @@
--- The rules that a search returns, call by call. A search has a question: a shape, a property, an order of the windows and fixed letters.
+-- The rules that a search returns, call by call. A search has a question: a shape, a property, an order of the windows and fixed letters. A rule is listed if it has the shape, the property and the fixed letters.
 use Rattle.std.specs.Prelude.{◌≡◌, ℕ, ◌+◌, ◌-◌, ◌^◌, List, Option, Some, None, IfSome, MatchOption}
 use Rattle.word_image.specs.LocalRules.{LocalRule}
 use Rattle.rule_lists.specs.Ranks.{IsOrder, rank}
@@ -20,7 +20,7 @@ IsOrdered a = IsOrder (size_of a) a.order.now
 abbrev pub AreEntries : Asked → List ℕ → Type 0
 AreEntries a entries = IsTable a.shape.now.states (size_of a) entries
 
--- no rule with these letters at the first n windows and all fixed letters has the property
+-- no rule of the shape that has these letters at the first n windows of the order and each fixed letter has the property
 abbrev pub AreForbidden : Asked → List ℕ → ℕ → Type 0
 AreForbidden a entries n = Forbids a.property a.shape.now.states a.shape.now.width a.begin.now a.order.now entries n
 
@@ -31,7 +31,7 @@ IsFirstListed a From next =
     (NoneIs a.property a.shape.now.states a.shape.now.width a.begin.now From)
     (IsFirst a.property a.shape.now.states a.shape.now.width a.begin.now a.order.now From)
 
--- the result is the first listed rule after the last one, or None if there is none
+-- the result is the first listed rule after the last rule, or the first of all if there is no last rule; it is None if there is no such rule
 abbrev pub IsNextListed : Asked → Option LocalRule → Option LocalRule → Type 0
 IsNextListed a last next = IsFirstListed a (IsAfter a.shape.now.states a.order.now last) next
 
@@ -40,7 +40,7 @@ pub record HasShape (a : Asked) (r : LocalRule) : Type 0 where
   pub states : r.states ≡ a.shape.now.states
   pub width : r.width ≡ a.shape.now.width
 
--- the search has this question, and continues after this rule, or is at its beginning if there is no rule
+-- the search has this question and continues after the last rule, or it is at its beginning if there is no last rule
 abbrev pub IsBehind : Asked → Option LocalRule → Search → Type 0
 IsBehind a last s = (s.asked ≡ a) × (s.last ≡ last)
 
@@ -49,7 +49,7 @@ pub record CanGoOn (s : Search) : Type 0 where
   pub ordered : IsOrdered s.asked
   pub fits : IfSome s.last (HasShape s.asked)
 
--- a call returned the next listed rule, and the search continues after it; if none is left, the search stays as it was
+-- a call of the search s returned the next listed rule, and the search t continues after this rule; if no listed rule is left, t continues where s does
 pub record GivesNext (s : Search) (next : Option LocalRule) (t : Search) : Type 0 where
   pub asked : t.asked ≡ s.asked
   pub listed : IsNextListed s.asked s.last next

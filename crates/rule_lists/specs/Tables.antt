@@ -10,12 +10,12 @@ IsTable k size table = (v : ℕ) → v < size → slice_index table v < k
 abbrev pub HasLetters : ℕ → ℕ → List ℕ → List ℕ → Type 0
 HasLetters k size letters table = (v : ℕ) → v < size → slice_index letters v < k → slice_index table v ≡ slice_index letters v
 
--- t is still to come: the letters of t at the first n windows have at least the rank of the letters of the table there; if there is no n, no t is still to come
+-- the table t is still to come: its letters at the first n windows have at least the rank of the letters of `table` there; if the number n is None, no table is still to come
 abbrev pub IsPast : ℕ → List ℕ → List ℕ → Option ℕ → List ℕ → Type 0
 IsPast k order table None t = ⊥
 IsPast k order table (Some n) t = rank_of_first k order table n ≤ rank_of_first k order t n
 
--- the least rank of all tables that have this table's letters at the first n windows
+-- the least rank of all tables that have the letters of the table `table` at the first n windows
 abbrev pub least_rank : ℕ → ℕ → List ℕ → List ℕ → ℕ → ℕ
 least_rank k size order table n = rank_of_first k order table n * k ^ (size - n)
 

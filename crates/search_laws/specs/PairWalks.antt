@@ -13,18 +13,18 @@ LetterPairStep follow s p t = follow s p.0 p.1 ≡ Some t
 abbrev pub ArePairs : ℕ → List (ℕ × ℕ) → Type 0
 ArePairs n = All (λ p. (p.0 < n) × (p.1 < n))
 
--- these pairs of letters below k lead from the start to the state t
+-- the pairs of letters in the list w, all below k, lead from the start to the state t
 pub record PairWalk (follow : ℕ → ℕ → ℕ → Option ℕ) (k start : ℕ) (w : List (ℕ × ℕ)) (t : ℕ) : Type 0 where
   pub steps : Walk (LetterPairStep follow) start w t
   pub letters : ArePairs k w
 
--- the least walk of at least one step to the state t: the shortest, and among those the first in dictionary order
+-- w is the least walk of at least one step to the state t: the shortest, and among the shortest walks the first in dictionary order
 pub record IsLeastWalk (follow : ℕ → ℕ → ℕ → Option ℕ) (k start t : ℕ) (w : List (ℕ × ℕ)) : Type 0 where
   pub some : 0 < length w
   pub walk : PairWalk follow k start w t
   pub least : (v : List (ℕ × ℕ)) → 0 < length v → PairWalk follow k start v t → pairs_cmp w v ≢ Greater
 
--- the least walk to the state t, which may have no steps
+-- w is the least walk to the state t: the shortest, which may have no steps, and among the shortest walks the first in dictionary order
 pub record IsLeastWalkTo (follow : ℕ → ℕ → ℕ → Option ℕ) (k start t : ℕ) (w : List (ℕ × ℕ)) : Type 0 where
   pub walk : PairWalk follow k start w t
   pub least : (v : List (ℕ × ℕ)) → PairWalk follow k start v t → pairs_cmp w v ≢ Greater

@@ -2,7 +2,7 @@
 use Rattle.std.specs.Prelude.{◌≡◌, ℕ, List, [], ◌∷◌}
 use Rattle.word_image.specs.LocalRules.{IsWord}
 
--- the letters lead from one state to the other, step by step
+-- the letters of the word lead from the state s to the state t, step by step
 abbrev pub Walk : {S L : Type 0} → (S → L → S → Type 0) → S → List L → S → Type 0
 Walk Step s [] t = s ≡ t
 Walk {S} Step s (a ∷ w) t = (u : S) × Step s a u × Walk Step u w t

@@ -1,4 +1,4 @@
--- Placed configurations that a rule of width m maps to a given one: their shapes and their order, the words that show that there is none, and the right answer.
+-- Placed configurations that a rule of width m maps to a given configuration t: their shapes and their order, and the words that show that no placed configuration maps to t.
 use Rattle.std.specs.Prelude.{◌≡◌, ◌≢◌, ℕ, ◌+◌, ◌*◌, ◌-◌, ◌≤◌, List, ◌++◌, length, map, ℤ, pos, ◌+ℤ◌, ◌-ℤ◌}
 use Rattle.std.specs.List.{range_with_len, repeat}
 use Rattle.std.specs.Ordering.{ordering_then, nat_cmp}
@@ -27,14 +27,14 @@ pub record MapsTo (r : LocalRule) (p : PlacedConfig) (t : TailConfig) : Type 0 w
   pub config : IsTail r.states p.config
   pub cells : (i : ℤ) → local_map r (placed_cells p (i +ℤ r.offset) r.width) ≡ cell t i
 
--- how many left and right periods of t the parts of a placed configuration span: `before` and `after` are those of its middle, `back` and `on` those of its own periods
+-- how many left and right periods of t the parts of a placed configuration span: `back` left periods in its left period, `before` left periods and `after` right periods in its middle, and `on` right periods in its right period
 pub record Shape : Type 0 where
   pub before : ℕ
   pub back : ℕ
   pub after : ℕ
   pub on : ℕ
 
--- the placed configuration has this shape: its parts are as long as these periods of t, its middle begins where the first of them begins, moved by the offset of the rule, and its left period leads back to the m - 1 cells at the beginning of the middle
+-- the placed configuration p has the shape s: its parts span as many periods of t as s says, its middle begins at the cell that the windows of these periods begin at, and the m - 1 cells at the beginning of its middle are repeated one left period earlier
 pub record HasShape (r : LocalRule) (t : TailConfig) (s : Shape) (p : PlacedConfig) : Type 0 where
   pub back_some : 1 ≤ s.back
   pub on_some : 1 ≤ s.on
@@ -67,11 +67,11 @@ pub record IsLeastPreimage (r : LocalRule) (t : TailConfig) (p : PlacedConfig) :
   pub preimage : IsShapedPreimage r t shape p
   pub least : (s : Shape) (q : PlacedConfig) → IsShapedPreimage r t s q → ordering_then (shape_cmp shape s) (slice_cmp nat_cmp (letters p) (letters q)) ≢ Greater
 
--- the word of some left periods, the middle and some right periods of a configuration
+-- the stretch of t with these numbers of periods: `before` left periods, the middle and `after` right periods, as one word
 abbrev pub stretch : TailConfig → ℕ → ℕ → List ℕ
 stretch t before after = repeat before t.left ++ t.middle ++ repeat after t.right
 
--- w is the first stretch of t that is an orphan: it has the fewest left periods, and then the fewest right ones
+-- w is the first stretch of t that is an orphan: a stretch consists of left periods, the middle and right periods, and w has the fewest left periods, and then the fewest right periods
 pub record IsLeastGap (r : LocalRule) (t : TailConfig) (before after : ℕ) (w : List ℕ) : Type 0 where
   pub word : w ≡ stretch t before after
   pub orphan : IsOrphan r w
