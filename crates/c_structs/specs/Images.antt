@@ -17,7 +17,7 @@ pub record AreWithinReach (first : ℤ) (n : ℕ) : Type 0 where
   pub place : unsigned_abs first ≤ 2 ^ 61
   pub count : n ≤ 2 ^ 61
 
--- the code and the letters that a call returns if the buffer had the letters `before`: it asks for as many letters, starting at place `first`, and only one of these cases fits
+-- the code and the letters that a call returns if the buffer had the letters `before`: the call asks for as many letters of the image as the buffer has, starting at place `first`, and only one of these cases fits
 pub data IsImageCall (r : LocalRule) (t : TailConfig) (first : ℤ) (before : List ℕ) : ℕ → List ℕ → Type 0 where
   -- if the parts make no rule, the call returns the code of the fault and leaves the buffer as it was
   NoRule : (f : RuleFault) → rule_fault r.states r.width r.offset r.table ≡ Some f → IsImageCall r t first before (fault_code (Some f)) before

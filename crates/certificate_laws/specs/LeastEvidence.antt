@@ -18,27 +18,27 @@ pub record Evidence : Type 0 where
   pub left : SideEvidence
   pub conserving : SumEvidence
 
--- the rule is surjective and there is no orphan, or it isn't and this is the least orphan
+-- if there is no orphan, the rule is surjective; if there is one, it is the least orphan of the rule
 abbrev pub IsOrphanPart : LocalRule → Option (List ℕ) → Type 0
 IsOrphanPart r None = IsSurjective r
 IsOrphanPart r (Some w) = IsLeastOrphan r w
 
--- the rule is injective and this is the least determined window, or it isn't and these are the least twins
+-- if the evidence is a window, the rule is injective and the window is its least determined window; if it is twins, the rule isn't injective and they are its least twins
 abbrev pub IsInjectivePart : LocalRule → InjectiveEvidence → Type 0
 IsInjectivePart r (Window n c) = IsInjective r × IsLeastDetermined r n c
 IsInjectivePart r (Twins x y) = ¬ IsInjective r × IsLeastTwins r x y
 
--- the rule is right-closing and this is the least look-ahead, or it isn't and this is the least normal right split
+-- if the evidence is a look-ahead, the rule is right-closing and the look-ahead is the least; if it is a split, the rule isn't right-closing and the split is its least normal right split
 abbrev pub IsRightPart : LocalRule → SideEvidence → Type 0
 IsRightPart r (Ahead n) = IsRightClosing r × IsLeastRightAhead r n
 IsRightPart r (Split x y) = ¬ IsRightClosing r × IsLeastRightSplit r x y
 
--- the rule is left-closing and this is the least look-ahead, or it isn't and this is the least normal left split
+-- if the evidence is a look-ahead, the rule is left-closing and the look-ahead is the least; if it is a split, the rule isn't left-closing and the split is its least normal left split
 abbrev pub IsLeftPart : LocalRule → SideEvidence → Type 0
 IsLeftPart r (Ahead n) = IsLeftClosing r × IsLeastRightAhead (mirrored r) n
 IsLeftPart r (Split x y) = ¬ IsLeftClosing r × IsLeastLeftSplit r x y
 
--- the rule is conserving and this is its flux with 0 at node 0, or it isn't and this is the least ring that doesn't keep its sum
+-- if the evidence is a flux, the rule is conserving and the flux is 0 at node 0; if it is a ring, the rule isn't conserving and the ring is the least that doesn't keep its sum
 abbrev pub IsConservingPart : (ℕ → ℕ) → LocalRule → SumEvidence → Type 0
 IsConservingPart weight r (Flux phi) = IsConserving weight r × IsFlux weight r phi × (slice_get phi 0 ≡ Some (pos 0))
 IsConservingPart weight r (Ring p) = ¬ IsConserving weight r × IsLeastLossyRing weight r p

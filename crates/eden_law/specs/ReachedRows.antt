@@ -33,7 +33,7 @@ pub record AreAdded (r : LocalRule) (node : ℕ) (Has : ℕ → ℕ → Type 0) 
   pub grown : (u : ℕ) → u < node_count r → slice_index old u ≤ slice_index new u
   pub pairs : (u v : ℕ) → u < node_count r → v < node_count r → (HasBit new u v ↔ (HasBit old u v ⊎ ((a : ℕ) × (a < n) × (next r node a ≡ u) × Has a v)))
 
--- all found pairs are reached and have two different nodes, and the steps from followed pairs lead to found pairs
+-- all found pairs are reached and have two different nodes, each followed pair is found, and the steps from followed pairs lead to found pairs
 pub record IsRowSearch (r : LocalRule) (found followed : List ℕ) : Type 0 where
   pub rows : AreNodeRows r found
   pub long : length followed ≡ most_nodes

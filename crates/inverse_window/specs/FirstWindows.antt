@@ -1,4 +1,4 @@
--- Pairs of nodes that differ in a letter, and the least determined window among several windows. The rule has width m.
+-- The least determined window among several windows, and pairs of nodes that differ in a letter. The rule has width m. The backward rank of two nodes is the greatest n for which two words of n + m - 1 letters with the same image end with these nodes. Two nodes are endless if there is no greatest n.
 use Rattle.std.specs.Prelude.{◌≡◌, ◌≢◌, ℕ, ◌+◌, ◌*◌, ◌<◌, ◌≤◌, ◌⊎◌, List, length, Option, None, slice_index_or, IfSome, IsSomeAnd, MatchOption}
 use Rattle.word_image.specs.LocalRules.{LocalRule, node_count}
 use Rattle.word_image.specs.Graphs.{first_of, second_of, node_letter}
@@ -20,15 +20,15 @@ PairBegins r p n = BeginTogether r (first_of r p) (second_of r p) n
 abbrev pub PairEnds : LocalRule → ℕ → ℕ → Type 0
 PairEnds r p n = EndTogether r (first_of r p) (second_of r p) n
 
--- two words of n + m - 1 letters with the same image end with the nodes of pair p, and n is at most e
+-- n is at most e, and two words of n + m - 1 letters with the same image end with the nodes of pair p
 abbrev pub EndsFor : LocalRule → ℕ → ℕ → ℕ → Type 0
 EndsFor r e p n = (n ≤ e) × PairEnds r p n
 
--- e is above the finite backward ranks of node u: each node below `count` that has a backward rank of at least e with u is endless with u
+-- each finite backward rank of the node u and a node below `count` is less than e: if words of length e or more can end with two such nodes, the nodes are endless
 abbrev pub IsPastOf : LocalRule → ℕ → ℕ → ℕ → Type 0
 IsPastOf r u count e = (v n : ℕ) → v < count → e ≤ n → EndTogether r u v n → IsEndless (EndTogether r u v)
 
--- e is above the finite backward ranks of each node below `count` with each other node
+-- each finite backward rank of a node below `count` and any node is less than e
 abbrev pub IsPast : LocalRule → ℕ → ℕ → Type 0
 IsPast r count e = (u : ℕ) → u < count → IsPastOf r u (node_count r) e
 
@@ -44,7 +44,7 @@ most_start = most_rank + 1
 abbrev pub most_window : ℕ
 most_window = 2 * most_start
 
--- the list has for each b up to e the least length for which no pair below `count` that differs in its first letter and has the backward rank b begins words with equal images
+-- for each b from 0 to e, place b of the list has the number from which on no pair below `count` that has different first letters and the backward rank b begins two words with the same image, or None if there is no such number
 pub record AreStarts (r : LocalRule) (e count : ℕ) (starts : List (Option ℕ)) : Type 0 where
   pub long : length starts ≡ most_start + 1
   pub few : e ≤ most_start
@@ -64,7 +64,7 @@ IsFirstWindowOf r Among found = MatchOption found ((n c : ℕ) → Among n c →
 abbrev pub IsNoLater : WindowAt → WindowAt → Type 0
 IsNoLater w v = ¬ WindowBefore v.n v.c w.n w.c
 
--- the window found is one of the two windows, if there are any, and neither of the two comes before it
+-- the window `found` is one of the windows a and b, or None if both are None, and neither a nor b comes before it
 pub record IsEarlier (a b found : Option WindowAt) : Type 0 where
   pub one : (found ≡ a) ⊎ (found ≡ b)
   pub first : IfSome a (λ v. IsSomeAnd found (λ w. IsNoLater w v))

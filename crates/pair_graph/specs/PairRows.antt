@@ -28,7 +28,7 @@ same_roots n m same = ⊎_elim
     (λ most. ⊎_elim (λ more. absurd (omega (arith, same, mul-lt m m n n more more))) (λ least. omega (arith, most, least)) (cases_lt m n))
     (cases_lt n m)
 
--- if each row has all n nodes, the set has all pairs
+-- if each row is the set of all n nodes, the truth value of each pair is true
 pub truths-all : (n : ℕ) (rows : List ℕ) → ((u : ℕ) → u < n → slice_index rows u ≡ 2 ^ n - 1) → truths n rows ≡ replicate (n * n) true
 truths-all n rows full = sym (fill_by_all (λ p. bit_at (slice_index rows (p / n)) (p % n) == 1) (replicate (n * n) true) (n * n) false (length-replicate (n * n) true)
     (λ p inside.
@@ -61,7 +61,7 @@ row_of_truths n rows h u inside =
     ∙ ap₂ (λ (x y : ℕ). bit_at (slice_index rows x) y == 1) at place)
     ∙ bit_tested (slice_index rows u) i)
 
--- past the last node there are no truth values, which gives 0, and the rows have 0 there too
+-- from row n on there are no truth values, so that the row made of them is 0, and the given rows are 0 there too
 no_row : (n : ℕ) (rows : List ℕ) → AreRows n rows → (u : ℕ) → n ≤ u → mask_l (chunk (u * n) n (truths n rows)) ≡ slice_index rows u
 no_row n rows h u more =
     let past : n * n ≤ u * n = mul-le-mul_right n more in

@@ -17,7 +17,7 @@ holds set p = slice_index_or set p false
 abbrev pub truths : ℕ → List ℕ → List Bool
 truths n rows = map (λ p. bit_at (slice_index rows (p / n)) (p % n) == 1) (range_with_len 0 (n * n))
 
--- the number of nodes that have this number of pairs
+-- the number of nodes, if the number of their pairs is `count`
 abbrev pub nodes_of : ℕ → ℕ
 nodes_of count = count_by (λ i. nat_lt (i * i) count) (range_with_len 0 most_nodes)
 
@@ -45,7 +45,7 @@ pub record LeadsIntoBy (side : Side) (r : LocalRule) (set : List Bool) (p a : �
 abbrev pub LeadsInto : Side → LocalRule → List Bool → ℕ → Type 0
 LeadsInto side r set p = (a : ℕ) × (a < r.states) × LeadsIntoBy side r set p a
 
--- the kept pairs are exactly the pairs of the set from which some step leads to a pair of the set
+-- the set `kept` has exactly the pairs of the set `set` from which some step leads on this side to a pair of `set`
 pub record IsTrimmedSet (side : Side) (r : LocalRule) (set kept : List Bool) : Type 0 where
   pub count : length kept ≡ pair_count r
   pub pairs : (p : ℕ) → p < pair_count r → (IsTrue (holds kept p) ↔ (IsTrue (holds set p) × LeadsInto side r set p))

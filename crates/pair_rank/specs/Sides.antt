@@ -1,4 +1,4 @@
--- The rank of a pair of nodes is the greatest length of two walks with equal labels that begin at its nodes, or end at them. The pair is endless if there are such walks of any length.
+-- The rank of a pair of nodes on the right is the greatest length of two walks with equal labels that begin at its nodes. The rank on the left is the greatest length of two walks that end at its nodes. The pair is endless if there are walks of any length.
 use Rattle.std.specs.Prelude.{◌≡◌, ℕ, ◌+◌, ◌-◌, ◌*◌, ◌/◌, ◌<◌, ◌↔◌, List, Bool, Option, None, IsTrue, MatchOption, length, slice_index_or}
 use Rattle.word_image.specs.LocalRules.{LocalRule, node_count, most_nodes}
 use Rattle.word_image.specs.Graphs.{pair_count, most_pairs}
@@ -7,7 +7,7 @@ use Rattle.word_image.specs.declared.side.Side.{Side}
 use Rattle.word_image.specs.Sides.{Together, PairGoes}
 use Rattle.pair_graph.specs.PairSets.{holds}
 
--- the rank of the pair, or None if the pair is endless
+-- `rank` is the rank of the pair p on this side, or None if the pair is endless
 abbrev pub IsRankOf : Side → LocalRule → ℕ → Option ℕ → Type 0
 IsRankOf side r p rank = MatchOption rank (IsEndless (PairGoes side r p)) (IsRank (PairGoes side r p))
 

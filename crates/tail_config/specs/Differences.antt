@@ -2,7 +2,7 @@
 use Rattle.std.specs.Prelude.{◌≡◌, ◌≢◌, ℕ, ◌<◌, ◌≤◌, max, length, ℤ, pos, negsuc, ◌<ℤ◌, neg_ℤ, unsigned_abs}
 use Rattle.tail_config.specs.Tails.{TailConfig, cell}
 
--- i is the place nearest to 0 at which the cells differ; if two places are equally near, it is the positive one
+-- i is the place nearest to 0 at which the cells of x and y differ; if two places are equally near, it is the positive one
 pub record IsNearestDifference (x y : TailConfig) (i : ℤ) : Type 0 where
   pub other : cell x i ≢ cell y i
   pub nearest : (j : ℤ) → unsigned_abs j < unsigned_abs i → cell x j ≡ cell y j
@@ -16,7 +16,7 @@ right_cells t i = cell t (pos i)
 abbrev pub left_cells : TailConfig → ℕ → ℕ
 left_cells t i = cell t (negsuc i)
 
--- the first number at which two functions differ, starting at `start`
+-- i is the first number from `start` on at which the functions f and g differ
 pub record IsFirstDifference (f g : ℕ → ℕ) (start i : ℕ) : Type 0 where
   pub from : start ≤ i
   pub other : f i ≢ g i

@@ -17,12 +17,12 @@ abbrev pub seen_from : Side → LocalRule → LocalRule
 seen_from Right r = r
 seen_from Left r = mirrored r
 
--- two words of n + m - 1 letters with the same image begin with these nodes, on the right, or end with them, on the left
+-- two words of n + m - 1 letters with the same image begin with the nodes u and v if the side is the right, and end with these nodes if it is the left
 abbrev pub Together : Side → LocalRule → ℕ → ℕ → ℕ → Type 0
 Together Right = BeginTogether
 Together Left = EndTogether
 
--- two words of n + m - 1 letters with the same image begin with the two nodes of pair p, on the right, or end with them, on the left
+-- two words of n + m - 1 letters with the same image begin with the two nodes of pair p if the side is the right, and end with these nodes if it is the left
 abbrev pub PairGoes : Side → LocalRule → ℕ → ℕ → Type 0
 PairGoes side r p = Together side r (first_of r p) (second_of r p)
 

@@ -3,7 +3,7 @@ use Rattle.std.specs.Prelude.{◌≡◌, ℕ, ◌-◌, List, ◌++◌, length, t
 use Rattle.std.proofs.Common.{ap, ◌∙◌, sym, take-append-drop}
 use Rattle.word_image.specs.LocalRules.{most_windows}
 
--- the numbers, followed by zeros up to this size
+-- the numbers of the list, followed by zeros up to `size` numbers
 abbrev pub in_row : ℕ → List ℕ → List ℕ
 in_row size numbers = numbers ++ replicate (size - length numbers) 0
 
