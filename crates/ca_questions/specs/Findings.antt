@@ -74,7 +74,7 @@ AreFor (Some weights) r = length weights ≡ r.states
 
 -- What is right
 
--- this rule is the map as a rule, or None if the map breaks a limit of rules
+-- the result is the map as a rule, or None if the map breaks a limit of accepted rules
 abbrev pub IsMapRule : WindowMap → Option LocalRule → Type 0
 IsMapRule g None = ¬ IsRule (map_rule g)
 IsMapRule g (Some r) = IsRule (map_rule g) × (r ≡ map_rule g)

@@ -12,7 +12,7 @@ use Rattle.ca_questions.specs.Findings.{Finding, Unfit}
 use Rattle.ca_text.specs.Reports.{line, number_line, surjective_line, report_lines}
 use Rattle.ca_text.specs.Lines.{map_lines, automaton_lines, placed_text, gap_text, counts_lines, count_line}
 
--- the line of the finding of `same`, and below it the line of the finding of `erase`
+-- the line that the program prints for the finding of `same`; the next definition is the line for the finding of `erase`
 abbrev pub same_line : Option (List ℕ) → List ℕ
 same_line None = line (codes "same yes")
 same_line (Some w) = line (codes "same no " ++ word_text w)

@@ -5,13 +5,13 @@ use Rattle.word_image.specs.declared.side.Side.{Side}
 use Rattle.word_image.specs.Ends.{end_node}
 use Rattle.pair_laws.specs.FirstWindows.{with_end, AreFirst}
 
--- u and v are the nodes at the ends of the window w and of w with the letter a at its end
+-- u is the node at the end of the window w on this side, and v is the node at this end after the letter a has replaced the letter there
 pub record AreEndNodes (side : Side) (r : LocalRule) (w a u v : ℕ) : Type 0 where
   pub first : u ≡ end_node side r w
   pub second : v ≡ end_node side r (with_end side r w a)
   pub node : v < node_count r
 
--- u and v are the nodes at the ends of the window w and of w with another letter a at its end, and both windows have equal labels
+-- u is the node at the end of the window w on this side, v is the node at this end after the letter a has replaced the letter there, and the two windows are different and have equal labels
 pub record IsFound (side : Side) (r : LocalRule) (w a u v : ℕ) : Type 0 where
   pub first : AreFirst side r w a
   pub ends : AreEndNodes side r w a u v

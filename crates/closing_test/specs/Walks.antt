@@ -1,4 +1,4 @@
--- Two walks in the marked graph that form a normal split: one spells the middles, the other the right periods. The pair of letters (a, b) is stored as the number a * 16 + b.
+-- Two walks that form a normal split: two different configurations with the same image, each with zeros to the left, then a middle, then a right period. The letters of the first walk are the two middles, and the letters of the second walk are the two right periods. The walks lead from state to state, and a state is a pair of nodes with a mark. The pair of letters (a, b) is stored as the number a * 16 + b.
 use Rattle.std.specs.Prelude.{◌≡◌, ℕ, ◌+◌, ◌/◌, ◌%◌, ◌<◌, ◌≤◌, ◌⊎◌, length, List, [], ◌∷◌, map, Option, Some, None}
 use Rattle.std.specs.declared.cmp.Ordering.TheVariants.{Greater}
 use Rattle.word_image.specs.LocalRules.{LocalRule, most_states}
@@ -10,11 +10,11 @@ use Rattle.closing_test.specs.declared.split.Letter.{Letter}
 use Rattle.closing_test.specs.declared.split.Letter.TheVariants.{First, Second}
 use Rattle.closing_test.specs.declared.walks.Walks.{Walks}
 
--- the pairs of letters that the walk of the middles spells
+-- the pairs of letters of the walk of the middles
 abbrev pub middle_pairs : Walks → List (ℕ × ℕ)
 middle_pairs w = map (uncode most_states) w.middle.items
 
--- the pairs of letters that the walk of the right periods spells
+-- the pairs of letters of the walk of the right periods
 abbrev pub period_pairs : Walks → List (ℕ × ℕ)
 period_pairs w = map (uncode most_states) w.period.items
 
@@ -23,34 +23,34 @@ abbrev pub letter_of : Letter → ℕ → ℕ
 letter_of First step = step / most_states
 letter_of Second step = step % most_states
 
--- the configuration that the first or the second letters of two walks spell, with the letter 0 everywhere to the left
+-- the configuration with zeros to the left, whose middle and right period are the first letters of the two walks, or their second letters
 abbrev pub tail_by : Letter → Walks → TailConfig
 tail_by letter w = record { left = 0 ∷ []; middle = map (letter_of letter) w.middle.items; right = map (letter_of letter) w.period.items }
 
--- the split that two walks spell
+-- the split of two walks: the configuration of their first letters and the configuration of their second letters
 abbrev pub split_by : Walks → TailConfig × TailConfig
 split_by w = split_of (middle_pairs w) (period_pairs w)
 
--- the given split is less than the split of the best walks; any split is if there are no walks
+-- the given split is less than the split of the best walks, or there are no best walks
 abbrev pub ComesBefore : TailConfig × TailConfig → Option Walks → Type 0
 ComesBefore split None = Unit {0}
 ComesBefore split (Some best) = splits_cmp (split_by best) split ≡ Greater
 
--- each split with a middle of at least n letters and a period of more than `most` letters is greater than the split of these walks, by its number of letters or by the length of its middle
+-- each split with a middle of at least n letters and a right period of more than `most` letters is greater than the split of the best walks, by its number of letters or by the length of its middle
 abbrev pub IsMostAfter : Walks → ℕ → ℕ → Type 0
 IsMostAfter best n most = (w v : ℕ) → n ≤ w → most < v
     → (length best.middle.items + length best.period.items < w + v) ⊎ ((length best.middle.items + length best.period.items ≡ w + v) × (length best.middle.items < w))
 
--- no normal split with its period at the state t is less than the split of these walks; if there are no walks, there is no such split
+-- no normal split in which the walk of the right periods begins at the state t is less than the best split; if there is no best split, there is no such split
 abbrev pub IsNoneBefore : LocalRule → ℕ → Option Walks → Type 0
 IsNoneBefore r t best = (w v : List (ℕ × ℕ)) → IsSplitAt r t w v → ¬ ComesBefore (split_of w v) best
 
--- the found walks form the least normal split with its period at the state t, and this split is less than the best one so far
+-- the found walks form the least normal split in which the walk of the right periods begins at the state t, and this split is less than the best one so far
 pub record AreEarlier (r : LocalRule) (t : ℕ) (best : Option Walks) (found : Walks) : Type 0 where
   pub least : IsLeastSplitAt r t (middle_pairs found) (period_pairs found)
   pub before : ComesBefore (split_by found) best
 
--- these walks form the least of the normal splits with their period at a state below t; if there are no walks, there is no such split
+-- the best walks form a normal split, and no normal split in which the walk of the right periods begins at a state below t is less; if there are no best walks, there is no such split
 abbrev pub IsLeastSoFar : LocalRule → ℕ → Option Walks → Type 0
 IsLeastSoFar r t None = IsNoSplitBelow r t
 IsLeastSoFar r t (Some best) = IsLeastBelow r t (middle_pairs best) (period_pairs best)

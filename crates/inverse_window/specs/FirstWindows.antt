@@ -24,7 +24,7 @@ PairEnds r p n = EndTogether r (first_of r p) (second_of r p) n
 abbrev pub EndsFor : LocalRule → ℕ → ℕ → ℕ → Type 0
 EndsFor r e p n = (n ≤ e) × PairEnds r p n
 
--- each finite backward rank of the node u and a node below `count` is less than e: if words of length e or more can end with two such nodes, the nodes are endless
+-- each finite backward rank of the node u and a node below `count` is less than e
 abbrev pub IsPastOf : LocalRule → ℕ → ℕ → ℕ → Type 0
 IsPastOf r u count e = (v n : ℕ) → v < count → e ≤ n → EndTogether r u v n → IsEndless (EndTogether r u v)
 
@@ -44,7 +44,7 @@ most_start = most_rank + 1
 abbrev pub most_window : ℕ
 most_window = 2 * most_start
 
--- for each b from 0 to e, place b of the list has the number from which on no pair below `count` that has different first letters and the backward rank b begins two words with the same image, or None if there is no such number
+-- for each b from 0 to e, place b of the list has the least n from which on no pair below `count` with different first letters and the backward rank b begins two words of n + m - 1 letters with the same image, or None if there is no such n; a backward rank above e counts as e
 pub record AreStarts (r : LocalRule) (e count : ℕ) (starts : List (Option ℕ)) : Type 0 where
   pub long : length starts ≡ most_start + 1
   pub few : e ≤ most_start

@@ -12,7 +12,7 @@ abbrev in_turn : ℕ → ℕ → Config
 in_turn a b (pos i) = slice_index (a ∷ b ∷ []) (i % 2)
 in_turn a b (negsuc i) = slice_index (b ∷ a ∷ []) (i % 2)
 
--- these four configurations have the image of zeros, and differ in any two adjacent letters
+-- the words 00, 01, 10 and 11, repeated without end, are four configurations with the image of zeros, and any two of them differ within any two adjacent letters
 
 image_of-zeros : run (image_of rule_90 zeros) (negsuc 1) 5 ≡ 0 ∷ 0 ∷ 0 ∷ 0 ∷ 0 ∷ []
 image_of-zeros = refl
