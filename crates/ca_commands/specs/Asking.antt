@@ -38,7 +38,7 @@ pub record Ask (words : List (List ℕ)) (q : Question) : Type 0 where
 abbrev pub IsAskedBy : List (List ℕ) → code.Question → Type 0
 IsAskedBy words q = Ask words (question_of q) × IsWhole q
 
--- the reason why nothing is found for the words: they are no command, or one of its operands is refused, or nothing fits its question, or there is no memory
+-- the reason why nothing is found for the words: they are no command, or an operand of their command is refused, or nothing fits the question of their command, or there is no memory
 abbrev pub IsStop : List (List ℕ) → Stop → Type 0
 IsStop words stop.Usage = (c : Command) → ¬ IsCommand words c
 IsStop words (stop.RuleFault operand f) = (c : Command) × IsCommand words c × IsOperandFault c operand f

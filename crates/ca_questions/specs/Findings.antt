@@ -1,4 +1,4 @@
--- Findings as values, which of them are right for a question, and the causes why a question has no finding.
+-- Findings as values, which of them are right for a question, and the causes why a question has no finding. Two words are an erasable pair if they can replace each other in any configuration without a change of the image.
 use Rattle.std.specs.Prelude.{◌≡◌, ◌≢◌, ℕ, ◌^◌, ◌<◌, ◌≤◌, List, length, slice_index, Bool, Option, Some, None, ℤ, ⊤}
 use Rattle.word_image.specs.LocalRules.{LocalRule, IsRule, mirrored}
 use Rattle.word_image.specs.Words.{IsSurjective}
@@ -88,12 +88,12 @@ pub record IsInverseFound (r : LocalRule) (n c : ℕ) (g : WindowMap) (rule : Op
   pub gives_back : GivesBack r n c g
   pub as_rule : IsMapRule g rule
 
--- the two rules have the same orphans, or this is the least word that is an orphan of only one of them
+-- if there is no word, the rules r and s have the same orphans; if there is one, it is the least word that is an orphan of only one of them
 abbrev pub IsSameFound : LocalRule → LocalRule → Option (List ℕ) → Type 0
 IsSameFound r s None = HaveSameOrphans r s
 IsSameFound r s (Some w) = Separates r s w
 
--- the rule is surjective and has no erasable pair, or this is the least erasable pair
+-- if there is no pair, the rule is surjective and has no erasable pair; if there is one, the rule isn't surjective and it is the least erasable pair
 abbrev pub IsErasedFound : LocalRule → Option (List ℕ × List ℕ) → Type 0
 IsErasedFound r None = IsSurjective r × ((x y : List ℕ) → ¬ IsErasable r x y)
 IsErasedFound r (Some pair) = ¬ IsSurjective r × IsLeastErasable r pair.0 pair.1

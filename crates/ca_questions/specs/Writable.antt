@@ -51,7 +51,7 @@ abbrev pub IsWritableUnfit : Unfit → Type 0
 IsWritableUnfit (Unfit.Twins x y) = IsWord 16 x × IsWord 16 y
 IsWritableUnfit _ = ⊤
 
--- the reply can be written: its finding or its cause can
+-- the reply can be written: if it has a finding or a cause, the finding or the cause can be written
 abbrev pub IsWritableReply : Reply → Type 0
 IsWritableReply (Reply.Found f) = IsWritable f
 IsWritableReply (Reply.NoFit u) = IsWritableUnfit u

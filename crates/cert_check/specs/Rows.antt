@@ -16,6 +16,6 @@ IsMarked rows s = IsBitSet (slice_index rows (s / 16)) (s % 16)
 abbrev pub AreMarked : List ℕ → List ℕ → Type 0
 AreMarked rows sets = (s : ℕ) → IsMarked rows s ↔ Contains sets s
 
--- of the sets of nodes of the rule, the rows mark exactly those that may be reached by a step from a listed set: in version 1 the listed sets, and from version 2 on the sets that contain a listed set
+-- of the sets up to the set `full` of all nodes, the rows mark exactly the listed sets in version 1, and exactly the sets that contain a listed set from version 2 on
 abbrev pub AreKept : CertVersion → ℕ → List ℕ → List ℕ → Type 0
 AreKept version full sets rows = (s : ℕ) → s ≤ full → (IsMarked rows s ↔ IsKept version sets s)

@@ -7,7 +7,7 @@ use Rattle.word_image.specs.Rings.{KeepsSum}
 abbrev pub flux_at : List ℤ → ℕ → ℤ
 flux_at phi u = slice_index_or phi u (pos 0)
 
--- the weight of the letter that the rule gives for w minus the weight of the first letter of w is phi of its first node minus phi of its last node
+-- the weight of the letter that the rule gives for w minus the weight of the first letter of w is the number of the flux phi at the first node of w minus its number at the last node of w
 abbrev pub Flows : (ℕ → ℕ) → LocalRule → List ℤ → List ℕ → Type 0
 Flows weight r phi w =
     (pos (weight (local_map r w)) -ℤ pos (weight (slice_index w 0))) ≡ (flux_at phi (value r.states (take (r.width - 1) w)) -ℤ flux_at phi (value r.states (drop 1 w)))

@@ -1,4 +1,4 @@
--- The contents of a certificate of a rule of width m, and the limits of each part.
+-- The contents of a certificate of a rule of width m, and the limits of each part. The forward rank of a pair of nodes is the greatest length of two walks with equal labels from its nodes, and the backward rank is the greatest length of two walks with equal labels to its nodes.
 use Rattle.std.specs.Prelude.{◌≡◌, ℕ, ◌+◌, ◌-◌, ◌^◌, ◌<◌, ◌≤◌, List, length, Option, Some, None, All, pos, negsuc, ◌≤ℤ◌, ⊤, true, ℤ}
 use Rattle.word_image.specs.LocalRules.{LocalRule, IsWord, node_count}
 use Rattle.word_image.specs.Graphs.{pair_count}

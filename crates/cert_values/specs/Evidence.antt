@@ -13,7 +13,7 @@ pub data InjectiveEvidence : Type 0 where
   Window : (n c : ℕ) → InjectiveEvidence
   Twins : (x y : List ℕ) → InjectiveEvidence
 
--- the evidence is a look-ahead if the rule is closing on this side, and two configurations if it isn't
+-- the evidence is a look-ahead if the rule is closing on a side, and two configurations if it isn't
 pub data SideEvidence : Type 0 where
   Ahead : (n : ℕ) → SideEvidence
   Split : (x y : TailConfig) → SideEvidence
@@ -34,7 +34,7 @@ abbrev pub says_injective : InjectiveEvidence → Bool
 says_injective (Window n c) = true
 says_injective (Twins x y) = false
 
--- the evidence says that the rule is closing on this side: it has a look-ahead
+-- the evidence says that the rule is closing on a side: it has a look-ahead
 abbrev pub says_closing : SideEvidence → Bool
 says_closing (Ahead n) = true
 says_closing (Split x y) = false

@@ -9,13 +9,13 @@ number_of One = 1
 number_of Two = 2
 number_of Three = 3
 
--- a certificate of this version may name the weights of the letters, as it may from version 2 on
+-- whether a certificate of this version may name the weights of the letters: it may from version 2 on
 abbrev pub names_weights : CertVersion → Bool
 names_weights One = false
 names_weights Two = true
 names_weights Three = true
 
--- a certificate of this version may list pairs of nodes, as it may in version 3
+-- whether a certificate of this version may list pairs of nodes: it may in version 3
 abbrev pub lists_pairs : CertVersion → Bool
 lists_pairs One = false
 lists_pairs Two = false

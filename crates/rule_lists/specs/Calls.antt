@@ -15,7 +15,7 @@ abbrev pub AreAll : Property → ℕ → ℕ → List ℕ → List ℕ → Optio
 AreAll property k m begin order last [] = NoneIs property k m begin (IsAfter k order last)
 AreAll property k m begin order last (r ∷ rs) = IsFirst property k m begin order (IsAfter k order last) r × AreAll property k m begin order (Some r) rs
 
--- the list has listed rules from the rule `first` up to the rule `last`: each of its rules is the first listed rule after the rule before it, and `last` is the last of them, or `first` if the list is empty
+-- each rule of the list is the first listed rule after the rule before it, and the first one after the rule `first`; `last` is the last rule of the list, or `first` if the list is empty
 abbrev pub AreSoFar : Property → ℕ → ℕ → List ℕ → List ℕ → Option LocalRule → List LocalRule → Option LocalRule → Type 0
 AreSoFar property k m begin order first [] last = first ≡ last
 AreSoFar property k m begin order first (r ∷ rs) last = IsFirst property k m begin order (IsAfter k order first) r × AreSoFar property k m begin order (Some r) rs last

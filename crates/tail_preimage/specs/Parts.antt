@@ -62,7 +62,7 @@ pub record IsFirstShape (r : LocalRule) (parts : Parts) (s : Shape) : Type 0 whe
   pub small : IsSmall s
   pub least : (u : Shape) → IsPossible r parts u → shape_cmp s u ≢ Greater
 
--- no walk leads along b left periods, the middle and a right periods; b is the least number of left periods for which no walk leads along 16 right periods, a is the least number of right periods for this b, and both are at most 16
+-- no walk leads along b left periods, the middle and a right periods: b is the least number of left periods that no walk leads along before the middle and 16 right periods, a is the least number of right periods that no walk leads along after b left periods and the middle, and b and a are at most 16
 pub record IsFirstGap (r : LocalRule) (parts : Parts) (b a : ℕ) : Type 0 where
   pub before_few : b ≤ most_nodes
   pub after_few : a ≤ most_nodes

@@ -34,7 +34,7 @@ pub record Shape : Type 0 where
   pub after : ℕ
   pub on : ℕ
 
--- the placed configuration p has the shape s: its parts span as many periods of t as s says, its middle begins at the cell that the windows of these periods begin at, and the m - 1 cells at the beginning of its middle are repeated one left period earlier
+-- the placed configuration p has the shape s: its parts span as many periods of t as s says, its middle begins `before` left periods of t to the left of cell 0, moved by the offset of the rule, and the first m - 1 cells of its middle are equal to the cells one left period of p earlier
 pub record HasShape (r : LocalRule) (t : TailConfig) (s : Shape) (p : PlacedConfig) : Type 0 where
   pub back_some : 1 ≤ s.back
   pub on_some : 1 ≤ s.on
