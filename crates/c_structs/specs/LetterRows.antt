@@ -11,7 +11,7 @@ pub record IsRow (letters : List ℕ) (row : LetterRow) (word : List ℕ) : Type
   pub within : row.begin + row.length ≤ length letters
   pub same : take row.length (drop row.begin letters) ≡ word
 
--- the two rows say where these two words stand among the letters
+-- the two rows say where the words x and y stand among the letters
 pub record AreTwinRows (letters : List ℕ) (rows : TwinRows) (x y : List ℕ) : Type 0 where
   pub first : IsRow letters rows.x x
   pub second : IsRow letters rows.y y
@@ -31,7 +31,7 @@ pub record AreSplitRows (letters : List ℕ) (rows : SplitRows) (x y : TailConfi
 abbrev pub tail_letters : TailConfig → List ℕ
 tail_letters t = t.left ++ t.middle ++ t.right
 
--- the letters of the first configuration, followed by those of the second
+-- the letters of the configuration x, followed by the letters of the configuration y
 abbrev pub split_letters : TailConfig → TailConfig → List ℕ
 split_letters x y = tail_letters x ++ tail_letters y
 

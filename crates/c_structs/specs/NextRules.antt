@@ -20,7 +20,7 @@ property_number LeftClosing = 8
 property_number Open = 16
 property_number Conserving = 32
 
--- this number stands for no property
+-- the number stands for no property
 abbrev pub IsNoProperty : ℕ → Type 0
 IsNoProperty number = (property : Property) → number ≢ property_number property
 

@@ -65,7 +65,7 @@ pub data IsReported (r : LocalRule) (weights : Option (List ℕ)) : RuleReport �
   NoRule : (f : RuleFault) → rule_fault r.states r.width r.offset r.table ≡ Some f → IsReported r weights (no_report (fault_code (Some f))) []
   -- if there isn't one weight for each letter, the struct has the fault 18, and there are no letters
   NoWeights : IsRule r → ¬ AreFor weights r → IsReported r weights (no_report 18) []
-  -- if there is no fault, the struct has the report of the right finding, and the letters are those of its words
+  -- if there is no fault, the struct has the report of the right finding, and the letters are the letters of its words
   Found : (e : Evidence) (v : RuleReport) → IsRule r → IsFinding (Question.Report r weights) (Finding.Report e) → IsReportOf (letters_in e) e v
       → IsReported r weights v (letters_in e)
 

@@ -15,7 +15,7 @@ abbrev pub bytes_in : Form → Reply → List ℕ
 bytes_in form.Text = reply_text
 bytes_in form.Json = json_text
 
--- the status and the output are those of a right reply to the words of the block and to the input
+-- the status and the output belong to a right reply to the words of the block and to the input
 pub record IsAnswerIn (bytes_of : Reply → List ℕ) (block input : List ℕ) (status : Status) (output : List ℕ) : Type 0 where
   pub words : List (List ℕ)
   pub in_block : AreWords block words

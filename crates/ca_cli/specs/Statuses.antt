@@ -28,7 +28,7 @@ IsAnswered ReadFault = ⊥
 IsAnswered WriteFault = ⊥
 IsAnswered Memory = ⊥
 
--- the status of a reply
+-- the status with which the program ends after it prints a reply
 abbrev pub reply_status : Reply → Status
 reply_status (Reply.Found f) = Done
 reply_status (Reply.NoFit u) = NotFit

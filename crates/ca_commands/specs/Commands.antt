@@ -110,7 +110,7 @@ check_command = record { name = name.Check; rules = []; operands = [] }
 abbrev pub words_of : Command → List (List ℕ)
 words_of c = word_of c.name ∷ c.rules ++ c.operands
 
--- the words are those of the command, it has as many rules as its name needs, and its operands are well formed
+-- the words are the words of the command, the command has as many rules as its name needs, and its operands are well formed
 pub record IsCommand (words : List (List ℕ)) (c : Command) : Type 0 where
   pub words_are : words ≡ words_of c
   pub rules : length c.rules ≡ rule_count c.name

@@ -11,11 +11,11 @@ abbrev pub members_of : List (List ℕ × Data) → Members
 members_of [] = no_members
 members_of (m ∷ ms) = member m.0 m.1 (members_of ms)
 
--- the object with these members
+-- the JSON object with these members
 abbrev pub object_of : List (List ℕ × Data) → Data
 object_of ms = object (members_of ms)
 
--- the object with only this key
+-- the JSON object with only this key and its value
 abbrev pub tagged : List ℕ → Data → Data
 tagged key value = object_of ((key, value) ∷ [])
 

@@ -79,7 +79,7 @@ abbrev pub IsMapRule : WindowMap → Option LocalRule → Type 0
 IsMapRule g None = ¬ IsRule (map_rule g)
 IsMapRule g (Some r) = IsRule (map_rule g) × (r ≡ map_rule g)
 
--- the rule is injective, and g is its inverse map over the least determined window
+-- the rule is injective, (n, c) is its least determined window, g is its inverse map over this window, and `rule` is the map as a rule, or None if the map breaks a limit of rules
 pub record IsInverseFound (r : LocalRule) (n c : ℕ) (g : WindowMap) (rule : Option LocalRule) : Type 0 where
   pub injective : IsInjective r
   pub least : IsLeastDetermined r n c

@@ -45,7 +45,7 @@ pub record AreDrawn (d : Drawn) : Type 0 where
   pub shape : IsShape d.states d.width (pos 0)
   pub few : d.count ≤ 4096
 
--- the parts of the question fit together
+-- the parts of the question fit together: a certificate has a version that may name weights, a configuration has as many states as its rule, and there are rules with the numbers or the shape of a question about many rules
 abbrev pub IsWhole : code.Question → Type 0
 IsWhole (asked.Certify v r weights) = names_weights v ≡ true
 IsWhole (asked.Preimage r t) = r.states ≡ t.states

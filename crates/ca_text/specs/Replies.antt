@@ -1,10 +1,10 @@
--- The texts of all replies.
+-- The texts that the program prints for all replies.
 use Rattle.std.specs.Prelude.{ℕ, List}
 use Rattle.ca_questions.specs.Replies.{Reply}
 use Rattle.ca_text.specs.Texts.{text_of, unfit_text}
 use Rattle.ca_text.specs.StatusLines.{usage_line, operand_fault_line, unfit_line, accepted_lines, refused_line, too_long_line}
 
--- the text of a reply
+-- the text that the program prints for a reply
 abbrev pub reply_text : Reply → List ℕ
 reply_text (Reply.Found f) = text_of f
 reply_text (Reply.NoFit u) = unfit_line (unfit_text u)

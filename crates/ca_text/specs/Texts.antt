@@ -21,7 +21,7 @@ abbrev pub erased_line : Option (List ℕ × List ℕ) → List ℕ
 erased_line None = line (codes "erase none")
 erased_line (Some pair) = line (codes "erase " ++ word_text pair.0 ++ codes " " ++ word_text pair.1)
 
--- the text of a finding
+-- the text that the program prints for a finding
 abbrev pub text_of : Finding → List ℕ
 text_of (Finding.Report e) = report_lines e
 text_of (Finding.Written c) = certificate_text c

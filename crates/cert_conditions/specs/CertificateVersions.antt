@@ -1,8 +1,8 @@
--- The same certificate in another version.
+-- A certificate with its version replaced by a given version.
 use Rattle.cert_values.specs.declared.cert_version.CertVersion.{CertVersion}
 use Rattle.cert_values.specs.Certificates.{Certificate}
 
--- the same certificate with this version
+-- the certificate c with the given version in place of its own
 abbrev pub in_version : CertVersion → Certificate → Certificate
 in_version version c = record {
   version = version;

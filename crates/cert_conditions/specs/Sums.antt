@@ -12,6 +12,6 @@ abbrev pub Flows : (ℕ → ℕ) → LocalRule → List ℤ → List ℕ → Typ
 Flows weight r phi w =
     (pos (weight (local_map r w)) -ℤ pos (weight (slice_index w 0))) ≡ (flux_at phi (value r.states (take (r.width - 1) w)) -ℤ flux_at phi (value r.states (drop 1 w)))
 
--- the ring has at least one letter, and its image has another sum of weights
+-- the ring has at least one letter, and the sum of the weights of its image isn't its own sum of weights
 abbrev pub IsLossy : (ℕ → ℕ) → LocalRule → List ℕ → Type 0
 IsLossy weight r p = (1 ≤ length p) × ¬ KeepsSum weight r p

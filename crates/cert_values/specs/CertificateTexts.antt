@@ -129,7 +129,7 @@ HasSide k r ms e = HasMember ms k (λ d. IsSideValue d e) × IsSideShape r e
 abbrev pub HasConserving : LocalRule → Members → SumEvidence → Type 0
 HasConserving r ms e = HasMember ms (codes "conserving") (λ d. IsSumValue d e) × IsSumShape r e
 
--- the weights are those of the member "weights"; if there is no such member, or the version may not name weights, they are the letters' own values
+-- the weights are the value of the member "weights"; if there is no such member, or the version may not name weights, each letter weighs its own value
 pub data HasWeights (version : CertVersion) (r : LocalRule) (ms : Members) (weights : List ℕ) : Type 0 where
   Named : names_weights version ≡ true → HasMember ms (codes "weights") (λ d. IsArrayOf IsWhole d weights) → AreWeights r.states weights → HasWeights version r ms weights
   Own : (names_weights version ≡ true → get_member (codes "weights") ms ≡ None) → weights ≡ own_weights r.states → HasWeights version r ms weights

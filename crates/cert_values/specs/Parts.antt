@@ -34,7 +34,7 @@ abbrev pub sum_of : SumPart → SumEvidence
 sum_of (Flux phi) = SumEvidence.Flux phi
 sum_of (Ring p) = SumEvidence.Ring p
 
--- the certificate with these parts
+-- the certificate for which the parts in a value of the code stand
 abbrev pub certificate_of : Inside → Certificate
 certificate_of c = record {
   version = c.version;

@@ -41,7 +41,7 @@ abbrev pub IsMostAfter : Walks → ℕ → ℕ → Type 0
 IsMostAfter best n most = (w v : ℕ) → n ≤ w → most < v
     → (length best.middle.items + length best.period.items < w + v) ⊎ ((length best.middle.items + length best.period.items ≡ w + v) × (length best.middle.items < w))
 
--- no normal split in which the walk of the right periods begins at the state t is less than the best split; if there is no best split, there is no such split
+-- no normal split in which the walk of the right periods begins at the state t is less than the best split; if there is no best split, the walk of the right periods begins at t in no normal split
 abbrev pub IsNoneBefore : LocalRule → ℕ → Option Walks → Type 0
 IsNoneBefore r t best = (w v : List (ℕ × ℕ)) → IsSplitAt r t w v → ¬ ComesBefore (split_of w v) best
 
@@ -50,7 +50,7 @@ pub record AreEarlier (r : LocalRule) (t : ℕ) (best : Option Walks) (found : W
   pub least : IsLeastSplitAt r t (middle_pairs found) (period_pairs found)
   pub before : ComesBefore (split_by found) best
 
--- the best walks form a normal split, and no normal split in which the walk of the right periods begins at a state below t is less; if there are no best walks, there is no such split
+-- the best walks form a normal split, and no normal split in which the walk of the right periods begins at a state below t is less; if there are no best walks, the walk of the right periods begins at a state below t in no normal split
 abbrev pub IsLeastSoFar : LocalRule → ℕ → Option Walks → Type 0
 IsLeastSoFar r t None = IsNoSplitBelow r t
 IsLeastSoFar r t (Some best) = IsLeastBelow r t (middle_pairs best) (period_pairs best)

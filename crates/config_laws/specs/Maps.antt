@@ -31,7 +31,7 @@ IsLeftContinuingMap r = (x y : Config) → IsConfig r.states x → IsConfig r.st
 abbrev pub IsDenseMap : LocalRule → Type 0
 IsDenseMap r = (y : Config) (n : ℕ) → IsConfig r.states y → (x : Config) × IsConfig r.states x × AgreeWithin n (image_of r x) y
 
--- each configuration is an image
+-- each configuration is the image of some configuration
 abbrev pub IsOntoMap : LocalRule → Type 0
 IsOntoMap r = (y : Config) → IsConfig r.states y → (x : Config) × IsConfig r.states x × (image_of r x ≡ y)
 

@@ -12,7 +12,7 @@ pub record IsFluxRow (weight : ℕ → ℕ) (r : LocalRule) (row : List ℤ) : T
   pub zeros : drop (node_count r) row ≡ replicate (most_nodes - node_count r) (pos 0)
   pub only : (phi : List ℤ) → IsFlux weight r phi → slice_get phi 0 ≡ Some (pos 0) → phi ≡ take (node_count r) row
 
--- the result is a flux
+-- whether the result is a flux, and not a ring
 abbrev pub has_flux : Keeping → Bool
 has_flux (Flux row) = true
 has_flux (Ring ring) = false

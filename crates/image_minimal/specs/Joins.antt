@@ -6,11 +6,11 @@ use Rattle.std.specs.List.{sum_by}
 abbrev pub AreColours : List ℕ → (ℕ → Bool) → Type 0
 AreColours parents f = (x : ℕ) → x < length parents → f (slice_index parents x) ≡ f x
 
--- no number has a greater parent
+-- no number has a parent that is greater than the number
 abbrev pub IsFalling : List ℕ → Type 0
 IsFalling parents = (x : ℕ) → x < length parents → slice_index parents x ≤ x
 
--- the sum of all parents
+-- the sum of the parents of all numbers
 abbrev pub total : List ℕ → ℕ
 total = sum_by (λ x. x)
 

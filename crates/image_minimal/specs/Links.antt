@@ -27,7 +27,7 @@ LinkStep r q from a to = IsStep r from.0 a to.0 × IsStep q from.1 a to.1
 abbrev pub HasChain : LocalRule → List Link → ℕ × ℕ → ℕ → Type 0
 HasChain r links pair e = (f : ℕ → Bool) → HaveOneColour (2 ^ node_count r) r.states links e f → f pair.0 ≡ f (2 ^ node_count r + pair.1)
 
--- the number of sets under both rules together
+-- how many sets of nodes r and q have together
 abbrev pub set_count : LocalRule → LocalRule → ℕ
 set_count r q = 2 ^ node_count r + 2 ^ node_count q
 

@@ -9,7 +9,7 @@ use Rattle.least_walk.specs.declared.queue.Reached.{Reached}
 use Rattle.least_walk.specs.declared.queue.Ends.{Ends}
 use Rattle.least_walk.specs.Marks.{HasPair}
 
--- a step from one marked pair to another on the letters a and b, which have the number a * 16 + b
+-- a step from a marked pair to a marked pair on the two letters a and b, which together have the number a * 16 + b
 abbrev pub MarkedStep : LocalRule → ℕ → ℕ → ℕ → Type 0
 MarkedStep r = CodeStep (marked r) r.states most_states
 

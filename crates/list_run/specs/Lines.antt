@@ -1,4 +1,4 @@
--- The lines of the list that the program writes, and of the other outputs.
+-- The lines that the program writes: the lines of a list of rules, and the lines for wrong words and for faults.
 use Rattle.std.specs.Prelude.{◌≡◌, ℕ, ◌-◌, ◌^◌, List, [], ◌∷◌, ◌++◌, length, min, codes}
 use Rattle.std.specs.Fmt.{decimal}
 use Rattle.word_image.specs.LocalRules.{LocalRule}

@@ -13,7 +13,7 @@ use Rattle.word_image.specs.Ends.{label_at, end_at}
 abbrev pub holds : List Bool → ℕ → Bool
 holds set p = slice_index_or set p false
 
--- the truth values of rows: for each pair (u, v) of n nodes, whether bit v of row u is 1
+-- a list of truth values: for each pair (u, v) of n nodes, whether bit v of row u is 1
 abbrev pub truths : ℕ → List ℕ → List Bool
 truths n rows = map (λ p. bit_at (slice_index rows (p / n)) (p % n) == 1) (range_with_len 0 (n * n))
 
@@ -25,7 +25,7 @@ nodes_of count = count_by (λ i. nat_lt (i * i) count) (range_with_len 0 most_no
 abbrev pub rows_of : ℕ → List Bool → List ℕ
 rows_of n set = map (λ u. mask_l (chunk (u * n) n set)) (range_with_len 0 most_nodes)
 
--- 16 rows: for each of n nodes a set of nodes, followed by zeros
+-- there are 16 rows: for each node u below n, row u is a set of nodes below n, and all rows from n on are 0
 pub record AreRows (n : ℕ) (rows : List ℕ) : Type 0 where
   pub least : 1 ≤ n
   pub most : n ≤ most_nodes

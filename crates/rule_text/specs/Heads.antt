@@ -119,7 +119,7 @@ pub record IsHexStop (digits : List ℕ) (place : ℕ) : Type 0 where
   pub within : place < length digits
   pub stop : ¬ IsHexDigit (slice_index digits place)
 
--- the text has this head, and the entries begin at its place: the text has the head's meaning if it has entries of its kind, and its fault of form is that of the entries otherwise
+-- the text has this head, and the entries begin at its place: the text has the meaning of the head if it has entries of its kind, and otherwise its fault of form is the fault of form of its entries
 pub record IsHead (text : List ℕ) (h : Head) : Type 0 where
   pub within : h.place ≤ length text
   pub says : IsEntries h.kind (drop h.place text) → Says text (said_of h (drop h.place text))

@@ -17,7 +17,7 @@ abbrev pub IsPreimageAnswer : LocalRule → TailConfig → Pre → Type 0
 IsPreimageAnswer r t (From p) = IsFrom r t (placed_config p)
 IsPreimageAnswer r t (Gap before after w) = IsGap r t before after w
 
--- the answer is a placed configuration
+-- whether the answer is a placed configuration, and not a gap
 abbrev pub is_from : Pre → Bool
 is_from (From p) = true
 is_from (Gap before after w) = false

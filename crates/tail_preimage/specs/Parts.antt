@@ -25,7 +25,7 @@ pub record AreTailParts (r : LocalRule) (t : TailConfig) (parts : Parts) : Type 
   pub middle : IsRelation r (HasWalk r t.middle) parts.middle
   pub right : IsRelation r (HasWalk r t.right) parts.right.period
 
--- the relations are those of the parts of some configuration
+-- the relations are the relations of the parts of some configuration
 abbrev pub HaveParts : LocalRule → Parts → Type 0
 HaveParts r parts = (t : TailConfig) × AreTailParts r t parts
 

@@ -12,7 +12,7 @@ pub record IsWalk (r : LocalRule) (w : List ℕ) (u v : ℕ) (x : List ℕ) : Ty
   pub first : value r.states (take (r.width - 1) x) ≡ u
   pub last : value r.states (drop (length w) x) ≡ v
 
--- the letters of a walk without those of its last node
+-- the letters of a walk without the letters of its last node
 abbrev pub before_last : LocalRule → List ℕ → List ℕ
 before_last r x = take (length x - (r.width - 1)) x
 
