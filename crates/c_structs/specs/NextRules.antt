@@ -1,4 +1,4 @@
--- What the C library returns to a call about the rules of a shape that have a property: the table of the next such rule, or the order of the windows.
+-- What the C library returns to a call about the rules of a shape that have a property: the table of the next such rule, or the order of the windows. The rank of a table is the number whose digits are its letters in the order of the windows.
 use Rattle.std.specs.Prelude.{◌≡◌, ◌≢◌, ℕ, ◌^◌, ◌-◌, ◌<◌, ◌≤◌, Bool, true, false, ⊤, List, ◌++◌, length, replicate, Some, None, pos}
 use Rattle.word_image.specs.LocalRules.{LocalRule, IsRule}
 use Rattle.word_image.specs.RuleFaults.{rule_fault, shape_fault}
@@ -28,7 +28,7 @@ IsNoProperty number = (property : Property) → number ≢ property_number prope
 abbrev pub fixed_letters : List ℕ → List ℕ
 fixed_letters begin = begin ++ replicate (256 - length begin) 255
 
--- the rule q is still to come: each rule is at the beginning, and after a table only a rule with a greater rank is
+-- the rule q is still to come: if the first argument is false, each rule is; if it is true, only a rule whose table has a greater rank than the given table is
 abbrev pub IsToCome : Bool → ℕ → List ℕ → List ℕ → LocalRule → Type 0
 IsToCome false states order table q = ⊤
 IsToCome true states order table q = rank states order table < rank states order q.table

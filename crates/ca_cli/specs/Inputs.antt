@@ -5,11 +5,11 @@ use Rattle.std.specs.Prelude.{◌≡◌, ℕ, ◌+◌, ◌≤◌, List, length, 
 abbrev pub most_input : ℕ
 most_input = 4194304
 
--- the bytes are at most as many as the judge accepts, and they are all bytes that the source had left, if it tells its bytes
+-- there are at most as many bytes as the judge accepts, and if the source tells which bytes it has left, the bytes are all that it had left
 pub record IsWholeInput (input : Option (List ℕ)) (bytes : List ℕ) : Type 0 where
   pub all : MatchOption input ⊤ (λ left. bytes ≡ left)
   pub short : length bytes ≤ most_input
 
--- the source had more bytes left than the judge accepts, if it tells its bytes
+-- if the source tells which bytes it has left, it had more bytes left than the judge accepts
 abbrev pub IsLongInput : Option (List ℕ) → Type 0
 IsLongInput input = MatchOption input ⊤ (λ left. most_input + 1 ≤ length left)

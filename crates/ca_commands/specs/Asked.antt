@@ -70,13 +70,13 @@ pub data IsFirstFault : List (List ℕ) → ℕ → TextFault → Type 0 where
   Later : (text : List ℕ) (texts : List (List ℕ)) (r : LocalRule) (i : ℕ) (f : TextFault) → IsRuleText text r → IsFirstFault texts i f
       → IsFirstFault (text ∷ texts) (i + 1) f
 
--- no rules have the shape and the numbers that the operands give, and this is the first fault
+-- no rules have the shape and the numbers that the operands give, and the given fault is the first fault of these operands
 pub data IsShapeFault : Form → List (List ℕ) → TextFault → Type 0 where
   Numbers : (k m from count : List ℕ) (f : TextFault) → numbers_fault (decimal_value k) (decimal_value m) (decimal_value from) (decimal_value count) ≡ Some f
       → IsShapeFault Form.Numbers (k ∷ m ∷ from ∷ count ∷ []) f
   Seed : (k m seed count : List ℕ) (f : TextFault) → sample_fault (decimal_value k) (decimal_value m) ≡ Some f → IsShapeFault Form.Seed (k ∷ m ∷ seed ∷ count ∷ []) f
 
--- the operand with this number is the first with a fault, and this is its first fault; the shape of many rules counts as operand 1
+-- the operand with this number is the first with a fault, and the given fault is its first fault; the shape of many rules counts as operand 1
 pub data IsOperandFault : Command → ℕ → TextFault → Type 0 where
   OfRule : (c : Command) (i : ℕ) (f : TextFault) → IsFirstFault c.rules i f → IsOperandFault c i f
   OfShape : (c : Command) (f : TextFault) → IsShapeFault (form_of c.name) c.operands f → IsOperandFault c 1 f

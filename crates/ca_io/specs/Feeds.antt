@@ -1,4 +1,4 @@
--- The state of a source in memory, and its next call.
+-- A feed is the state of a source of bytes in memory. This file defines the feed after each call.
 use Rattle.std.specs.Prelude.{ℕ, ◌==◌, min, Bool, List, length, drop}
 use Rattle.std.specs.List.{list_any}
 use Rattle.ca_io.specs.Faults.{count_up}

@@ -1,4 +1,4 @@
--- The state of a sink in memory, and its next call.
+-- A tray is the state of a sink of bytes in memory. This file defines the tray after each call.
 use Rattle.std.specs.Prelude.{ℕ, ◌-◌, ◌==◌, nat_le, min, Bool, ◌||◌, List, [], ◌++◌, length}
 use Rattle.std.specs.List.{list_any}
 use Rattle.ca_io.specs.Faults.{count_up}

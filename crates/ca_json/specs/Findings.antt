@@ -1,4 +1,4 @@
--- The JSON of findings.
+-- The JSON of findings. A finding answers a question about rules.
 use Rattle.std.specs.Prelude.{ℕ, ◌*◌, List, [], ◌∷◌, map, drop, take, codes, Option, Some, None}
 use Rattle.std.specs.List.{range_with_len}
 use Rattle.serde_json.specs.Data.{Data, null, boolean, string}
@@ -31,7 +31,7 @@ report_json e = object_of (
     ∷ (codes "number", number_or_null (number_found e.rule)) ∷ (codes "open", boolean (says_open e.right e.left)) ∷ (codes "right", side_json e.right)
     ∷ (codes "rule", string (printed_rule e.rule)) ∷ (codes "surjective", surjective_json e.orphan) ∷ (codes "weights", numbers_json e.weights) ∷ [])
 
--- the JSON of a map over a window, and of the map as a rule
+-- the JSON of the inverse map of a window (n, c): its letters, its offset, the map as a rule or null, and the window
 abbrev pub inverse_json : ℕ → ℕ → WindowMap → Option LocalRule → Data
 inverse_json n c g rule = object_of (
     (codes "map", word_value g.table) ∷ (codes "offset", signed_value g.offset) ∷ (codes "rule", rule_or_null rule) ∷ (codes "window", two (whole_value n) (whole_value c)) ∷ [])

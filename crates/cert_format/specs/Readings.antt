@@ -1,4 +1,4 @@
--- How bytes and JSON values are read as a certificate and its parts, and the faults of reading.
+-- How bytes and JSON values are read as a certificate and its parts, and the faults of reading. A claim is a bound of the rank of a pair of nodes, or None.
 use Rattle.std.specs.Prelude.{◌≡◌, ℕ, ◌⊎◌, ◌+◌, ◌-◌, ◌≤◌, length, All, ℤ, List, [], ◌∷◌, Option, alloc_error}
 use Rattle.serde_json.specs.Data.{Data, null, boolean, number, string, array, object, Members, no_members}
 use Rattle.word_image.specs.LocalRules.{LocalRule, IsWord, node_count}
@@ -49,7 +49,7 @@ IsTailsValue k d x y = IsArrayOf IsTailString d (x ∷ y ∷ []) × IsShortTail 
 abbrev pub IsShort : Data → ℕ → Type 0
 IsShort d n = IsWhole d n × (n ≤ 65535)
 
--- the JSON value is this claim: null, or a whole number of sixteen bits
+-- the JSON value is the given claim: null, or a whole number of sixteen bits
 abbrev pub IsRankValue : Data → Option ℕ → Type 0
 IsRankValue d o = IsClaimValue d o × IsClaim o
 
@@ -97,7 +97,7 @@ IsSideFor r d e = IsSideValue d e × IsSideShape r e
 abbrev pub IsSumFor : LocalRule → Data → SumEvidence → Type 0
 IsSumFor r d e = IsSumValue d e × IsSumShape r e
 
--- the JSON value is an array of these claims, one for each pair of nodes
+-- the JSON value is an array of the claims in the row, one for each pair of nodes
 abbrev pub IsRowFor : LocalRule → Data → List (Option ℕ) → Type 0
 IsRowFor r d row = IsArrayOf IsClaimValue d row × IsRankShape r row
 
@@ -105,14 +105,14 @@ IsRowFor r d row = IsArrayOf IsClaimValue d row × IsRankShape r row
 abbrev pub AreRanksFor : LocalRule → Data → List (Option ℕ) → List (Option ℕ) → Type 0
 AreRanksFor r d forward backward = IsRanksValue d forward backward × IsRankShape r forward × IsRankShape r backward
 
--- the fault f is that the step for the key k fails, and then P isn't true, or that there is no memory
+-- the fault f says that there is no memory, or that the step for the key k fails; if it says that the step fails, P isn't true
 abbrev pub IsStepFault : Key → Type 0 → CertFault → Type 0
 IsStepFault k P f = (f ≡ fault.Memory alloc_error) ⊎ ((f ≡ fault.Format (shape.Shape k)) × ¬ P)
 
--- the fault f is that a step of reading the parts fails, and then it is the first that fails, or that there is no memory
+-- the fault f says that there is no memory, or it names the first step of reading the parts that fails
 abbrev pub IsPartFault : CertVersion → LocalRule → Members → CertFault → Type 0
 IsPartFault version r ms f = (f ≡ fault.Memory alloc_error) ⊎ ((k : Key) × (f ≡ fault.Format (shape.Shape k)) × IsFirstWithout (Passes version r ms) part_steps k)
 
--- the reason why no certificate is read from the bytes: there is no memory, or this is the first fault of the bytes
+-- the reason f why no certificate is read from the bytes: there is no memory, or f is the first fault of the bytes
 abbrev pub IsCertFault : List ℕ → CertFault → Type 0
 IsCertFault bytes f = (f ≡ fault.Memory alloc_error) ⊎ ((s : ShapeFault) × (f ≡ fault.Format s) × IsShapeFault bytes s)

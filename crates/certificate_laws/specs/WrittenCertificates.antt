@@ -31,7 +31,7 @@ pub record IsRankRow (r : LocalRule) (Together : ℕ → ℕ → ℕ → Type 0)
   pub ranks : (p : ℕ) → p < pair_count r
       → MatchOption (get_or row p None) (IsEndless (Together (first_of r p) (second_of r p))) (IsRank (Together (first_of r p) (second_of r p)))
 
--- the certificate has this version, and its evidence is what the program writes for the rule and weights
+-- the certificate has this version, these weights, the least evidence for the rule, the right list for the version if the rule is surjective, and the exact ranks of all pairs of nodes
 pub record HasWrittenParts (version : CertVersion) (r : LocalRule) (weights : List ℕ) (c : Certificate) : Type 0 where
   pub version_is : c.version ≡ version
   pub weights_are : c.weights ≡ weights

@@ -1,7 +1,7 @@
 -- The principle `OneOfTwo`, which isn't provable constructively, and the principle `AllOrNot`, from which it follows.
 use Rattle.std.specs.Prelude.{◌≡◌, ◌⊎◌, ℕ, suc, Bool, true}
 
--- if the test passes at a number, it passes at the number before
+-- the test is falling: if it passes at the number after n, it passes at n
 abbrev pub Falls : (ℕ → Bool) → Type 0
 Falls test = (n : ℕ) → test (suc n) ≡ true → test n ≡ true
 

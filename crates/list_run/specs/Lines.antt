@@ -1,4 +1,4 @@
--- The lines that the program writes: the lines of a list of rules, and the lines for wrong words and for faults.
+-- The lines that the program writes: the lines of a list of rules, and the lines for wrong words and for faults. A beginning is the text of a rule in table form that may end after some letters of the table.
 use Rattle.std.specs.Prelude.{◌≡◌, ℕ, ◌-◌, ◌^◌, List, [], ◌∷◌, ◌++◌, length, min, codes}
 use Rattle.std.specs.Fmt.{decimal}
 use Rattle.word_image.specs.LocalRules.{LocalRule}
@@ -10,11 +10,11 @@ use Rattle.rule_text.specs.FaultTexts.{fault_text}
 abbrev pub line : List ℕ → List ℕ
 line text = text ++ 10 ∷ []
 
--- the line if the words aren't a property and a text
+-- the line that the program writes if the words of the command line aren't a property and a text
 abbrev pub usage_line : List ℕ
 usage_line = line (codes "usage error")
 
--- the line if the beginning, which is the only operand, has this fault
+-- the line that the program writes if the beginning, which is the only operand, has the fault f
 abbrev pub fault_line : TextFault → List ℕ
 fault_line f = line (codes "rule fault 1 " ++ fault_text f)
 

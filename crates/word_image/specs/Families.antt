@@ -1,4 +1,4 @@
--- The last node of a preimage is its last m - 1 letters, if the rule has width m, and each word has a set: the last nodes of all its preimages. This file lists these sets in the order of the least words that have them (Sutner 1991), and picks the covers among them.
+-- The last node of a preimage is its last m - 1 letters, if the rule has width m, and each word has a set: the last nodes of all its preimages. This file lists these sets in the order of the least words that have them (Sutner 1991), and picks the covers among them: the set of all nodes, and each set that contains no other set of the list.
 use Rattle.std.specs.Prelude.{◌≡◌, ◌≢◌, ℕ, ◌+◌, ◌<◌, ◌⊎◌, List, ◌∷◌, length, slice_index, slice_get, Some, Contains, Bool, bit_and, ◌==◌, ◌&&◌, not}
 use Rattle.std.specs.List.{AllZip, filter, list_any}
 use Rattle.std.specs.declared.cmp.Ordering.TheVariants.{Less, Greater}

@@ -2,7 +2,7 @@
 use Rattle.std.specs.Prelude.{◌≡◌, ℕ, ◌<◌, List, length, slice_index}
 use Rattle.word_image.specs.LocalRules.{IsWord}
 
--- a word of n letters below k that has at each place the letter to which the relation `gives` relates this place
+-- w is a word of n letters below k, and if the relation `gives` relates a place to a letter, w has this letter at the place
 pub record IsWordBy (k n : ℕ) (gives : ℕ → ℕ → Type 0) (w : List ℕ) : Type 0 where
   pub word : IsWord k w
   pub long : length w ≡ n
