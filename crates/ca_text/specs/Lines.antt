@@ -27,7 +27,7 @@ map_lines n c g rule =
 abbrev pub classes_line : ℕ → List ℕ
 classes_line n = line (codes "classes " ++ decimal n)
 
--- the line with the class of the orphans, or with none if there are no orphans
+-- the line with the number of the class of the orphans, or with the word none if there are no orphans
 abbrev pub dead_line : Option ℕ → List ℕ
 dead_line None = line (codes "dead none")
 dead_line (Some i) = line (codes "dead " ++ decimal i)

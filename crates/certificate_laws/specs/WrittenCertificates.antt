@@ -1,4 +1,4 @@
--- The certificate that the program writes for a rule and weights of its letters: the least evidence, and the exact ranks. For a surjective rule version 2 has its cover list, and version 3 its reached pairs.
+-- The certificate that the program writes for a rule and weights of its letters: the least evidence, and the exact ranks. For a surjective rule version 2 has its cover list: the set of all nodes, and each minimal set of last nodes of the preimages of a word. Version 3 has its reached pairs: the pairs of nodes to which two walks with equal labels lead that parted at one node.
 use Rattle.std.specs.Prelude.{◌≡◌, ℕ, ◌<◌, List, length, slice_index, get_or, Option, Some, None, MatchOption, ⊤}
 use Rattle.word_image.specs.LocalRules.{LocalRule}
 use Rattle.word_image.specs.Graphs.{first_of, second_of, pair_count}

@@ -19,9 +19,9 @@ map_rule g = record {
 abbrev pub map_image : WindowMap → List ℕ → List ℕ
 map_image g x = map (λ i. map_letter g (slice_range x i (i + g.width))) (range_with_len 0 (length x + 1 - g.width))
 
--- properties of the map of a determined window for configurations, for words of n + m - 1 letters, and for their images
+-- the properties of the map g: what it gives for configurations and for words of n + m - 1 letters, and that words of n letters have preimages
 pub record GivesBack (r : LocalRule) (n c : ℕ) (g : WindowMap) : Type 0 where
-  -- the map computes each cell of a configuration from n cells of its image, starting at the offset
+  -- the map computes cell i of a configuration from the n cells of its image that begin at cell i + offset
   pub cells : (t : TailConfig) → IsTail r.states t → (i : ℤ) → map_letter g (map (λ j. image_cell r t (i +ℤ g.offset +ℤ pos j)) (range_with_len 0 n)) ≡ cell t i
   -- the map computes the letter of a word at place c from the image of the word
   pub back : (x : List ℕ) → IsWord r.states x → length x ≡ n + (r.width - 1) → map_letter g (image r x) ≡ slice_index x c

@@ -1,4 +1,4 @@
--- The status and the output that are right for the words of the command line.
+-- The status and the output that are right for the words of the command line. A beginning is the text of a rule in table form that may end after some letters of the table.
 use Rattle.std.specs.Prelude.{◌≡◌, ℕ, List, [], ◌∷◌, codes}
 use Rattle.rule_text.specs.declared.text_fault.TextFault.{TextFault}
 use Rattle.rule_text.specs.declared.beginnings.Beginning.{Beginning}

@@ -1,4 +1,4 @@
--- The list that the program writes: the lines of all rules with a property, or of the first of these rules.
+-- The list that the program writes: the lines of all rules with a property whose tables begin with given letters, or of the first of these rules. A beginning has the given letters.
 use Rattle.std.specs.Prelude.{◌≡◌, ℕ, ◌^◌, ◌<◌, ◌≤◌, List, ◌++◌, slice_index, Option, None}
 use Rattle.word_image.specs.LocalRules.{LocalRule}
 use Rattle.rule_text.specs.declared.beginnings.Beginning.{Beginning}

@@ -1,4 +1,4 @@
--- How a reader goes through the head of a text, which is the part before its entries.
+-- How the program reads the head of the text of a rule. The head is the part before the entries: the states, the width, the offset and the kind of the entries.
 use Rattle.std.specs.Prelude.{◌≡◌, ◌≢◌, ℕ, ◌+◌, ◌<◌, ◌≤◌, ◌⊎◌, Bool, true, false, List, [], ◌++◌, length, map, take, drop, codes, slice_index, All, ℤ, pos, neg_ℤ}
 use Rattle.rule_text.specs.declared.text_fault.TextFault.{TextFault}
 use Rattle.rule_text.specs.declared.text_fault.TextFault.TheVariants as fault

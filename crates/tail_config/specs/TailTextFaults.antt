@@ -1,4 +1,4 @@
--- The first fault of a text that should describe a configuration, and how such a text is split into three parts.
+-- The first fault of a text that should describe a configuration, and how a text like this is split into the left period, the middle and the right period.
 use Rattle.std.specs.Prelude.{◌≡◌, ◌≢◌, ℕ, ◌<◌, ◌≤◌, List, ◌++◌, length, map, codes, slice_index, slice_range, Some, All}
 use Rattle.word_image.specs.Digits.{IsHexDigit, letter_at}
 use Rattle.word_image.specs.Grammars.{IsFormFault}
@@ -26,13 +26,13 @@ pub record IsDigitsEnd (text : List ℕ) (start end : ℕ) : Type 0 where
 abbrev pub bar : ℕ
 bar = 124
 
--- digits begin at the place `start`, and a bar follows them at this place
+-- hexadecimal digits begin at the place `start` of the text, and a bar follows them at the place `place`
 pub record IsBarAfter (text : List ℕ) (start place : ℕ) : Type 0 where
   pub digits : IsDigitsEnd text start place
   pub inside : place < length text
   pub byte : slice_index text place ≡ bar
 
--- digits begin at the place `start`, and no bar follows them at this place
+-- hexadecimal digits begin at the place `start` of the text and end right before the place `place`, where no bar follows them
 pub record LacksBar (text : List ℕ) (start place : ℕ) : Type 0 where
   pub digits : IsDigitsEnd text start place
   pub other : place < length text → slice_index text place ≢ bar

@@ -2,7 +2,7 @@
 use Rattle.std.specs.Prelude.{◌≡◌, ℕ, ◌^◌, ◌<◌, slice_index, ℤ}
 use Rattle.word_image.specs.LocalRules.{LocalRule, IsRule}
 
--- an accepted rule with k states, width m and offset o, whose table has at each value of a window the letter to which the relation `gives` relates this value
+-- r is an accepted rule with k states, width m and offset o, and if the relation `gives` relates the value of a window to a letter, its table has this letter at this value
 pub record IsRuleBy (k m : ℕ) (o : ℤ) (gives : ℕ → ℕ → Type 0) (r : LocalRule) : Type 0 where
   pub rule : IsRule r
   pub states : r.states ≡ k
