@@ -60,7 +60,7 @@ counts_json t = object_of (
     (codes "conserving", whole_value t.conserving) ∷ (codes "injective", whole_value t.injective) ∷ (codes "left", whole_value t.left) ∷ (codes "open", whole_value t.open_)
     ∷ (codes "right", whole_value t.right) ∷ (codes "rules", whole_value t.rules) ∷ (codes "surjective", whole_value t.surjective) ∷ [])
 
--- the JSON of a finding, under a key that says its kind
+-- the JSON of a finding, under a key for the kind of the finding
 abbrev pub finding_json : Finding → Data
 finding_json (Finding.Report e) = tagged (codes "report") (report_json e)
 finding_json (Finding.Written c) = tagged (codes "certificate") (certificate_value c)

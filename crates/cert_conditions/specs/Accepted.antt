@@ -32,7 +32,7 @@ pub record IsAccepted (bytes : List ℕ) (v : Verdicts) : Type 0 where
   pub meets : MeetsConditions certificate
   pub verdicts : v ≡ verdicts_of certificate
 
--- each verdict is true of the rule, and the verdict whether it is conserving is true under the weights
+-- each verdict says yes if and only if the rule has the property, and for conservation the letters have the weights of the certificate
 pub record AreTrue (v : Verdicts) : Type 0 where
   pub surjective : IsTrue v.surjective ↔ IsSurjective v.rule
   pub injective : IsTrue v.injective ↔ IsInjective v.rule

@@ -17,7 +17,7 @@ StepIsListed r pairs p a b = (q : ℕ) → follow r p a b ≡ Some q → Contain
 abbrev pub StepsAreListed : LocalRule → List ℕ → ℕ → Type 0
 StepsAreListed r pairs p = EachBelow r.states (λ a. EachBelow r.states (StepIsListed r pairs p a))
 
--- a is the first letter, and b the first letter beside a, for which the letters (a, b) lead from pair p to a pair that isn't listed
+-- a is the least letter for which letters (a, b) lead from pair p to a pair that isn't listed, and b is the least second letter for this a
 pub record IsFirstLeaving (r : LocalRule) (pairs : List ℕ) (p a b : ℕ) : Type 0 where
   pub first : IsFirstBreach r.states (λ a. EachBelow r.states (StepIsListed r pairs p a)) a
   pub second : IsFirstBreach r.states (StepIsListed r pairs p a) b

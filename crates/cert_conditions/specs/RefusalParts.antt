@@ -70,7 +70,7 @@ on s p = record { cause = p.cause; side = Some (side_text s); because = p.becaus
 abbrev pub because : List ℕ → Parts → Parts
 because why p = record { cause = p.cause; side = p.side; because = Some why; key = p.key; fault = p.fault; numbers = p.numbers }
 
--- the number of the place of a fault, if it has a place
+-- the numbers of a refusal that names a fault: the place of the fault, or no number if the fault has no place
 abbrev pub place_number : Option ℕ → RefusalNumbers
 place_number None = numbers.None
 place_number (Some place) = numbers.One place

@@ -1,4 +1,4 @@
--- The results of a search for the least orphan of a rule.
+-- The results of a search for the least orphan of a rule. The family of a rule has the sets of last nodes of the preimages of each word. Its covers are the set of all nodes, and each set that contains no other set of the family.
 use Rattle.std.specs.Prelude.{◌≡◌, ◌≤◌, ℕ, List, [], length}
 use Rattle.word_image.specs.LocalRules.{LocalRule}
 use Rattle.word_image.specs.Words.{IsSurjective, IsLeastOrphan}

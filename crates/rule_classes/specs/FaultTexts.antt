@@ -1,4 +1,4 @@
--- The words for the reasons why a rule has no lift.
+-- The words for the reasons why a rule has no second-order lift, which is a rule on pairs of letters.
 use Rattle.std.specs.Prelude.{ℕ, List, codes}
 use Rattle.rule_classes.specs.declared.lifts.LiftFault.{LiftFault}
 use Rattle.rule_classes.specs.declared.lifts.LiftFault.TheVariants as lift

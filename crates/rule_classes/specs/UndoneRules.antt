@@ -1,4 +1,4 @@
--- When one rule undoes another rule of the same width m and offset o.
+-- When a rule undoes a rule. The first rule and the second rule have the same width m and the same offset o.
 use Rattle.std.specs.Prelude.{◌≡◌, ℕ, ◌+◌, ◌-◌, ◌*◌, ◌<◌, List, length, slice_index, pos, ◌-ℤ◌}
 use Rattle.word_image.specs.LocalRules.{LocalRule, IsWord}
 use Rattle.word_image.specs.Words.{image}

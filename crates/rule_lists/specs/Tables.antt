@@ -1,4 +1,4 @@
--- Tables whose letters at the first windows of an order are known. A search goes through them by ascending rank.
+-- Tables whose letters at the first windows of an order are known. A search goes through them by ascending rank. The rank of a table is the number whose digits are its letters in the order of the windows.
 use Rattle.std.specs.Prelude.{◌≡◌, ℕ, ◌-◌, ◌*◌, ◌^◌, ◌<◌, ◌≤◌, ◌⊎◌, List, slice_index, Option, Some, None}
 use Rattle.rule_lists.specs.Ranks.{rank_of_first}
 
