@@ -19,7 +19,7 @@ tail_name tail.RightEmpty = codes "rightempty"
 tail_name (tail.Long part) = codes "long"
 tail_name (tail.Letter part place) = codes "letter"
 
--- the JSON of a cause why nothing fits, under a key that says its kind
+-- the JSON of a cause why nothing fits, under a key for the kind of the cause
 abbrev pub unfit_json : Unfit → Data
 unfit_json (Unfit.Twins x y) = tagged (codes "twins") (two (word_value x) (word_value y))
 unfit_json (Unfit.Wide n) = tagged (codes "wide") (whole_value n)
@@ -56,7 +56,7 @@ parts_json p = object_of (
     (codes "at", places_json p.numbers) ∷ (named (codes "because") p.because ++ ((codes "cause", string p.cause) ∷ (named (codes "fault") p.fault
     ++ (named (codes "key") p.key ++ (named (codes "side") p.side ++ (status (codes "refused") ∷ [])))))))
 
--- the members with one more, which has this key and this word, or the same members if there is no word
+-- the given members and one more member, which has the given key and the given word, or only the given members if there is no word
 abbrev pub put_named : List ℕ → Option (List ℕ) → Members → Members
 put_named key None ms = ms
 put_named key (Some word) ms = put key (string word) ms

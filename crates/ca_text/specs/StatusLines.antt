@@ -14,15 +14,15 @@ use Rattle.cert_conditions.specs.RefusalParts.{Parts, parts_of}
 use Rattle.cert_conditions.specs.Accepted.{is_open}
 use Rattle.ca_text.specs.Reports.{line}
 
--- the line if the words are no command
+-- the line that the program prints if the words of the command line are no command
 abbrev pub usage_line : List ℕ
 usage_line = line (codes "usage error")
 
--- the line if the operand with this number has this fault
+-- the line that the program prints if the operand with this number has the fault f
 abbrev pub operand_fault_line : ℕ → TextFault → List ℕ
 operand_fault_line operand f = line (codes "rule fault " ++ decimal operand ++ codes " " ++ fault_text f)
 
--- the line if the input is too long
+-- the line that the program prints if the input is too long
 abbrev pub too_long_line : List ℕ
 too_long_line = line (codes "too long")
 

@@ -47,7 +47,7 @@ IsNear r x n N = (y : Config) → IsConfig r.states y → AgreeWithin N (image_o
 abbrev pub IsOpenMap : LocalRule → Type 0
 IsOpenMap r = (x : Config) (n : ℕ) → IsConfig r.states x → (N : ℕ) × IsNear r x n N
 
--- the map is uniformly open: for each n one N serves for all x
+-- the map is uniformly open: for each n there is one N for all x, such that each configuration that agrees with the image of x from -N to N is the image of a configuration that agrees with x from -n to n
 abbrev pub IsEvenlyOpenMap : LocalRule → Type 0
 IsEvenlyOpenMap r = (n : ℕ) → (N : ℕ) × ((x : Config) → IsConfig r.states x → IsNear r x n N)
 

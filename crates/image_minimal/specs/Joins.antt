@@ -28,7 +28,7 @@ pub record IsOnWay (old new : List ℕ) (number at : ℕ) : Type 0 where
   pub within : at ≤ number
   pub one : (f : ℕ → Bool) → AreColours old f → f number ≡ f at
 
--- if `joined` is false, x and y were in one class before; each colouring for the old parents in which x and y have one colour is a colouring for the new parents; and the sum of all parents is less than before if `joined` is true, and no greater if not
+-- x and y are joined: each colouring for the old parents that gives x and y one colour is a colouring for the new parents, and the sum of all parents doesn't grow; if `joined` is true, the sum falls, and if it is false, x and y were in one class before
 pub record IsJoin (old new : List ℕ) (x y : ℕ) (joined : Bool) : Type 0 where
   pub long : length new ≡ length old
   pub one : (f : ℕ → Bool) → AreColours old f → joined ≡ false → f x ≡ f y

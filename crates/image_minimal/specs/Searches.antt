@@ -16,7 +16,7 @@ AreUnreadSets r sets = (set : ℕ) → Contains sets set ↔ IsUnreadSet r set
 abbrev pub IsClassSearch : LocalRule → List ℕ → ℕ → Type 0
 IsClassSearch r = IsSearch (IsClosedStep r) r.states (full_set r)
 
--- the list `closures` has the closure of each set; the list `classes` has the set of each class of the least automaton; the step of a class on a letter leads to the class that has the closure of the set that the letter reaches; and the class of the orphans has the empty set
+-- `closures` has the closure of each set, and `classes` has a set for each class of the least automaton, in the order of the classes; on each letter, a step from the set of a class leads to a set whose closure is the set of the next class; and the class of the orphans has the empty set
 pub record HasClasses (r : LocalRule) (closures classes : List ℕ) : Type 0 where
   pub rule : IsRule r
   pub closed : AreClosures r closures

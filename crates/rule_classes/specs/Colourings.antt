@@ -53,7 +53,7 @@ in_colours r c = record { states = r.states; width = r.width; offset = pos 0; ta
 abbrev pub recoloured_number : LocalRule → Colouring → ℕ
 recoloured_number r c = wolfram_number (in_colours r c)
 
--- the colour is chosen: it is below low, or at least high; the other colours are free
+-- the colour is chosen: it is below `low`, or at least `high`; the colours from `low` to `high` - 1 are free
 abbrev pub IsChosen : ℕ → ℕ → ℕ → Type 0
 IsChosen low high colour = (colour < low) ⊎ (high ≤ colour)
 

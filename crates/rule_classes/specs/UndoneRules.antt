@@ -1,4 +1,4 @@
--- When a rule undoes a rule. The first rule and the second rule have the same width m and the same offset o.
+-- This file says when the second of two rules undoes the first. The first rule has width m and offset o, and the second rule has the same width and offset.
 use Rattle.std.specs.Prelude.{◌≡◌, ℕ, ◌+◌, ◌-◌, ◌*◌, ◌<◌, List, length, slice_index, pos, ◌-ℤ◌}
 use Rattle.word_image.specs.LocalRules.{LocalRule, IsWord}
 use Rattle.word_image.specs.Words.{image}

@@ -1,4 +1,4 @@
--- A flux of a number-conserving rule has a number for each node. This file defines what the fixed letters of a table say about each flux of each rule that has them. Nodes are joined to trees, and each node has a level in its tree: the difference of two levels in a tree is the difference of the numbers of these nodes.
+-- A flux of a number-conserving rule has a number for each node. This file defines what the fixed letters of a table say about each flux of each rule that has these letters. Nodes are joined to trees, and each node has a level in its tree: the difference of the levels of two nodes of a tree is the difference of their numbers in each flux.
 use Rattle.std.specs.Prelude.{◌≡◌, ◌≢◌, ◌≤◌, ℕ, ◌+◌, ◌/◌, ◌%◌, ◌<◌, List, slice_index, slice_index_or, ℤ, pos, ◌-ℤ◌}
 use Rattle.word_image.specs.LocalRules.{LocalRule, node_count, most_nodes}
 use Rattle.word_image.specs.Rings.{IsFlux}

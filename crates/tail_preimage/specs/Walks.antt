@@ -24,7 +24,7 @@ HasWalk r w u v = (x : List ℕ) × IsWalk r w u v x
 abbrev pub Reaches : LocalRule → List ℕ → ℕ → ℕ → Type 0
 Reaches r w goal u = (v : ℕ) × IsBitSet goal v × HasWalk r w u v
 
--- x is the first walk of w, in dictionary order, from node u into a set of nodes, and it ends with node v
+-- x is the first walk along w, in dictionary order, from node u into the set `goal`, and it ends with node v
 pub record IsLeastWalkInto (r : LocalRule) (w : List ℕ) (u goal v : ℕ) (x : List ℕ) : Type 0 where
   pub walk : IsWalk r w u v x
   pub within : IsBitSet goal v

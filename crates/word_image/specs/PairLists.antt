@@ -1,4 +1,4 @@
--- Lists of pairs of nodes that prove a rule surjective.
+-- Lists of pairs of nodes that prove a rule surjective. A first pair on the right consists of two nodes that two different letters reach from the same node, along edges with equal labels.
 use Rattle.std.specs.Prelude.{◌≡◌, ◌≢◌, ℕ, ◌<◌, List, Contains, Some}
 use Rattle.word_image.specs.LocalRules.{LocalRule}
 use Rattle.word_image.specs.Graphs.{pair_count, follow, first_of, second_of}
