@@ -8,7 +8,7 @@ use Rattle.cert_conditions.specs.Sets.{IsKept}
 abbrev pub without : ℕ → ℕ → ℕ
 without set node = bit_and set (bit_not w16 (1 * 2 ^ node % 2 ^ 16))
 
--- the rows mark this set of nodes: each row has 16 bits, one bit for each of 16 sets
+-- the rows mark the set s of nodes: each row has 16 bits, one bit for each of 16 sets
 abbrev pub IsMarked : List ℕ → ℕ → Type 0
 IsMarked rows s = IsBitSet (slice_index rows (s / 16)) (s % 16)
 

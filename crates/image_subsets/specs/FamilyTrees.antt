@@ -1,4 +1,4 @@
--- The last node of a preimage is its last m - 1 letters, if the rule has width m. Each word has a set: the last nodes of all its preimages. The family of a rule is the list of these sets. A tree also has the parent of each set: the place of an earlier set and the letter of a step from that set to this one.
+-- The last node of a preimage is its last m - 1 letters, if the rule has width m. Each word has a set: the last nodes of all its preimages. The family of a rule is the list of these sets. A tree also has the parent of each set: the place of an earlier set and the letter on which a step leads from there to the set.
 use Rattle.std.specs.Prelude.{◌≡◌, ℕ, ◌<◌, ◌≤◌, List, length, slice_index, slice_get, Option, Some, MatchOption}
 use Rattle.word_image.specs.LocalRules.{LocalRule, IsRule, most_sets}
 use Rattle.word_image.specs.Graphs.{full_set}

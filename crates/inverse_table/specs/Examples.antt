@@ -17,7 +17,7 @@ map_rule-right_shift = refl
 abbrev sum : WindowMap
 sum = record { states = 2; width = 2; offset = pos 0; table = 0 ∷ 1 ∷ 1 ∷ 0 ∷ [] }
 
--- the image of a word under this map: each letter except the last is added to the next one
+-- the image of the word 0110 under the map `sum`: each letter except the last is added to the next one
 map_image-sum : map_image sum (0 ∷ 1 ∷ 1 ∷ 0 ∷ []) ≡ 1 ∷ 0 ∷ 1 ∷ []
 map_image-sum = refl
 

@@ -12,7 +12,7 @@ pub record AreImageValues (r : LocalRule) (n : ℕ) (images : List ℕ) : Type 0
 abbrev pub labels_from : LocalRule → ℕ → List ℕ
 labels_from r u = slice_range r.table (u * r.states) (u * r.states + r.states)
 
--- a letter of the word with this value; `unit` is k to the power of the number of letters after it
+-- a letter of the word with the value `word`; `unit` is k to the power of the number of letters after this letter
 abbrev pub letter_by_unit : ℕ → ℕ → ℕ → ℕ
 letter_by_unit k unit word = word / unit % k
 

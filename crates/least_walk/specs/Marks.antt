@@ -20,7 +20,7 @@ HasPair r rows t = IsBitSet (slice_index rows (row_of r t)) (second_of r (pair_p
 abbrev pub IsAdded : LocalRule → List ℕ → ℕ → List ℕ → Type 0
 IsAdded r rows t after = (s : ℕ) → s < 2 * pair_count r → (HasPair r after s ↔ ((s ≡ t) ⊎ HasPair r rows s))
 
--- these parts are the mark, the first node and the second node of the marked pair t
+-- the given parts are the mark, the first node and the second node of the marked pair t
 pub record ArePartsOf (r : LocalRule) (parts : PairParts) (t : ℕ) : Type 0 where
   pub mark : parts.mark ≡ t / pair_count r
   pub first : parts.first ≡ first_of r (pair_part r t)

@@ -56,7 +56,7 @@ pub record IsEnded (r : LocalRule) (ends : Ends) (queue : List Reached) (most : 
   pub near : (i : ℕ) (x : Reached) → slice_get queue i ≡ Some x → x.depth ≤ most
   pub walking : IsWalking r ends queue edges
 
--- the first edge that leads to the goal begins at this place of the queue, and `step` is the number of its letters
+-- the first edge that leads to the goal begins at the place `place` of the queue, and `step` is the number of its letters
 pub record IsArrival (r : LocalRule) (ends : Ends) (queue : List Reached) (place step : ℕ) : Type 0 where
   pub from : Reached
   pub stands : slice_get queue place ≡ Some from
@@ -66,11 +66,11 @@ pub record IsArrival (r : LocalRule) (ends : Ends) (queue : List Reached) (place
   pub sought : ends.goal ≡ Some goal
   pub arrives : MarkedStep r from.pair step goal
 
--- fewer than `most` steps lead from the start to this place of the queue
+-- fewer than `most` steps lead from the start to the place `place` of the queue
 abbrev pub IsNearStart : List Reached → ℕ → ℕ → Type 0
 IsNearStart queue place most = (x : Reached) → slice_get queue place ≡ Some x → x.depth < most
 
--- if the marked pair at this place leads to a marked pair on the first letter a and on a second letter that isn't in this set, the latter marked pair is in the rows
+-- if the marked pair at the given place leads to a marked pair q on the first letter a and on a second letter that isn't in the set `letters`, the pair q is in the rows
 abbrev pub IsOldBut : LocalRule → List Reached → List ℕ → ℕ → ℕ → ℕ → Type 0
 IsOldBut r queue rows place a letters =
     (x : Reached) (b q : ℕ) → slice_get queue place ≡ Some x → b < r.states → ¬ IsBitSet letters b → marked r x.pair a b ≡ Some q → HasPair r rows q

@@ -8,7 +8,7 @@ use Rattle.tail_config.specs.Tails.{TailConfig, IsTail, image_cell}
 abbrev pub KeepsImages : LocalRule → LocalRule → Type 0
 KeepsImages r g = (t : TailConfig) (i : ℤ) → IsTail r.states t → image_cell g t i ≡ image_cell r t i
 
--- the rule with the same table and its window moved to the right by this number of cells
+-- the rule r with its window moved to the right by the given number of cells
 abbrev pub shifted : LocalRule → ℤ → LocalRule
 shifted r by = record { states = r.states; width = r.width; offset = r.offset +ℤ by; table = r.table }
 
