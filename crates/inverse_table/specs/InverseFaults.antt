@@ -11,7 +11,7 @@ pub record IsApartAt (r : LocalRule) (n c : ℕ) (x y : List ℕ) : Type 0 where
   pub one_image : HaveOneImage r n x y
   pub differ : slice_index x c ≢ slice_index y c
 
--- the window (n, c) has this fault: if it is Wide, its map would have more than 65,536 letters; if not, its map would have at most 65,536 letters, and NotDetermined also says that the words x and y show that the window isn't determined
+-- the window (n, c) has the given fault: Wide says that its map would have more than 65,536 letters; for the other faults it would have at most 65,536 letters, and NotDetermined says that the words x and y show that the window isn't determined, and Memory that there is no memory
 abbrev pub IsInvFault : LocalRule → ℕ → ℕ → InvFault → Type 0
 IsInvFault r n c Wide = most_map_entries < r.states ^ n
 IsInvFault r n c (NotDetermined x y) = (r.states ^ n ≤ most_map_entries) × IsApartAt r n c x y
