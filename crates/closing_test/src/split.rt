@@ -16,7 +16,7 @@ use pair_graph::Pairs;
 use std::alloc::{AllocError, Global};
 use tail_config::Tail;
 
-/// Which letter of a pair of letters is meant.
+/// The first or the second letter of a pair of letters.
 #[derive(Clone, Copy)]
 pub enum Letter {
     First,

@@ -129,8 +129,9 @@ pub(crate) fn later(a: Option<u16>, b: Option<u16>) -> Option<u16>
     Some(a?.max(b?))
 }
 
-/// Returns the least n for which no two walks of n steps with equal labels lead from u and v on this side, or None if
-/// there are such walks for every n. It is one more than the rank of the two nodes.
+/// Returns the least n for which no two walks of n steps with equal labels lead from u and v, forward on the right
+/// side and backward on the left, or None if there are such walks for every n. It is one more than the rank of the
+/// two nodes.
 fn apart(ranks: &Ranks, side: Side, u: u8, v: u8) -> Option<u16>
     requires rule { IsRule ranks.now }
     requires first { u < node_count ranks.now }

@@ -28,11 +28,11 @@ pub struct Parts {
 pub struct Spans {
     /// The number of given left periods in the middle of the placed configuration.
     pub before: u8,
-    /// The number of given left periods in its left period.
+    /// The number of given left periods in the left period of the placed configuration.
     pub back: u8,
-    /// The number of given right periods in its middle.
+    /// The number of given right periods in the middle of the placed configuration.
     pub after: u8,
-    /// The number of given right periods in its right period.
+    /// The number of given right periods in the right period of the placed configuration.
     pub on: u8,
 }
 
