@@ -25,7 +25,7 @@ pub struct TailRows {
     pub right: LetterRow,
 }
 
-/// The rows of two words.
+/// The rows of the two words of twins.
 #[repr(C)]
 #[derive(Clone, Copy, Debug)]
 pub struct TwinRows {
@@ -33,7 +33,7 @@ pub struct TwinRows {
     pub y: LetterRow,
 }
 
-/// The rows of the parts of two configurations.
+/// The rows of the parts of the two configurations of a split.
 #[repr(C)]
 #[derive(Clone, Copy, Debug)]
 pub struct SplitRows {

@@ -56,8 +56,8 @@ fn first_too_far(rule: &Rule, side: Side, claims: &[Option<u16>], n: u16) -> Opt
     None
 }
 
-/// Returns whether a pair is a first pair on this side: its nodes differ only in the letter at their end on this
-/// side, and some letter at their other end gives windows with equal labels.
+/// Returns whether a pair is a first pair on this side. It is one if its nodes differ only in the letter at their end
+/// on this side, and if some letter, added to both nodes at their other end, gives two windows with equal labels.
 pub fn is_first(rule: &Rule, side: Side, pair: u16) -> bool
     requires { pair < pair_count rule.now }
     ensures { IsTrue result ↔ IsFirstOf side rule.now pair }

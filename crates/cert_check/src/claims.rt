@@ -23,7 +23,7 @@ pub fn side_claims(cert: &Cert, side: Side) -> Result<(), Refusal>
     }
 }
 
-/// Returns the claims that count on this side: the forward claims on the right, the backward claims on the left.
+/// Returns the claims of this side: the forward claims on the right, the backward claims on the left.
 pub fn claims_on(cert: &Cert, side: Side) -> &[Option<u16>]
     ensures row { result.now ≡ claims_on cert.now side }
     ensures each { length result.now ≡ pair_count cert.now.rule }

@@ -85,7 +85,7 @@ impl Marks {
         self.rows[usize::from(set / 16)] >> (set % 16) & 1 == 1
     }
 
-    /// Marks one more set.
+    /// Marks one more set, and keeps all other marks.
     pub fn mark(&mut self, set: u16)
         ensures { (s : ℕ) → IsMarked self.new.rows s ↔ ((s ≡ set) ⊎ IsMarked self.old.rows s) }
     {

@@ -9,7 +9,7 @@ use word_image::{Rule, Weights};
 /// The verdicts of a certificate about its rule. If the certificate is accepted, they are true.
 #[derive(Clone, Copy, Debug, PartialEq, Eq)]
 pub struct Verdicts {
-    /// The rule.
+    /// The rule that the verdicts are about.
     pub rule: Rule,
     /// The weight of each letter.
     pub weights: Weights,

@@ -54,7 +54,8 @@ fn is_endless_at(side: Side, endless: &Endless, window: u16) -> bool
     false
 }
 
-/// Returns whether this window and the window that has `letter` at its end have an endless first pair at their ends.
+/// Returns whether this window, and the window that differs from it by having `letter` at its end on this side, have
+/// an endless first pair of nodes at their ends.
 fn is_endless_with(side: Side, endless: &Endless, window: u16, letter: u8) -> bool
     requires window { window < endless.now.states ^ endless.now.width }
     requires letter { letter < endless.now.states }

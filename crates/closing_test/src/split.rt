@@ -61,9 +61,9 @@ fn least_walks(
     Ok(best)
 }
 
-/// Returns the walks of the least split at the states from which one pair of letters leads back to their pair, with
-/// the mark. Returns None if there is no such split. A small split keeps later searches for longer periods short. The
-/// only error is lack of memory.
+/// Looks only at states of the marked graph from which a single step leads back to the pair of nodes of the state,
+/// with the mark. Returns the walks of the least split at one of these states. Returns None if there is no such
+/// split. A small split keeps later searches for longer periods short. The only error is lack of memory.
 fn short_walks(
     alloc: Global,
     pairs: &Pairs,

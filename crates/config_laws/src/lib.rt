@@ -166,8 +166,8 @@ pub fn conserving_everywhere()
     ensures changes { (weight : ℕ → ℕ) (r : LocalRule) → IsRule r → (IsConserving weight r ↔ KeepsChanges weight r) }
 {}
 
-/// Law: a determined window has an inverse map. This map takes the image of each configuration back to the
-/// configuration, and the rule takes the result of the map back to its argument.
+/// Law: a determined window has an inverse map. The map after the rule takes each configuration to itself, and so
+/// does the rule after the map.
 pub fn inverse_everywhere()
     ensures back { (r : LocalRule) (n c : ℕ) (g : WindowMap) (x : Config) → IsRule r → IsDetermined r n c → IsInverseMap r n c g → IsConfig r.states x → mapped g (image_of r x) ≡ x }
     ensures forth { (r : LocalRule) (n c : ℕ) (g : WindowMap) (x : Config) → IsRule r → IsDetermined r n c → IsInverseMap r n c g → IsConfig r.states x → image_of r (mapped g x) ≡ x }

@@ -23,7 +23,7 @@ pub struct Minimal {
     subsets: Subsets,
     // The closure of each set of nodes.
     closures: Vec<u16>,
-    // The closure of each class, in the order of the classes.
+    // For each class the closure of the sets of last nodes of its words, in the order of the classes.
     classes: Listed,
 }
 

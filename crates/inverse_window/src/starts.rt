@@ -102,7 +102,8 @@ pub(crate) fn starts_by_rank(rule: &Rule, ranks: &Ranks, past: u16) -> [Option<u
     starts
 }
 
-/// Adds the pairs of u with all nodes to `starts`, which is the result for the pairs of the nodes before u.
+/// At first `starts` has the result for the pairs whose first node comes before u. Afterwards it has the result for
+/// these pairs and the pairs of u with all nodes.
 fn add_starts(rule: &Rule, ranks: &Ranks, u: u8, past: u16, starts: &mut [Option<u16>; ROWS])
     requires rule { IsRule rule.now }
     requires of_rule { ranks.now ≡ rule.now }

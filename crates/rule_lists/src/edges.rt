@@ -15,7 +15,7 @@ pub(crate) struct Edges {
     letter_step: u8,
     /// The number of letters k.
     k: u8,
-    /// The number of nodes.
+    /// The number of nodes of the shape.
     nodes: u8,
     /// For each label and node, the set of nodes to which edges with this label lead from the node.
     ends: EdgeRows,

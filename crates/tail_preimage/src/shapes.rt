@@ -16,9 +16,9 @@ use word_image::MOST_NODES;
 pub struct Parts {
     /// The relations of the left periods, from the node at the end of a period to the node at its start.
     pub left: Periods,
-    /// The relation of the middle.
+    /// The relation of the middle, from the node at its start to the node at its end.
     pub middle: Relation,
-    /// The relations of the right periods.
+    /// The relations of the right periods, from the node at the start of a period to the node at its end.
     pub right: Periods,
 }
 
