@@ -1,14 +1,16 @@
-//! Laws that words have at most one right reply. The words and the bytes that the source has left determine the reply
-//! as a value. So they also determine the status and each byte of the text and of the JSON of the reply. This crate
-//! has no law that there is a reply: [`ca_cli::run`] gives one unless a read, a write or a request for memory fails.
+//! Laws that the words of a command line have at most one right reply. The words and the bytes that the source has
+//! left determine the reply as a value. So they also determine the status and each byte of the text and of the JSON
+//! of the reply. A source *tells* its bytes if contracts can name the bytes that it has left (crate ca_io). This
+//! crate has no law that there is a reply: [`ca_cli::run`] gives one unless a read, a write or a request for memory
+//! fails.
 //!
 //! A reply is a value (crate ca_questions): a *finding*, which answers the question of the words, a *cause* why
 //! nothing fits the question, the fault of an operand, the result of judging a certificate, or that the words are no
 //! command. A command asks at most one question, about accepted rules. A question has at most one right finding. If
 //! nothing fits the question, it has at most one right cause. The reason is that each finding is one of these: the
-//! least value of its kind, a number that the rule determines, a rule that its images determine, or the list of all
-//! values of a kind in their order. If neither of two values is greater than the other in a total order, they are
-//! equal.
+//! least value that meets a condition, a number that the rule determines, a rule that its images determine, or the
+//! list of all values that meet a condition, in their order. If neither of two values is greater than the other in a
+//! total order, they are equal.
 //!
 //! The functions of this crate do nothing. The contract of each function states a law.
 #![tactic(auto)]

@@ -25,7 +25,7 @@ pub struct TailRows {
     pub right: LetterRow,
 }
 
-/// The rows of two words.
+/// The rows of the two words of twins.
 #[repr(C)]
 #[derive(Clone, Copy, Debug)]
 pub struct TwinRows {
@@ -33,7 +33,7 @@ pub struct TwinRows {
     pub y: LetterRow,
 }
 
-/// The rows of the parts of two configurations.
+/// The rows of the parts of the two configurations of a split.
 #[repr(C)]
 #[derive(Clone, Copy, Debug)]
 pub struct SplitRows {
@@ -41,13 +41,13 @@ pub struct SplitRows {
     pub y: TailRows,
 }
 
-/// The row that stands for no word: it has no letters.
+/// The row that a report has in place of a word that doesn't exist. It has no letters.
 pub const NO_ROW: LetterRow = LetterRow {
     begin: 0,
     length: 0,
 };
 
-/// The rows that stand for no pair of words.
+/// The rows of a report without twins: both rows have no letters.
 pub const NO_TWINS: TwinRows = TwinRows {
     x: NO_ROW,
     y: NO_ROW,
@@ -59,7 +59,7 @@ const NO_TAIL: TailRows = TailRows {
     right: NO_ROW,
 };
 
-/// The rows that stand for no pair of configurations.
+/// The rows of a report without a split: all rows have no letters.
 pub const NO_SPLIT: SplitRows = SplitRows {
     x: NO_TAIL,
     y: NO_TAIL,

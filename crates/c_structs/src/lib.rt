@@ -8,18 +8,20 @@
 //!
 //! The evidence for a verdict has these kinds. An *orphan* is a word without a preimage. A *window* (n, c) says that
 //! n letters of an image determine the letter at place c of each preimage. *Twins* are two different words of the
-//! same length whose rings have the same image. A *look-ahead* says how many letters of the image determine the next
-//! letter of a word on a side. A *split* of a side is two different configurations that share an image and agree on
-//! the other side. A *flux* has a number for each node, and shows that each ring keeps the sum of its weights. A
-//! *ring* is a word that is read on from its end at its start.
+//! same length whose rings have the same image. Let the rule have width m. A number n is a right *look-ahead* if the
+//! first m - 1 letters of a word and the first n letters of its image determine the next letter of the word. A left
+//! look-ahead is a right look-ahead of the mirrored rule. A *split* of a side is two different configurations that
+//! share an image and agree on the other side. A *flux* has a number for each node, which is a word of m - 1 letters,
+//! and shows that each ring keeps its sum of weights. A *ring* is a word whose last letter is followed by its first
+//! letter.
 //!
 //! A fault has a number. If there are several faults, the first one counts:
 //!
 //! | Number | Fault | From |
 //! |---|---|---|
 //! | 1 to 6 | a fault of a rule: states, width, nodes, offset, length, letter | [`fault_number`] |
-//! | 1 to 9 | a fault of many rules: those of a rule, or kind, number, form | [`number_of`] |
-//! | 14, 15 | no sum has words of this length: they have no letter, or there are more than 16 | [`range_number`] |
+//! | 1 to 9 | a fault of rules with consecutive numbers: 1 to 6 as in the first line, 7 kind, 8 number, 9 form | [`number_of`] |
+//! | 14, 15 | a fault of the length of the words of a sum: the words have no letter, or there are more than 16 words | [`range_number`] |
 //! | 18 | there isn't one weight for each letter | [`report_of_table`] |
 //! | 19 to 21 | a fault of a configuration: a period, a letter, or a place out of reach | [`write_image`] |
 //!

@@ -14,15 +14,15 @@ use word_image::{FluxRow, Word};
 /// The greatest number of nodes of a rule, and so the greatest number of entries of a flux.
 pub const MOST_NODES: usize = 16;
 
-/// Whether a rule is surjective, and the row of its orphan if it isn't.
+/// Whether a rule is surjective. If it isn't, the struct has the row of its orphan.
 #[derive(Clone, Copy)]
 pub struct Surjective {
     pub holds: u8,
     pub orphan: LetterRow,
 }
 
-/// Whether a rule is injective. If it is, the number of letters and the place of its window. Otherwise the rows of
-/// its twins.
+/// Whether a rule is injective. If it is, the struct has the number of letters and the place of its window. Otherwise
+/// it has the rows of its twins.
 #[derive(Clone, Copy)]
 pub struct Injective {
     pub holds: u8,
@@ -31,7 +31,8 @@ pub struct Injective {
     pub twins: TwinRows,
 }
 
-/// Whether a rule closes on a side. If it does, its look-ahead. Otherwise the rows of its split.
+/// Whether a rule closes on a side. If it does, the struct has its look-ahead. Otherwise it has the rows of its
+/// split.
 #[derive(Clone, Copy)]
 pub struct Side {
     pub holds: u8,
@@ -39,7 +40,7 @@ pub struct Side {
     pub split: SplitRows,
 }
 
-/// Whether a rule is conserving. If it is, its flux. Otherwise the row of its ring.
+/// Whether a rule is conserving. If it is, the struct has its flux. Otherwise it has the row of its ring.
 #[derive(Clone, Copy)]
 pub struct Conserving {
     pub holds: u8,

@@ -29,9 +29,9 @@ pub struct RuleReport {
     pub surjective: u8,
     /// Whether no two different configurations share an image.
     pub injective: u8,
-    /// Whether no two different configurations that agree on the left share an image.
+    /// Whether the rule is right-closing: no two different configurations that agree far to the left share an image.
     pub right: u8,
-    /// Whether no two different configurations that agree on the right share an image.
+    /// Whether the rule is left-closing: no two different configurations that agree far to the right share an image.
     pub left: u8,
     /// Whether the rule is right-closing and left-closing.
     pub is_open: u8,
@@ -102,7 +102,7 @@ pub struct Reported {
 
 /// Returns the report of the rule with these states, width, offset and table. The list of weights has one weight for
 /// each letter. If it is empty, each letter weighs its own value. If the rule or the list has a fault, the report has
-/// its number.
+/// the number of the first fault.
 pub fn report_of_table(
     alloc: Global,
     states: u8,
@@ -144,7 +144,7 @@ fn report_of_rule(alloc: Global, rule: &Rule, weights: &[u8]) -> Result<Reported
     }
 }
 
-/// Returns the weights, or none if the list is empty.
+/// Returns the weights, or None if the list is empty.
 fn named(weights: &[u8]) -> Option<&[u8]>
     ensures { option_copied result ≡ named_weights weights.now }
 {

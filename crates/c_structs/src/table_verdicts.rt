@@ -16,9 +16,9 @@ pub struct RuleVerdicts {
     pub surjective: bool,
     /// Whether no two different configurations share an image.
     pub injective: bool,
-    /// Whether no two different configurations that agree on the left share an image.
+    /// Whether the rule is right-closing: no two different configurations that agree far to the left share an image.
     pub right: bool,
-    /// Whether no two different configurations that agree on the right share an image.
+    /// Whether the rule is left-closing: no two different configurations that agree far to the right share an image.
     pub left: bool,
     /// Whether the rule is right-closing and left-closing.
     pub is_open: bool,

@@ -22,7 +22,8 @@ use word_image::Rule;
 #[derive(Drop)]
 pub struct ClassTally {
     counts: Counts,
-    // The verdicts of the least rules by their Wolfram numbers, in the order in which they were added.
+    // The verdicts of the least rules of the classes, by the Wolfram numbers of these rules, in the order in which
+    // they were added.
     leasts: IndexMap<u128, Truths>,
 }
 

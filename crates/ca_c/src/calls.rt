@@ -53,12 +53,13 @@ impl From<AllocError> for CallFault {
 pub struct FormedReply {
     /// The status of the reply.
     pub status: Status,
-    /// The bytes of the whole reply in this form.
+    /// The bytes of the whole reply, as printed lines or as JSON.
     pub output: Output,
 }
 
-/// Runs the command in a block of words over an input, and returns its reply in a form. It fails only if the block
-/// isn't a list of words or if memory runs out, since bytes in memory can always be read.
+/// Runs the command in a block of words over an input, and returns its reply as printed lines or as JSON, as `form`
+/// says. It fails only if the block isn't a list of words or if memory runs out, since bytes in memory can always be
+/// read.
 pub fn call(alloc: Global, form: Form, block: &[u8], input: &[u8]) -> Result<FormedReply, CallFault>
     ensures answer { IfOk result (λ answer. IsAnswerIn (bytes_in form) block.now input.now answer.status answer.output) }
     ensures none { result ≡ Err CallFault.NoWords → (words : List (List ℕ)) → ¬ AreWords block.now words }
@@ -75,7 +76,7 @@ pub fn call(alloc: Global, form: Form, block: &[u8], input: &[u8]) -> Result<For
     })
 }
 
-/// Returns the bytes of a reply in a form.
+/// Returns the bytes of a reply, as printed lines or as JSON, as `form` says.
 fn output_in(alloc: Global, form: Form, reply: &Reply) -> Result<Output, AllocError>
     requires { IsWritableReply (reply_of reply.now) }
     ensures { IfOk result (λ output. output ≡ bytes_in form (reply_of reply.now)) }

@@ -232,11 +232,11 @@ pub extern "C" fn ca_window_order(property: u8, states: u8, width: u8, order: &m
 }
 
 /// Finds the next rule of a shape that has a property, and writes its table. The rank of a table is the number whose
-/// digits are its letters in this order of windows. The function takes the table of least rank whose first letters
-/// are the letters of `begin`. A letter of `begin` that isn't below the number of states stands for any letter. If
-/// `after` isn't 0, the rank must also be greater than the rank of the table in `table`. It returns 0, or 13 if no
-/// rule is left, or the number of the first fault. Unless it returns 0, the table stays as it was. It takes no
-/// memory.
+/// digits are its letters in this order of windows. Among the tables with the property whose first letters are the
+/// letters of `begin`, the function takes the table of least rank. A letter of `begin` that isn't below the number of
+/// states stands for any letter. If `after` isn't 0, the rank must also be greater than the rank of the table in
+/// `table`. It returns 0, or 13 if no rule is left, or the number of the first fault. Unless it returns 0, the table
+/// stays as it was. It takes no memory.
 #[unsafe(no_mangle)]
 pub extern "C" fn ca_next_rule(
     property: u8,
@@ -300,10 +300,10 @@ pub extern "C" fn ca_kept_sums(
 
 /// Writes the flux of weights of words of length `range`, for the rule with these states, this width, offset 0 and
 /// this table. The flux has a number for each word of width + range - 2 letters, in the order of their values, and
-/// zeros after these numbers. The number for the word of zeros is 0. Of `weights`, only the weights of words are
-/// read. It returns 0, or the number of the first fault. After a fault `numbers` stays as it was. The number is that
-/// of a fault of the rule or of the range, 16 if a weight lies outside -2^56 to 2^56, or 17 if the rule doesn't keep
-/// the sum. It takes no memory.
+/// zeros after these numbers. The number for the word of zeros is 0. The function reads only as many numbers of
+/// `weights` as there are words of this length. It returns 0, or the number of the first fault. After a fault
+/// `numbers` stays as it was. The number is that of a fault of the rule or of the range, 16 if a weight lies outside
+/// -2^56 to 2^56, or 17 if the rule doesn't keep the sum. It takes no memory.
 #[unsafe(no_mangle)]
 pub extern "C" fn ca_flux(
     states: u8,

@@ -15,13 +15,13 @@
 //! | `survey 2 3 0 256` | `Survey` | | `2`, `3`, `0`, `256` | `Numbers` |
 //! | `check` | `Check` | | | `Nothing` |
 //!
-//! The words `110`, `orphan`, `orphan 110 90` and `shift 110 x` are no commands. No words are two commands.
+//! The words `110`, `orphan`, `orphan 110 90` and `shift 110 x` are no commands. No list of words is two commands.
 //!
 //! An *erasable pair* is two different words of the same length with the same image, the same first m - 1 letters and
 //! the same last m - 1 letters. So each of them can replace the other in any configuration without a change of the
-//! image. The *class* of a rule has the rules at offset 0 with its table or the table of its mirrored rule, with new
-//! names for the letters. The *second-order lift* of a rule is a reversible rule whose letters are pairs of its
-//! letters (crate rule_classes).
+//! image. The *class* of a rule has all rules at offset 0 that you get from the table of the rule, or from the table
+//! of the mirrored rule, by new names for the letters. The *second-order lift* of a rule is a reversible rule whose
+//! letters are pairs of its letters (crate rule_classes).
 //!
 //! [`question`] reads each operand once, into a value. It first tests the forms of all operands. If the words are no
 //! command, it returns `Usage`. Then it reads the rules, from left to right. For example, `compose 90 x` gives

@@ -49,7 +49,7 @@ impl Model for MemSink {
 /// The error if there is no memory for the room of a [`MemSink`]. It gives the list of failing calls back.
 #[derive(Debug, Drop)]
 pub struct RoomRefusal {
-    /// The allocation that failed.
+    /// The error of the allocation that failed.
     pub fault: AllocError,
     /// The list of failing calls, as it was given to `with_room`.
     pub failing: Vec<u64>,

@@ -15,7 +15,7 @@
 //! A word is a string of hexadecimal digits. A rule is a string with its text. A configuration is an object with the
 //! keys `left`, `middle` and `right`. A number is a number of JSON, except that a Wolfram number is a string of
 //! decimal digits, since it may have 128 bits. A kind of fault has the same name as in the printed lines. A
-//! certificate is the object that its text is. The reply to the words `orphan 2:3:-1:w90` is
+//! certificate is an object, the same object as in its text. The reply to the words `orphan 2:3:-1:w90` is
 //!
 //! ```text
 //! {"finding":{"orphan":null},"status":"done"}
@@ -23,10 +23,12 @@
 //!
 //! The evidence for a verdict has these kinds. An *orphan* is a word without a preimage. A *window* (n, c) says that
 //! n letters of an image determine the letter at place c of each preimage. *Twins* are two different words of the
-//! same length whose rings have the same image. A *look-ahead* says how many letters of the image determine the next
-//! letter of a word on a side. A *split* of a side is two different configurations that share an image and agree on
-//! the other side. A *flux* has a number for each node, and shows that each ring keeps the sum of its weights. A
-//! *ring* is a word that is read on from its end at its start.
+//! same length whose rings have the same image. Let the rule have width m. A number n is a right *look-ahead* if the
+//! first m - 1 letters of a word and the first n letters of its image determine the next letter of the word. A left
+//! look-ahead is a right look-ahead of the mirrored rule. A *split* of a side is two different configurations that
+//! share an image and agree on the other side. A *flux* has a number for each node, which is a word of m - 1 letters,
+//! and shows that each ring keeps its sum of weights. A *ring* is a word whose last letter is followed by its first
+//! letter.
 //!
 //! The definition `json_of` of specs/Replies.antt says which object a reply is, and [`reply_json`] writes it. The
 //! whole object is in memory before its text is made. A text of n bytes takes time O(n log n), since an object is a

@@ -28,7 +28,7 @@ pub fn refusal_value(alloc: Global, refusal: Refusal) -> Result<Value, AllocErro
     Ok(Value::from(members))
 }
 
-/// Adds the member with this key and this word to an object, or nothing if there is no word.
+/// Adds a member with this key and this word to an object. If there is no word, it adds nothing.
 fn put_named(
     alloc: Global,
     members: &mut Map<String, Value>,

@@ -33,9 +33,9 @@ pub enum Found {
     Erased(Option<Pair>),
     /// A preimage of a configuration, or a stretch of the configuration that is an orphan.
     Preimage(Pre),
-    /// How many of the asked rules have each property.
+    /// How many of the rules that the question names have each property.
     Summary(Counts),
-    /// How many of the asked rules have each property, and how many classes these rules have.
+    /// How many of the rules that the question names have each property, and how many classes these rules have.
     Classes(Counts, usize),
 }
 

@@ -9,16 +9,18 @@
 //!
 //! The evidence for a verdict has these kinds. An *orphan* is a word without a preimage. A *window* (n, c) says that
 //! n letters of an image determine the letter at place c of each preimage. *Twins* are two different words of the
-//! same length whose rings have the same image. A *look-ahead* says how many letters of the image determine the next
-//! letter of a word on a side. A *split* of a side is two different configurations that share an image and agree on
-//! the other side. A *flux* has a number for each node, and shows that each ring keeps the sum of its weights. A
-//! *ring* is a word that is read on from its end at its start.
+//! same length whose rings have the same image. Let the rule have width m. A number n is a right *look-ahead* if the
+//! first m - 1 letters of a word and the first n letters of its image determine the next letter of the word. A left
+//! look-ahead is a right look-ahead of the mirrored rule. A *split* of a side is two different configurations that
+//! share an image and agree on the other side. A *flux* has a number for each node, which is a word of m - 1 letters,
+//! and shows that each ring keeps its sum of weights. A *ring* is a word whose last letter is followed by its first
+//! letter.
 //!
 //! An *erasable pair* is two different words of the same length with the same image, the same first m - 1 letters and
 //! the same last m - 1 letters. So each of them can replace the other in any configuration without a change of the
-//! image. The *class* of a rule has the rules at offset 0 with its table or the table of its mirrored rule, with new
-//! names for the letters. The *second-order lift* of a rule is a reversible rule whose letters are pairs of its
-//! letters (crate rule_classes).
+//! image. The *class* of a rule has all rules at offset 0 that you get from the table of the rule, or from the table
+//! of the mirrored rule, by new names for the letters. The *second-order lift* of a rule is a reversible rule whose
+//! letters are pairs of its letters (crate rule_classes).
 //!
 //! The definition `IsFinding` of specs/Findings.antt says which finding is right for which question, and the
 //! definition `IsUnfitFor` says which cause is right. [`found_or_unfit`] is a law about both definitions. The
@@ -33,8 +35,9 @@
 //! found for words or for a question: the words are no command, an operand has a fault, nothing fits, or there is no
 //! memory.
 //!
-//! A text or JSON has a hexadecimal digit for each letter of a word, so letters must be below 16. Such a finding is
-//! *writable*. The law [`right_findings_are_writable`] says that each right finding about accepted rules is writable.
+//! A text or JSON has a hexadecimal digit for each letter of a word, so letters must be below 16. A finding is
+//! *writable* if its letters are below 16 and its automaton, if it has one, has all its rows. The law
+//! [`right_findings_are_writable`] says that each right finding about accepted rules is writable.
 #![tactic(auto)]
 
 mod found;

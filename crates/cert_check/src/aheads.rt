@@ -16,9 +16,8 @@ use cert_conditions::{Condition, Refusal};
 use cert_values::{Cert, SidePart};
 use word_image::{Rule, Side};
 
-/// Checks that for each first pair on this side a number below the look-ahead minus 1 is claimed. If there is no
-/// look-ahead on this side, the check passes. Otherwise returns a refusal with the least first pair without such a
-/// claim.
+/// Checks that each first pair on this side has a claim below the look-ahead minus 1. If there is no look-ahead on
+/// this side, the check passes. Otherwise returns a refusal with the least first pair without such a claim.
 pub fn side_ahead(cert: &Cert, side: Side) -> Result<(), Refusal>
     ensures { IsChecked cert.now (Condition.SideAhead side) result }
 {
@@ -43,8 +42,7 @@ pub fn part_on(cert: &Cert, side: Side) -> &SidePart
     }
 }
 
-/// Returns the least first pair on this side for which no number below n - 1 is claimed, or None if there is no such
-/// pair.
+/// Returns the least first pair on this side that has no claim below n - 1, or None if there is no such pair.
 fn first_too_far(rule: &Rule, side: Side, claims: &[Option<u16>], n: u16) -> Option<u16>
     requires row { length claims.now ≡ pair_count rule.now }
     requires some { 1 ≤ n }
@@ -58,8 +56,8 @@ fn first_too_far(rule: &Rule, side: Side, claims: &[Option<u16>], n: u16) -> Opt
     None
 }
 
-/// Returns whether a pair is a first pair on this side: its nodes differ only in the letter at their end on this
-/// side, and some letter at their other end gives windows with equal labels.
+/// Returns whether a pair is a first pair on this side. It is one if its nodes differ only in the letter at their end
+/// on this side, and if some letter, added to both nodes at their other end, gives two windows with equal labels.
 pub fn is_first(rule: &Rule, side: Side, pair: u16) -> bool
     requires { pair < pair_count rule.now }
     ensures { IsTrue result ↔ IsFirstOf side rule.now pair }

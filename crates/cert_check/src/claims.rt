@@ -23,7 +23,7 @@ pub fn side_claims(cert: &Cert, side: Side) -> Result<(), Refusal>
     }
 }
 
-/// Returns the claims that count on this side: the forward claims on the right, the backward claims on the left.
+/// Returns the claims of this side: the forward claims on the right, the backward claims on the left.
 pub fn claims_on(cert: &Cert, side: Side) -> &[Option<u16>]
     ensures row { result.now ≡ claims_on cert.now side }
     ensures each { length result.now ≡ pair_count cert.now.rule }
@@ -64,8 +64,8 @@ fn falls(rule: &Rule, claims: &[Option<u16>], side: Side, pair: u16) -> bool
     true
 }
 
-/// Returns whether a number below `most` is claimed for each pair to which the letter a and any second letter lead
-/// from a pair.
+/// Returns whether each pair to which the letter a and any second letter lead from this pair has a claim below
+/// `most`.
 fn falls_along(rule: &Rule, claims: &[Option<u16>], side: Side, pair: u16, a: u8, most: u16) -> bool
     requires row { length claims.now ≡ pair_count rule.now }
     requires pair { pair < pair_count rule.now }
@@ -80,8 +80,8 @@ fn falls_along(rule: &Rule, claims: &[Option<u16>], side: Side, pair: u16, a: u8
     true
 }
 
-/// Returns whether a number below `most` is claimed for the pair to which two letters lead from a pair. Returns true
-/// if the two letters lead to no pair.
+/// Returns whether the pair to which two letters lead from this pair has a claim below `most`. Returns true if the
+/// two letters lead to no pair.
 fn falls_by(
     rule: &Rule,
     claims: &[Option<u16>],
@@ -103,7 +103,7 @@ fn falls_by(
     }
 }
 
-/// Returns whether a number below `most` is claimed for a pair.
+/// Returns whether a pair has a claim below `most`.
 pub fn claims_below(claims: &[Option<u16>], pair: u16, most: u16) -> bool
     requires { pair < length claims.now }
     ensures { IsTrue result ↔ IsBelow claims.now pair most }

@@ -19,14 +19,14 @@ pub struct Marks {
 }
 
 impl Marks {
-    /// Makes marks of which no set has one.
+    /// Makes marks. No set is marked yet.
     pub fn new() -> Marks
         ensures { (s : ℕ) → ¬ IsMarked result.rows s }
     {
         Marks { rows: [0; ROWS] }
     }
 
-    /// Makes marks of exactly the sets of a list.
+    /// Makes marks on exactly the sets of a list.
     pub fn of(sets: &[u16]) -> Marks
         ensures { AreMarked result.rows sets.now }
     {
@@ -37,9 +37,9 @@ impl Marks {
         marks
     }
 
-    /// Makes marks of the sets to which the step of a listed set may lead in this version: in version 1 the listed
-    /// sets, and from version 2 on the sets that contain a listed set. It marks only sets up to the number `full` of
-    /// the set of all nodes.
+    /// Makes marks on the sets to which the step of a listed set may lead in this version. In version 1 these are the
+    /// listed sets. From version 2 on they are the sets that contain a listed set. It marks only sets up to the
+    /// number `full`, which is the number of the set of all nodes.
     pub fn kept(version: CertVersion, full: u16, sets: &[u16]) -> Marks
         ensures { AreKept version full sets.now result.rows }
     {
@@ -49,7 +49,7 @@ impl Marks {
         }
     }
 
-    /// Makes marks of the sets up to the number `full` that contain a set of a list.
+    /// Makes marks on the sets up to the number `full` that contain a set of a list.
     fn above(full: u16, sets: &[u16]) -> Marks
         ensures { (s : ℕ) → IsMarked result.rows s ↔ ((s < full + 1) × HasPart sets.now s) }
     {
@@ -65,8 +65,8 @@ impl Marks {
         above
     }
 
-    /// Returns whether a set is marked after some node is removed from it. To remove a node that isn't in the set
-    /// changes nothing.
+    /// Returns whether some node can be removed from a set so that the remaining set is marked. To remove a node that
+    /// isn't in the set changes nothing.
     fn has_without_one(&self, set: u16) -> bool
         ensures { IsTrue result ↔ ((n : ℕ) × (n < most_nodes) × IsMarked self.now.rows (without set n)) }
     {
@@ -85,7 +85,7 @@ impl Marks {
         self.rows[usize::from(set / 16)] >> (set % 16) & 1 == 1
     }
 
-    /// Marks one more set.
+    /// Marks one more set, and keeps all other marks.
     pub fn mark(&mut self, set: u16)
         ensures { (s : ℕ) → IsMarked self.new.rows s ↔ ((s ≡ set) ⊎ IsMarked self.old.rows s) }
     {
@@ -93,7 +93,7 @@ impl Marks {
     }
 }
 
-/// Returns whether `listed` marks a set, or `above` marks the set after some node is removed from it.
+/// Returns whether `listed` marks a set, or some node can be removed from it so that `above` marks the remaining set.
 fn is_above(listed: &Marks, above: &Marks, set: u16) -> bool
     ensures { IsTrue result ↔ (IsMarked listed.now.rows set ⊎ ((n : ℕ) × (n < most_nodes) × IsMarked above.now.rows (without set n))) }
 {

@@ -1,5 +1,6 @@
-//! The checks of listed sets of nodes, which prove that a rule is surjective. The condition of the version on a step
-//! of a listed set is that it leads to a listed set, or from version 2 on to a set that contains a listed set.
+//! The checks of listed sets of nodes, which prove that a rule is surjective. Each version of certificates has a
+//! condition on the steps of a listed set. In version 1 each step leads to a listed set. From version 2 on each step
+//! leads to a set that contains a listed set.
 
 ghost use Rattle.std.specs.Prelude.{◌≢◌, ◌<◌, ℕ, List, length, slice_index, MatchOption, ◌↔◌, IsTrue};
 ghost use Rattle.word_image.specs.Graphs.{full_set};
@@ -14,8 +15,8 @@ use cert_conditions::{Condition, Refusal};
 use cert_values::{Cert, CertVersion, SurjectivePart};
 use word_image::{EdgeRows, Rule, Side, edge_rows, step};
 
-/// The greatest number of listed sets that are all compared with each step. If there are more sets, marks on the sets
-/// that contain a listed set take less time. They are made only once, for all 65,536 sets.
+/// If there are at most this many listed sets, each step is compared with all of them. If there are more, marks on
+/// the sets that contain a listed set take less time. They are made only once, for all 65,536 sets.
 const FEW: usize = 256;
 
 /// Checks that the set of all nodes is listed. Otherwise returns the refusal `NoFull`.
@@ -48,8 +49,8 @@ pub fn none_empty(cert: &Cert) -> Result<(), Refusal>
 }
 
 /// Checks that each step of a listed set meets the condition of the version: it leads to a listed set, or from
-/// version 2 on to a set that contains one. Otherwise returns a refusal with the place of the first set with another
-/// step, and with the first letter of such a step.
+/// version 2 on to a set that contains a listed set. Otherwise returns a refusal with the place of the first listed
+/// set that has a step without this property, and with the first letter of such a step.
 pub fn closed(cert: &Cert) -> Result<(), Refusal>
     ensures { IsChecked cert.now Condition.Closed result }
 {

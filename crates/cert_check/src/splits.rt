@@ -13,7 +13,7 @@ use tail_config::{Tail, agree_left, agree_right, differ, share};
 use word_image::{Rule, Side};
 
 /// Checks that the two configurations of a split of this side differ, agree on the other side and share an image.
-/// Otherwise returns a refusal with the first of these three that isn't true.
+/// Otherwise returns a refusal that names the first of these three conditions that isn't met.
 pub fn side_split(cert: &Cert, side: Side) -> Result<(), Refusal>
     ensures { IsChecked cert.now (Condition.SideSplit side) result }
 {

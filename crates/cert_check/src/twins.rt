@@ -11,7 +11,7 @@ use cert_values::{Cert, InjectivePart};
 use word_image::{Rule, ring_apply};
 
 /// Checks that the twins have the same length of at least 1, are different, and have rings with the same image.
-/// Otherwise returns a refusal with the first of these three that isn't true.
+/// Otherwise returns a refusal that names the first of these three conditions that isn't met.
 pub fn twins_alike(cert: &Cert) -> Result<(), Refusal>
     ensures { IsChecked cert.now Condition.TwinsAlike result }
 {

@@ -49,8 +49,8 @@ fn first_not_told(
 
 /// Returns whether the claims show for a pair of nodes that the window (n, c) determines its letter. Let j = min(c,
 /// n). The letter is at place c - j of the nodes, with j letters of the image before the nodes and n - j after them.
-/// So the two nodes must have the same letter there, or a number below j is claimed backward, or a number below n - j
-/// is claimed forward.
+/// So the two nodes must have the same letter there, or the pair must have a backward claim below j, or a forward
+/// claim below n - j.
 fn is_told(
     rule: &Rule,
     forward: &[Option<u16>],

@@ -6,8 +6,8 @@ use word_image::Side;
 /// evidence meets them.
 #[derive(Clone, Copy, Debug, PartialEq, Eq)]
 pub enum Condition {
-    /// If a number is claimed on this side for a pair, a lesser number is claimed on this side for each pair that a
-    /// step reaches from the pair. Steps go forward on the right and backward on the left.
+    /// If a pair has a claim on this side, each pair that a step reaches from it has a lesser claim on this side.
+    /// Steps go forward on the right and backward on the left.
     SideClaims(Side),
     /// The set of all nodes is a listed set.
     FullListed,
@@ -28,7 +28,7 @@ pub enum Condition {
     WindowClaims,
     /// The twins have the same length of at least 1, are different, and have rings with the same image.
     TwinsAlike,
-    /// For each first pair on this side a number below the look-ahead minus 1 is claimed.
+    /// Each first pair on this side has a claim on this side below the look-ahead minus 1.
     SideAhead(Side),
     /// The two configurations of the split differ, agree on the other side and share an image.
     SideSplit(Side),

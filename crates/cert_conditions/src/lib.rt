@@ -6,9 +6,9 @@
 //! label leads to all nodes that windows with this label reach from the set. A step of a pair of nodes follows two
 //! windows with equal labels, one from each node.
 //!
-//! - A *claim* is a number for a pair of nodes: at most so many steps can follow each other from the pair. Forward
-//!   claims are about steps forward, and backward claims about steps backward. A pair may have no claim. On the right
-//!   forward claims count, and on the left backward claims.
+//! - A *claim* is a number for a pair of nodes. It says that at most so many steps can follow each other from the
+//!   pair. Forward claims are about steps forward, and backward claims about steps backward. A pair may have no
+//!   claim. A claim on the right is a forward claim, and a claim on the left is a backward claim.
 //! - A *first pair on the right* is a pair to which two different letters lead from the same node, by windows with
 //!   equal labels. A *first pair on the left* is a pair of nodes that differ only in their first letter, from which
 //!   two windows with equal labels and with the same last letter lead.
@@ -18,17 +18,19 @@
 //!
 //! The evidence for a verdict has these kinds. An *orphan* is a word without a preimage. A *window* (n, c) says that
 //! n letters of an image determine the letter at place c of each preimage. *Twins* are two different words of the
-//! same length whose rings have the same image. A *look-ahead* says how many letters of the image determine the next
-//! letter of a word on a side. A *split* of a side is two different configurations that share an image and agree on
-//! the other side. A *flux* has a number for each node, and shows that each ring keeps the sum of its weights. A
-//! *ring* is a word that is read on from its end at its start.
+//! same length whose rings have the same image. Let the rule have width m. A number n is a right *look-ahead* if the
+//! first m - 1 letters of a word and the first n letters of its image determine the next letter of the word. A left
+//! look-ahead is a right look-ahead of the mirrored rule. A *split* of a side is two different configurations that
+//! share an image and agree on the other side. A *flux* has a number for each node, which is a word of m - 1 letters,
+//! and shows that each ring keeps its sum of weights. A *ring* is a word whose last letter is followed by its first
+//! letter.
 //!
 //! For each question a certificate has the evidence for one answer.
 //!
 //! - Surjective: a list of sets of nodes. It has the set of all nodes, but not the empty set. Each step of a listed
-//!   set leads to a listed set, or from version 2 on to a set that contains one. In version 3 a list of pairs will do
-//!   instead. It has each first pair on the right, and each pair to which a step leads from a listed pair, but no
-//!   pair of equal nodes (Moore 1962, Myhill 1963).
+//!   set leads to a listed set, or from version 2 on to a set that contains one. In version 3 it may be a list of
+//!   pairs of nodes instead. This list has each first pair on the right, and each pair to which a step leads from a
+//!   listed pair, but no pair of equal nodes (Moore 1962, Myhill 1963).
 //! - Not surjective: a word whose steps lead from the set of all nodes to the empty set.
 //! - Injective: a window for which the claims show that it determines its letter. Not injective: two words whose
 //!   rings have the same image.

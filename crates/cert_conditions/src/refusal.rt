@@ -26,14 +26,14 @@ pub enum SplitCause {
     Image,
 }
 
-/// Why bytes are refused: the fault of the text, or the first condition that the certificate doesn't meet, with the
-/// place at which it doesn't.
+/// Why bytes are refused: the fault of the text, or the first condition that the certificate doesn't meet. The
+/// numbers say where the certificate doesn't meet it.
 #[derive(Clone, Copy, Debug, PartialEq, Eq)]
 pub enum Refusal {
     /// The bytes aren't the text of a certificate, because of this first fault.
     Format(ShapeFault),
-    /// A number is claimed for this pair on this side, but no lesser number for some pair to which a step leads from
-    /// it. It is the first such pair.
+    /// This pair has a claim on this side, but a step leads from it to a pair without a lesser claim on this side. It
+    /// is the first such pair.
     Rank(Side, u16),
     /// The set of all nodes isn't a listed set.
     NoFull,
@@ -55,7 +55,7 @@ pub enum Refusal {
     Window(u16),
     /// The words aren't twins. The cause is the first one that applies.
     Twins(TwinCause),
-    /// For this first pair on this side no number below the look-ahead minus 1 is claimed. It is the least such pair.
+    /// This first pair on this side has no claim below the look-ahead minus 1. It is the least such pair.
     Ahead(Side, u16),
     /// The configurations aren't a split of this side. The cause is the first one that applies.
     Split(Side, SplitCause),

@@ -9,7 +9,7 @@ use rule_text::{fault_name, fault_place};
 use std::alloc::AllocError;
 use word_image::Side;
 
-/// The numbers of a refusal, from none to three.
+/// The numbers of a refusal. There are at most three.
 #[derive(Clone, Copy)]
 pub enum RefusalNumbers {
     None,

@@ -9,7 +9,7 @@ use word_image::{Rule, Weights, Word};
 /// The verdicts of a rule, each with its evidence.
 #[derive(Drop)]
 pub struct Report {
-    /// The rule.
+    /// The rule that the verdicts are about.
     pub rule: Rule,
     /// The weight of each letter.
     pub weights: Weights,

@@ -9,7 +9,7 @@ use word_image::{Rule, Weights};
 /// The verdicts of a certificate about its rule. If the certificate is accepted, they are true.
 #[derive(Clone, Copy, Debug, PartialEq, Eq)]
 pub struct Verdicts {
-    /// The rule.
+    /// The rule that the verdicts are about.
     pub rule: Rule,
     /// The weight of each letter.
     pub weights: Weights,
@@ -17,9 +17,9 @@ pub struct Verdicts {
     pub surjective: bool,
     /// Whether no two different configurations share an image.
     pub injective: bool,
-    /// Whether no two different configurations that agree on the left share an image.
+    /// Whether the rule is right-closing: no two different configurations that agree far to the left share an image.
     pub right: bool,
-    /// Whether no two different configurations that agree on the right share an image.
+    /// Whether the rule is left-closing: no two different configurations that agree far to the right share an image.
     pub left: bool,
     /// Whether every ring keeps the sum of its letters' weights.
     pub conserving: bool,

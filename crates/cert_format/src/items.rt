@@ -85,7 +85,7 @@ pub fn array<T: Item + Drop>(alloc: Global, value: &Value) -> Result<Vec<T>, Mis
     Ok(items)
 }
 
-/// Reads the items of an array with `count` items. Returns `Shape` if the value isn't an array of so many items.
+/// Reads the items of an array with `count` items. Returns `Shape` if the value isn't an array of `count` such items.
 pub fn array_of<T: Item + Drop>(
     alloc: Global,
     count: usize,

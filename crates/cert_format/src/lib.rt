@@ -6,8 +6,9 @@
 //! number or string that the place needs, within its limits. For example, a look-ahead of 0 has the wrong shape.
 //!
 //! `to_bytes` writes a certificate with ascending keys and without blanks. It writes the weights only if some letter
-//! doesn't weigh its own value. The crate `cert_check` tests whether the claims are true. [`certificate_value`] makes
-//! the JSON object that is written, and other functions make the values of some of its parts.
+//! doesn't weigh its own value. The crate `cert_check` tests whether the answers of a certificate are true.
+//! [`certificate_value`] makes the JSON object that is written, and other functions make the values of some of its
+//! parts.
 //!
 //! To read n bytes takes time O(n log n), since an object is a map, and O(n) for the lists in it. Both calls take
 //! space O(n).

@@ -34,7 +34,8 @@ pub fn from_bytes(alloc: Global, bytes: &[u8]) -> Result<Cert, CertFault>
     read_certificate(alloc, bytes)
 }
 
-/// Reads a certificate, which may have other keys. Otherwise returns the first fault of the bytes.
+/// Reads a certificate, and ignores keys that no certificate has. If the bytes have another fault, returns the first
+/// one.
 fn read_certificate(alloc: Global, bytes: &[u8]) -> Result<Cert, CertFault>
     ensures cert { IfOk result (IsCertificateText bytes.now) }
     ensures fault { IfErr result (IsCertFault bytes.now) }

@@ -21,19 +21,19 @@ pub struct Cert {
     /// The evidence that the rule closes on the right, or that it doesn't: a look-ahead of at least 1, or two
     /// configurations over the letters of the rule.
     pub right: SidePart,
-    /// The evidence that the rule closes on the left, or that it doesn't. It has the same form as the evidence for
-    /// the right.
+    /// The evidence that the rule closes on the left, or that it doesn't: a look-ahead of at least 1, or two
+    /// configurations over the letters of the rule.
     pub left: SidePart,
     /// The evidence that the rule conserves the sum, or that it doesn't: a flux with a number from -1,000,000 to
     /// 1,000,000 for each node, or a word.
     pub conserving: SumPart,
     /// The weight of each letter in a sum. In version 1 each letter weighs its own value.
     pub weights: Weights,
-    /// The forward claim for each pair of nodes: a number that its forward rank doesn't exceed, or None if nothing is
-    /// claimed.
+    /// The forward claim for each pair of nodes. It says that the forward rank of the pair is at most this number.
+    /// None is no claim.
     pub forward: RankRow,
-    /// The backward claim for each pair of nodes: a number that its backward rank doesn't exceed, or None if nothing
-    /// is claimed.
+    /// The backward claim for each pair of nodes. It says that the backward rank of the pair is at most this number.
+    /// None is no claim.
     pub backward: RankRow,
 }
 

@@ -1,4 +1,4 @@
-//! The certificate of a rule as a type: what it claims, and which JSON texts say it.
+//! The certificate of a rule as a type: its answers with their evidence, and the JSON texts of a certificate.
 //!
 //! A certificate answers for one rule whether it is surjective, injective, right-closing and left-closing, and whether
 //! it conserves the sum of its cells. Each answer comes with *evidence*, which can be tested without a search. The
@@ -28,8 +28,8 @@
 //!   of a side is two different configurations that share an image and agree on the other side.
 //! - A *flux* has a number for each node, which is a word of m - 1 letters. At each window, the weight of the letter
 //!   that the rule gives minus the weight of the window's first letter is the number of its first node minus the
-//!   number of its last node. If there is a flux, each ring keeps its sum. A *ring* is a word that is read on from
-//!   its end at its start.
+//!   number of its last node. If there is a flux, each ring keeps its sum. A *ring* is a word whose last letter is
+//!   followed by its first letter.
 //!
 //! A certificate has three other keys. `version` is 1, 2 or 3, and `rule` is a text of the rule. `ranks` is
 //! `{"backward":[..],"forward":[..]}`. Each of the two arrays has a number or `null` for each pair of nodes. The

@@ -54,7 +54,8 @@ fn is_endless_at(side: Side, endless: &Endless, window: u16) -> bool
     false
 }
 
-/// Returns whether this window and the window that has `letter` at its end have an endless first pair at their ends.
+/// Returns whether this window, and the window that differs from it by having `letter` at its end on this side, have
+/// an endless first pair of nodes at their ends.
 fn is_endless_with(side: Side, endless: &Endless, window: u16, letter: u8) -> bool
     requires window { window < endless.now.states ^ endless.now.width }
     requires letter { letter < endless.now.states }
@@ -66,7 +67,8 @@ fn is_endless_with(side: Side, endless: &Endless, window: u16, letter: u8) -> bo
     endless_nodes(side, endless, u) >> v & 1 == 1
 }
 
-/// Returns the nodes that are endless with the node u on this side. Bit v stands for node v.
+/// Returns the nodes v for which the pair (u, v) is endless on this side: forward on the right, backward on the left.
+/// Bit v stands for node v.
 fn endless_nodes(side: Side, endless: &Endless, u: u8) -> u16
     requires { u < node_count endless.now }
     ensures { (v : ℕ) → v < most_nodes → (IsBitSet result v ↔ IsEndless (Together side endless.now u v)) }

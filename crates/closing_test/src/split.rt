@@ -16,7 +16,7 @@ use pair_graph::Pairs;
 use std::alloc::{AllocError, Global};
 use tail_config::Tail;
 
-/// Which letter of a pair of letters is meant.
+/// The first or the second letter of a pair of letters.
 #[derive(Clone, Copy)]
 pub enum Letter {
     First,
@@ -61,9 +61,9 @@ fn least_walks(
     Ok(best)
 }
 
-/// Returns the walks of the least split at the states from which one pair of letters leads back to their pair, with
-/// the mark. Returns None if there is no such split. A small split keeps later searches for longer periods short. The
-/// only error is lack of memory.
+/// Looks only at states of the marked graph from which a single step leads back to the pair of nodes of the state,
+/// with the mark. Returns the walks of the least split at one of these states. Returns None if there is no such
+/// split. A small split keeps later searches for longer periods short. The only error is lack of memory.
 fn short_walks(
     alloc: Global,
     pairs: &Pairs,

@@ -166,8 +166,8 @@ pub fn conserving_everywhere()
     ensures changes { (weight : ℕ → ℕ) (r : LocalRule) → IsRule r → (IsConserving weight r ↔ KeepsChanges weight r) }
 {}
 
-/// Law: a determined window has an inverse map. This map takes the image of each configuration back to the
-/// configuration, and the rule takes the result of the map back to its argument.
+/// Law: a determined window has an inverse map. The map after the rule takes each configuration to itself, and so
+/// does the rule after the map.
 pub fn inverse_everywhere()
     ensures back { (r : LocalRule) (n c : ℕ) (g : WindowMap) (x : Config) → IsRule r → IsDetermined r n c → IsInverseMap r n c g → IsConfig r.states x → mapped g (image_of r x) ≡ x }
     ensures forth { (r : LocalRule) (n c : ℕ) (g : WindowMap) (x : Config) → IsRule r → IsDetermined r n c → IsInverseMap r n c g → IsConfig r.states x → image_of r (mapped g x) ≡ x }
@@ -183,8 +183,8 @@ pub fn injective_is_bijective()
 {}
 
 /// Law: a composition of two rules is surjective, injective, closing on a side or open if and only if both rules are.
-/// It conserves the sums that both rules conserve. A rule is the composition of two rules if this holds for the
-/// images of words and if its width and its offset fit.
+/// It conserves the sums that both rules conserve. Here a rule is called the composition of two rules if its image of
+/// each word is the second rule's image of the first rule's image, and if its width and its offset fit.
 pub fn composed_everywhere()
     ensures surjective { (r s t : LocalRule) → IsRule r → IsRule s → IsRule t → IsOneAfter r s t → (IsSurjective t ↔ (IsSurjective r × IsSurjective s)) }
     ensures injective { (r s t : LocalRule) → IsRule r → IsRule s → IsRule t → IsOneAfter r s t → (IsInjective t ↔ (IsInjective r × IsInjective s)) }

@@ -16,11 +16,13 @@
 //! erasable pair is the least of these walks over all nodes, each after the letters of its first node.
 //!
 //! A first pair on the right consists of two different nodes that two different letters reach from the same node,
-//! along edges with equal labels. A pair of nodes is reached if steps of `follow` lead to it from a first pair on the
-//! right. A rule is surjective if and only if no reached pair has two equal nodes. Then the list of the reached pairs
-//! is a pair list, which proves that the rule is surjective. Under the rule that gives 1 only for the window 11, the
-//! letters 0 and 1 lead from node 0 to the first pair of the nodes 0 and 1. From both of these nodes the letter 0
-//! leads to node 0, each time with the label 0: the rule isn't surjective.
+//! along edges with equal labels. A pair of nodes is reached if steps of `follow` (crate pair_graph) lead to it from
+//! a first pair on the right. A pair list is a list of pairs of two different nodes that has all first pairs on the
+//! right, and each pair to which a step leads from a pair of the list. A rule is surjective if and only if no reached
+//! pair has two equal nodes. Then the list of the reached pairs is a pair list, which proves that the rule is
+//! surjective. Under the rule that gives 1 only for the window 11, the letters 0 and 1 lead from node 0 to the first
+//! pair of the nodes 0 and 1. From both of these nodes the letter 0 leads to node 0, each time with the label 0: the
+//! rule isn't surjective.
 //!
 //! [`is_surjective`] stores the reached pairs as one set of nodes for each node. The steps from all pairs of a node u
 //! on a letter a form one step of a set, on the label that a has at u. The test ends at the first pair of two equal

@@ -79,7 +79,7 @@ fn open_row(nodes: u8, found: &Rows, followed: &Rows) -> Option<u8>
 }
 
 /// Adds the pairs to which steps lead from the pairs of `node` with the nodes of `set`. Stops and returns false if
-/// one of them has two equal nodes. Otherwise returns true.
+/// one of the added pairs has two equal nodes. Otherwise returns true.
 fn add_steps(graph: &Graph, node: u8, set: u16, found: &mut Rows) -> bool
     requires node { node < node_count graph.now }
     requires set { set < 2 ^ node_count graph.now }

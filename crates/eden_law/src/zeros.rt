@@ -7,8 +7,8 @@ ghost use Rattle.eden_law.specs.ZeroEdges.{AreZeroEdges};
 
 use word_image::MOST_NODES;
 
-/// Returns whether exactly `nodes` words of m + 1 letters have the image 0 0, for k states and this table. If not, no
-/// rule with this table is surjective.
+/// Returns whether exactly `nodes` words of m + 1 letters have the image 0 0, for k states and this table. If the
+/// number of these words isn't `nodes`, no rule with this table is surjective.
 pub fn is_even_at_zeros(k: u8, nodes: u8, table: &[u8]) -> bool
     requires states { k ≤ most_states }
     requires nodes { nodes ≤ most_nodes }

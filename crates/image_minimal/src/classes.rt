@@ -1,5 +1,5 @@
-//! The type `Minimal`: the least automaton of a rule, whose classes are found breadth first by the closures of their
-//! sets.
+//! The type `Minimal`: the least automaton of a rule. A breadth-first search finds its classes. The words of a class
+//! have sets of last nodes with the same closure, so this closure stands for the class.
 
 ghost use Rattle.std.specs.Prelude.{◌≡◌, ◌+◌, ◌*◌, ◌<◌, ◌≤◌, ℕ, length, slice_get, slice_index, Some, IfOk};
 ghost use Rattle.word_image.specs.LocalRules.{LocalRule, IsRule, most_sets};
@@ -23,7 +23,7 @@ pub struct Minimal {
     subsets: Subsets,
     // The closure of each set of nodes.
     closures: Vec<u16>,
-    // The closure of each class, in the order of the classes.
+    // For each class the closure of the sets of last nodes of its words, in the order of the classes.
     classes: Listed,
 }
 

@@ -27,8 +27,8 @@ pub fn closures(alloc: Global, graph: &Graph) -> Result<Vec<u16>, AllocError>
     Ok(closures)
 }
 
-/// Returns the closure of a set that isn't unread. `closures` has the closures of all greater sets, also of those
-/// with one node more.
+/// Returns the closure of a set that isn't unread. `closures` has the closures of all sets with greater numbers, so
+/// it has the closures of the sets with one node more.
 fn closure_above(graph: &Graph, closures: &[u16], set: u16) -> u16
     requires set { set < 2 ^ node_count graph.now }
     requires closures { AreClosuresFrom graph.now (set + 1) closures.now }

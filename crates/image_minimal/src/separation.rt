@@ -32,7 +32,7 @@ impl From<AllocError> for SepFault {
 
 /// Returns the least word that is an orphan of exactly one of the rules, or None if they have the same orphans.
 ///
-/// For n sets under both rules together it takes time **O(n k (N + log n))** and space **O(n)**.
+/// For n sets under both rules together it takes time **O(n k log n)** and space **O(n)**.
 pub fn separate(alloc: Global, first: &Rule, second: &Rule) -> Result<Option<Word>, SepFault>
     ensures states { IsErrOf result SepFault.States ↔ (first.now.states ≢ second.now.states) }
     ensures word { IfOk result (λ word. MatchOption word (HaveSameOrphans first.now second.now) (Separates first.now second.now)) }

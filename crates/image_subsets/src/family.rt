@@ -135,7 +135,7 @@ impl Family {
 }
 
 /// Adds the sets to which steps lead from the set at this place, if they are new. Stops at the empty set, and returns
-/// whether it was found.
+/// whether the empty set was found.
 fn expand(
     graph: &Graph,
     tables: &StepTables,

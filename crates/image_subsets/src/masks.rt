@@ -78,7 +78,7 @@ impl Masks {
         &self.members
     }
 
-    /// Removes all sets.
+    /// Removes all sets from the list.
     pub fn clear(&mut self)
         ensures { self.new ≡ [] }
     {

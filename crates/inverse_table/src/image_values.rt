@@ -19,8 +19,9 @@ pub(crate) fn image_values(alloc: Global, rule: &Rule, n: u16) -> Result<Vec<u16
     Ok(images)
 }
 
-/// Returns the values of the images of all words that are one letter longer. The last nodes of the words repeat in
-/// their order, and so do the rows of the table. It isn't inlined, since otherwise the loop keeps more on the stack.
+/// `images` has the values of the images of all words of one length. Returns the values of the images of all words
+/// that have one letter more. The last nodes of the words repeat in their order, and so do the rows of the table. It
+/// isn't inlined, since otherwise the loop keeps more on the stack.
 #[inline(never)]
 fn longer(alloc: Global, rule: &Rule, images: &[u16]) -> Result<Vec<u16>, AllocError>
     requires fits { All (λ image. image * rule.now.states + rule.now.states ≤ most_map_entries) images.now }

@@ -11,7 +11,7 @@ pub(crate) const UNREAD: u8 = 16;
 /// A place in words of the same length, which are given by their values.
 #[derive(Clone, Copy)]
 pub(crate) struct Place {
-    /// The number of letters.
+    /// The number of letters k. All letters are below k.
     pub k: usize,
     /// How much the value of a word grows if the letter at this place grows by 1. This is k to the power of the
     /// number of letters after the place.

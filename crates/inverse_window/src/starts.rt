@@ -102,7 +102,8 @@ pub(crate) fn starts_by_rank(rule: &Rule, ranks: &Ranks, past: u16) -> [Option<u
     starts
 }
 
-/// Adds the pairs of u with all nodes to `starts`, which is the result for the pairs of the nodes before u.
+/// At first `starts` has the result for the pairs whose first node comes before u. Afterwards it has the result for
+/// these pairs and the pairs of u with all nodes.
 fn add_starts(rule: &Rule, ranks: &Ranks, u: u8, past: u16, starts: &mut [Option<u16>; ROWS])
     requires rule { IsRule rule.now }
     requires of_rule { ranks.now ≡ rule.now }
@@ -129,8 +130,9 @@ pub(crate) fn later(a: Option<u16>, b: Option<u16>) -> Option<u16>
     Some(a?.max(b?))
 }
 
-/// Returns the least n for which no two walks of n steps with equal labels lead from u and v on this side, or None if
-/// there are such walks for every n. It is one more than the rank of the two nodes.
+/// Returns the least n for which no two walks of n steps with equal labels lead from u and v, forward on the right
+/// side and backward on the left, or None if there are such walks for every n. It is one more than the rank of the
+/// two nodes.
 fn apart(ranks: &Ranks, side: Side, u: u8, v: u8) -> Option<u16>
     requires rule { IsRule ranks.now }
     requires first { u < node_count ranks.now }

@@ -55,8 +55,9 @@ impl Rows {
         self.rows[MOST_NODES * usize::from(at.mark) + usize::from(at.first)] |= 1u16 << at.second;
     }
 
-    /// Returns second letters for steps from the marked pair `from` with the first letter `a`. A step with any other
-    /// second letter leads to a marked pair of the set. Bit b of the result stands for letter b.
+    /// Returns a set of second letters. Bit b of the set stands for letter b. A step from the marked pair `from` on
+    /// the first letter `a` and a second letter outside this set leads only to marked pairs that are already in the
+    /// rows.
     pub fn fresh(&self, pairs: &Pairs, from: PairParts, a: u8) -> u16
         requires mark { from.mark < 2 }
         requires first { from.first < node_count pairs.now }

@@ -8,8 +8,8 @@
 //! is one. So the least word of the empty set is the least orphan, and without an empty set there is no orphan.
 //!
 //! A set is written as a number: its bit u is 1 if node u is in the set. Rule 110 has the nodes 00, 01, 10 and 11,
-//! and the family 15, 9, 14, 6, 1, 2, 0. The search finds the empty set from the set 1 by the letter 0, the set 1
-//! from 6 by 0, and so back to 15 by 1, 0 and 1 in turn: the least orphan is 01010.
+//! and the family 15, 9, 14, 6, 1, 2, 0. The search finds the set 9 from 15 by the letter 0, the set 6 from 9 by 1,
+//! the set 1 from 6 by 0, the set 2 from 1 by 1, and the empty set from 2 by 0. So the least orphan is 01010.
 //!
 //! If no set of the family is empty, a part of the family shows this too. The cover list has the set of all nodes
 //! first, and then each set of the family that contains no other set of the family. Rule 106 has a family of twelve

@@ -91,14 +91,15 @@ impl Search {
     }
 
     /// Returns the least orphan, in the order of words, if the last run returned `Orphan`. It has at most 65,535
-    /// letters. Otherwise returns nothing.
+    /// letters. Otherwise returns an empty list.
     pub fn word(&self) -> &[u8]
         ensures { result.now ≡ self.now.word }
     {
         &self.word
     }
 
-    /// Returns the family of the rule in its order if the last run returned `Closed`. Otherwise returns nothing.
+    /// Returns the family of the rule in its order if the last run returned `Closed`. Otherwise returns an empty
+    /// list.
     pub fn sets(&self) -> &[u16]
         ensures { result.now ≡ self.now.sets }
     {
@@ -107,7 +108,7 @@ impl Search {
 
     /// Returns the cover list of the rule if the last run returned `Closed`: the set of all nodes, and then each
     /// other set of the family that contains no other set of the family, in the order of the family. Otherwise
-    /// returns nothing.
+    /// returns an empty list.
     pub fn cover(&self) -> &[u16]
         ensures { result.now ≡ self.now.cover }
     {

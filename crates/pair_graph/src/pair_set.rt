@@ -19,7 +19,7 @@ pub(crate) type Rows = [u16; MOST_NODES];
 /// A set of pairs of nodes. In contracts it is a list with one truth value for each pair.
 #[derive(Clone, Copy, Debug)]
 pub struct PairSet {
-    // The number of nodes.
+    // The number of nodes of the rule.
     nodes: u8,
     // A row for each node, followed by zeros.
     rows: Rows,

@@ -70,7 +70,7 @@ pub fn search(alloc: Global, rule: &Rule) -> Result<(Search, bool), AllocError> 
     }
 }
 
-/// Returns what a search has found: the orphan, the sets and the cover list.
+/// Returns what a search has found: the orphan, the sets of the family and the cover list.
 pub fn evidence(search: &Search) -> (&[u8], &[u16], &[u16]) {
     (search.word(), search.sets(), search.cover())
 }

@@ -72,7 +72,8 @@ pub fn ranked(ranks: &Ranks) -> &Rule {
     ranks.rule()
 }
 
-/// Returns the forward rank and the backward rank of the pair of nodes u and v. A rank is None if it has no bound.
+/// Returns the forward rank and the backward rank of the pair of nodes u and v. None stands for a pair without a
+/// finite rank.
 pub fn rank(ranks: &Ranks, u: u8, v: u8) -> (Option<u16>, Option<u16>)
     requires first { u < node_count ranks.now }
     requires second { v < node_count ranks.now }

@@ -9,8 +9,8 @@ use crate::fault::AlgebraFault;
 use word_image::{MOST_STATES, Rule, letter_of, value_by};
 
 /// Returns the rule g of the same width and offset with g(colours of w) = colours[f(w)] for every window w, if f is
-/// the given rule. `colours` has the new name of each letter. So the image of every renamed word is the renamed
-/// image. Returns `NotPermutation` if the colours aren't a permutation of the k letters.
+/// the given rule. `colours` has the new name of each letter. So the image of a renamed word under g is the renamed
+/// image of the word under f. Returns `NotPermutation` if the colours aren't a permutation of the k letters.
 pub fn permute(rule: &Rule, colours: &[u8]) -> Result<Rule, AlgebraFault>
     ensures accepted { IsOk result ↔ IsRecolouring rule.now.states colours.now }
     ensures refused { IfErr result (λ fault. fault ≡ AlgebraFault.NotPermutation) }

@@ -10,7 +10,8 @@ use crate::parts::rule_of_parts;
 use word_image::Rule;
 
 /// Returns the rule with the same table at the offset o + by, if o is the offset of the given rule. Its image cell i
-/// is the old image cell i + by. Returns `Offset` if the window would reach further than 16 cells to a side.
+/// is the old image cell i + by. Returns `Offset` if the window would reach further than 16 cells to the left or to
+/// the right.
 pub fn shift(rule: &Rule, by: i8) -> Result<Rule, AlgebraFault>
     ensures fault { result_err result ≡ shift_fault rule.now by }
     ensures shifted { IfOk result (λ g. g ≡ shifted rule.now by) }

@@ -45,8 +45,8 @@ fn ignores_first(rule: &Rule) -> bool
     true
 }
 
-/// Returns the rule without its first cell. Its letter for a window is the old letter for this window with a 0 before
-/// it.
+/// Returns the rule without its first cell. For a window it gives the letter that the old rule gives for a 0 followed
+/// by this window.
 fn without_first(rule: &Rule) -> Rule
     requires { 2 < rule.now.width }
     ensures { result ≡ without_first rule.now }

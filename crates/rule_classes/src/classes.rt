@@ -31,7 +31,7 @@ pub enum ClassFault {
 
 /// Returns the rule with the least Wolfram number in the class of a rule, and whether the mirrored rule is needed to
 /// get it. Returns `Colours` if the rule has 7 states or more. The least rule has the same verdicts as the rule. If
-/// it is mirrored, right and left are exchanged.
+/// it comes from the mirrored rule, right and left are exchanged.
 pub fn class_of(rule: &Rule) -> Result<ClassPlace, ClassFault>
     ensures accepted { IsOk result ↔ (rule.now.states ≤ 6) }
     ensures least { IfOk result (λ place. IsLeastOfClass rule.now place.mirrored place.least) }

@@ -12,14 +12,14 @@ use word_image::{MOST_ENTRIES, Rule, Side};
 /// The values of the windows that are equal except in one letter.
 #[derive(Clone, Copy)]
 pub struct Row {
-    /// The value of the window in which this letter is 0.
+    /// The value of the window in which the letter that differs is 0.
     pub start: u8,
-    /// How much the value grows if this letter grows by 1.
+    /// How much the value of a window grows if the letter that differs grows by 1.
     pub step: u8,
 }
 
 impl Row {
-    /// Returns the value of the window in which this letter is `letter`.
+    /// Returns the value of the window in which the letter that differs is `letter`.
     pub fn window(self, letter: u8) -> u8
         requires { self.start + letter * self.step < most_windows }
         ensures { result ≡ self.start + letter * self.step }

@@ -1,11 +1,11 @@
 //! Classes of rules, and second-order lifts.
 //!
-//! The class of a rule consists of the rules at offset 0 that have its table, or the table of its mirrored rule, with
-//! new names for the letters. The new names are called *colours* here. A *colouring* says which letter has which
-//! colour, and whether the rule is mirrored first. The least rule of a class is the rule with the least Wolfram
-//! number. It has the same verdicts as the rule. If it is mirrored, right and left are exchanged. The 256 rules of
-//! two states and width 3 form 88 classes. The class of rule 110 also has its mirrored rule 124, and the rules 137
-//! and 193, which exchange the two letters.
+//! The class of a rule consists of all rules at offset 0 that you get from the table of the rule, or from the table
+//! of the mirrored rule, by new names for the letters. The new names are called *colours* here. A *colouring* says
+//! which letter has which colour, and whether the rule is mirrored first. The least rule of a class is the rule with
+//! the least Wolfram number. It has the same verdicts as the given rule. But if it comes from the mirrored rule,
+//! right and left are exchanged. The 256 rules of two states and width 3 form 88 classes. The class of rule 110 also
+//! has its mirrored rule 124, and the rules 137 and 193, which exchange the two letters.
 //!
 //! The least rule is found by branch and bound. The letter for the greatest window counts most in a Wolfram number,
 //! so tables are compared from this window down. The search first chooses the letter of the greatest colour, then of

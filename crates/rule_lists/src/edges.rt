@@ -9,13 +9,13 @@ pub(crate) struct Edges {
     from: [u8; MOST_ENTRIES],
     /// For each window the node at which its edge ends.
     to: [u8; MOST_ENTRIES],
-    /// How much the value of a window grows if its node grows by one.
+    /// How much the value of a window grows if the node at which its edge begins grows by one.
     node_step: u8,
-    /// How much the value of a window grows if its letter grows by one.
+    /// How much the value of a window grows if the letter of its edge grows by one.
     letter_step: u8,
     /// The number of letters k.
     k: u8,
-    /// The number of nodes.
+    /// The number of nodes of the shape.
     nodes: u8,
     /// For each label and node, the set of nodes to which edges with this label lead from the node.
     ends: EdgeRows,

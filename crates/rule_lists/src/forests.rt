@@ -64,8 +64,8 @@ fn with_letter(shape: &Rule, letters: &Letters, window: u16, forest: &Forest) ->
     with_window(shape, window, letter, forest)
 }
 
-/// Returns the forest after this window has joined the trees of its two nodes. The letter for the window, minus the
-/// first letter of the window, is the difference of the flux at its nodes.
+/// Returns the forest after this window has joined the trees of its two nodes. The letter for the window minus the
+/// first letter of the window is the number of its first node in a flux minus the number of its last node.
 fn with_window(shape: &Rule, window: u16, letter: u8, forest: &Forest) -> Forest
     requires window { window < shape.now.states ^ shape.now.width }
     requires small { AreUpTo (window * 1048576) forest.now.levels }

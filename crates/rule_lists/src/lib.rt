@@ -25,8 +25,8 @@
 //! - They lead from a node with itself, first by two different letters, to such a loop. Then no rule with these
 //!   letters is right-closing. If the edges are followed backward, no rule with these letters is left-closing.
 //!
-//! A hint is such a walk that unproved code has found quickly. It has links from each pair to the pair before or to
-//! the next pair. A proved test follows the links before letters are given up.
+//! A hint is a walk of one of these three kinds. Unproved code finds it quickly. It has links from each pair to the
+//! pair before or to the next pair. A proved test follows the links before the search gives up any letters.
 //!
 //! A forest shows that known letters rule out that a rule is conserving. The flux of a conserving rule gives a number
 //! to each node. A known letter at a window tells the difference of the numbers of its two nodes, so it joins these

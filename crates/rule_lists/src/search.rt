@@ -15,8 +15,8 @@ use word_image::{MOST_ENTRIES, Rule};
 /// An iterator that returns the listed rules one after another, by ascending rank. Needs no memory.
 ///
 /// A search fills a table letter by letter, in the order of the windows. If the letters so far rule out the property,
-/// it doesn't fill the rest and continues with the next letters. Hints only make it faster, since each is tested
-/// before letters are given up. In the worst case it fills all `k^(k^m)` tables.
+/// it doesn't fill the rest and continues with the next letters. Hints only make it faster, since each hint is tested
+/// before the search gives up any letters. In the worst case it fills all `k^(k^m)` tables.
 #[derive(Drop)]
 pub struct Search<'a> {
     /// The question that the search answers.
@@ -126,8 +126,9 @@ fn entries_of(rule: &Rule) -> Entries
     entries
 }
 
-/// Returns the listed rule of least rank whose letters at the first n windows of the order aren't before the letters
-/// of `start` at these windows, if `first` is n. Returns None if there is no such rule, or if `first` is None.
+/// Let `first` be n, and compare only the letters at the first n windows of the order. Returns the first listed rule,
+/// by rank, whose letters there are the letters of `start` or come after them. Returns None if there is no such rule,
+/// or if `first` is None.
 fn rule_from(asked: &Asked, start: Entries, first: Option<u16>, hints: &mut Hints) -> Option<Rule>
     requires order { IsOrdered asked.now }
     requires table { AreEntries asked.now start }

@@ -24,7 +24,7 @@ pub struct Head {
     pub m: u8,
     // The offset, from -99 to 99.
     pub o: i8,
-    // What follows the head.
+    // What follows the head: the letters of a table, or the digits of a number.
     pub kind: Kind,
     // The place of the text at which the letters or the digits begin.
     pub place: usize,

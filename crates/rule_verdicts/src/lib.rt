@@ -9,7 +9,7 @@
 //!
 //! The *cover list* has the set of all nodes, and each other set of nodes that words lead to and that contains no
 //! other such set. The *reached pairs* are the pairs of nodes that are reached from the first pairs on the right,
-//! which are the pairs to which two different letters lead from the same node.
+//! which are the pairs to which two different letters lead from the same node, along edges with equal labels.
 //!
 //! The evidence for the verdicts has these kinds:
 //!
@@ -21,8 +21,8 @@
 //!   of a side is two different configurations that share an image and agree on the other side.
 //! - A *flux* has a number for each node, which is a word of m - 1 letters. At each window, the weight of the letter
 //!   that the rule gives minus the weight of the window's first letter is the number of its first node minus the
-//!   number of its last node. If there is a flux, each ring keeps its sum. A *ring* is a word that is read on from
-//!   its end at its start.
+//!   number of its last node. If there is a flux, each ring keeps its sum. A *ring* is a word whose last letter is
+//!   followed by its first letter.
 //!
 //! A split is *normal* if it has a special form. For example, both configurations have the period 0 on the side on
 //! which they agree (crate closing_test). Rule 110 isn't surjective: its least orphan is 01010. So it is neither
@@ -37,9 +37,10 @@
 //!
 //! The *forward rank* of a pair of nodes is the greatest n for which two words of n + m - 1 letters with the same
 //! image begin with these nodes. The *backward rank* is the same number for words that end with these nodes.
-//! [`Evidence::of`] finds the evidence for a rule and weights of its letters. [`Evidence::certificate`] adds what the
-//! judge of certificates needs besides: the cover list in version 2 or the reached pairs in version 3, and the exact
-//! rank of each pair of nodes. [`keeps_sums`], [`least_orphan`] and [`injectivity`] answer one question each.
+//! [`Evidence::of`] finds the evidence for a rule and weights of its letters. [`Evidence::certificate`] adds the
+//! other parts that the judge of certificates needs: the cover list in version 2 or the reached pairs in version 3,
+//! and the exact rank of each pair of nodes. [`keeps_sums`], [`least_orphan`] and [`injectivity`] answer one question
+//! each.
 //!
 //! Each function takes the time of the functions of other crates that decide its questions. Let a rule have k states,
 //! width m and `N = k^(m-1)` nodes. The search for a least orphan and the cover list look at up to `2^N` sets of

@@ -60,7 +60,7 @@ fn verdict_byte(k: u8, m: u8, table: &[u8], total: u16) -> u8
     requires total { total ≡ sum table.now }
     ensures { IsVerdictByte (rule_of_table k m table.now) result }
 {
-    // The tables of surjective rules have the mean of all letters, and so do the tables of conserving rules.
+    // The letters in the table of a surjective or conserving rule have the same mean as the letters 0 to k - 1.
     if !is_mean(k, table.len() as u16, total) {
         return Truths::not_surjective(false).byte();
     }

@@ -23,9 +23,9 @@ pub struct Truths {
     pub surjective: bool,
     /// Whether no two different configurations share an image.
     pub injective: bool,
-    /// Whether no two different configurations that agree on the left share an image.
+    /// Whether the rule is right-closing: no two different configurations that agree far to the left share an image.
     pub right: bool,
-    /// Whether no two different configurations that agree on the right share an image.
+    /// Whether the rule is left-closing: no two different configurations that agree far to the right share an image.
     pub left: bool,
     /// Whether every ring keeps the sum of its letters.
     pub conserving: bool,
@@ -36,7 +36,7 @@ impl Truths {
     pub fn of(rule: &Rule) -> Truths
         ensures { AreTruths rule.now result }
     {
-        // The tables of surjective rules have the mean of all letters, and so do the tables of conserving rules.
+        // The letters in the table of a surjective or conserving rule have the same mean as the letters 0 to k - 1.
         if !has_mean(rule.k(), rule.table()) {
             return Truths::not_surjective(false);
         }
@@ -55,8 +55,8 @@ impl Truths {
         Truths::past_sum(k, m, table)
     }
 
-    /// Returns the verdicts of the rule of k states, width m and offset 0 with this table. The letters of the table
-    /// have the mean of all letters, which is already tested.
+    /// Returns the verdicts of the rule of k states, width m and offset 0 with this table. It may be called only if
+    /// the letters of the table have the same mean as the letters 0 to k - 1.
     pub(crate) fn past_sum(k: u8, m: u8, table: &[u8]) -> Truths
         requires { IsRule (texts.rule_of_table k m table.now) }
         ensures { AreTruths (texts.rule_of_table k m table.now) result }

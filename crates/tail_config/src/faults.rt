@@ -12,11 +12,11 @@ pub const MOST_LETTERS: usize = 1024;
 /// A part of a Tail.
 #[derive(Clone, Copy, Debug, PartialEq, Eq)]
 pub enum Part {
-    /// The left period.
+    /// The left period of a Tail.
     Left,
-    /// The middle.
+    /// The middle of a Tail.
     Middle,
-    /// The right period.
+    /// The right period of a Tail.
     Right,
 }
 
@@ -38,11 +38,11 @@ pub enum TailFault {
 pub struct TailRefusal {
     /// The first fault of the parts.
     pub fault: TailFault,
-    /// The left period.
+    /// The left period that was given.
     pub left: Vec<u8>,
-    /// The middle.
+    /// The middle that was given.
     pub middle: Vec<u8>,
-    /// The right period.
+    /// The right period that was given.
     pub right: Vec<u8>,
 }
 

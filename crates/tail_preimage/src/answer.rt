@@ -25,11 +25,11 @@ use word_image::{Rule, Word};
 pub struct Placed {
     /// The place at which the middle begins.
     pub at: i64,
-    /// The left period.
+    /// The left period of the configuration.
     pub left: Word,
-    /// The middle.
+    /// The middle of the configuration.
     pub middle: Word,
-    /// The right period.
+    /// The right period of the configuration.
     pub right: Word,
 }
 

@@ -13,9 +13,9 @@ use word_image::MOST_NODES;
 /// The relation between nodes of one period, and the relations of 0 to 16 periods.
 #[derive(Clone, Copy)]
 pub struct Periods {
-    /// The relation of the nodes between which one period leads.
+    /// The relation of one period. It relates node u to node v if a walk along one period leads from u to v.
     pub period: Relation,
-    /// The relations of the nodes between which 0 to 16 periods lead, in this order.
+    /// The relations of 0 to 16 periods, in this order.
     pub powers: [Relation; MOST_NODES + 1],
 }
 

@@ -15,7 +15,7 @@ use word_image::MOST_NODES;
 /// nodes.
 pub type Relation = [u16; MOST_NODES];
 
-/// Returns the relation of each node to itself.
+/// Returns the relation that relates each node only to itself.
 fn identity(graph: &Graph) -> Relation
     ensures relation { IsRelation graph.now (λ u v. u ≡ v) result }
     ensures rule { IsRule graph.now }
@@ -27,7 +27,7 @@ fn identity(graph: &Graph) -> Relation
     rows
 }
 
-/// Returns the relation of each node to the nodes to which its edges with this label lead.
+/// Returns the relation that relates each node to the nodes to which its edges with this label lead.
 pub fn edges(graph: &Graph, label: u8) -> Relation
     requires { label < graph.now.states }
     ensures relation { IsRelation graph.now (IsEdge Right graph.now label) result }
@@ -86,7 +86,8 @@ pub fn reversed(graph: &Graph, relation: &Relation) -> Relation
     rows
 }
 
-/// Returns the relation of each node to the nodes at the ends of those walks from it whose labels spell the word.
+/// Returns the relation that relates each node to the nodes at the ends of those walks from it whose labels spell the
+/// word.
 pub fn relation(graph: &Graph, word: &[u8]) -> Relation
     requires { IsWord graph.now.states word.now }
     ensures relation { IsRelation graph.now (HasWalk graph.now word.now) result }
@@ -99,7 +100,8 @@ pub fn relation(graph: &Graph, word: &[u8]) -> Relation
     rows
 }
 
-/// Returns the relations of 0 to 16 steps of a relation, in this order.
+/// Returns 17 relations, one for each number of steps from 0 to 16. Each of them relates a node to the nodes that
+/// this many steps of the given relation reach.
 pub fn powers(graph: &Graph, step: &Relation) -> [Relation; MOST_NODES + 1]
     requires { AreSets graph.now step.now }
     ensures { (n : ℕ) → n ≤ most_nodes → IsRelation graph.now (Steps (HasBit step.now) n) (get_or result n []) }

@@ -16,9 +16,9 @@ use word_image::MOST_NODES;
 pub struct Parts {
     /// The relations of the left periods, from the node at the end of a period to the node at its start.
     pub left: Periods,
-    /// The relation of the middle.
+    /// The relation of the middle, from the node at its start to the node at its end.
     pub middle: Relation,
-    /// The relations of the right periods.
+    /// The relations of the right periods, from the node at the start of a period to the node at its end.
     pub right: Periods,
 }
 
@@ -28,11 +28,11 @@ pub struct Parts {
 pub struct Spans {
     /// The number of given left periods in the middle of the placed configuration.
     pub before: u8,
-    /// The number of given left periods in its left period.
+    /// The number of given left periods in the left period of the placed configuration.
     pub back: u8,
-    /// The number of given right periods in its middle.
+    /// The number of given right periods in the middle of the placed configuration.
     pub after: u8,
-    /// The number of given right periods in its right period.
+    /// The number of given right periods in the right period of the placed configuration.
     pub on: u8,
 }
 

@@ -17,7 +17,7 @@ pub enum WeightFault {
 /// the weights.
 #[derive(Clone, Copy, Debug, PartialEq, Eq)]
 pub struct Weights {
-    // The number of letters.
+    // The number of letters that have a weight.
     k: u8,
     // The weight of each letter, followed by zeros.
     numbers: [u8; MOST_STATES],
