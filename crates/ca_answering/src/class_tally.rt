@@ -60,8 +60,8 @@ impl ClassTally {
     }
 }
 
-/// Returns the verdicts of this rule, which is the least rule of a class. If its Wolfram number isn't known yet,
-/// decides the verdicts and stores them under this number.
+/// Returns the verdicts of this rule, which is the least rule of a class. If `known` has no verdicts for the Wolfram
+/// number of the rule yet, decides the verdicts and stores them in `known` under this number.
 fn decided(known: &mut IndexMap<u128, Truths>, rule: &Rule) -> Result<Truths, AllocError>
     requires states { rule.now.states ≤ 6 }
     requires offset { rule.now.offset ≡ pos 0 }

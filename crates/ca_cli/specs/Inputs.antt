@@ -5,7 +5,7 @@ use Rattle.std.specs.Prelude.{◌≡◌, ℕ, ◌+◌, ◌≤◌, List, length, 
 abbrev pub most_input : ℕ
 most_input = 4194304
 
--- there are at most as many bytes as the judge accepts, and if the source tells which bytes it has left, the bytes are all that it had left
+-- there are at most as many bytes as the judge accepts, and if the source tells which bytes it has left, these are exactly the given bytes
 pub record IsWholeInput (input : Option (List ℕ)) (bytes : List ℕ) : Type 0 where
   pub all : MatchOption input ⊤ (λ left. bytes ≡ left)
   pub short : length bytes ≤ most_input

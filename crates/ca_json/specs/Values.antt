@@ -47,7 +47,7 @@ tail_json t = object_of ((codes "left", word_value t.left) ∷ (codes "middle", 
 
 -- The JSON of verdicts with their evidence
 
--- the JSON that says whether a rule is surjective: it is, or it isn't and there is an orphan
+-- the JSON that says whether a rule is surjective, and that has the orphan if the rule isn't surjective
 abbrev pub surjective_json : Option (List ℕ) → Data
 surjective_json None = object_of ((codes "holds", boolean true) ∷ [])
 surjective_json (Some w) = object_of ((codes "holds", boolean false) ∷ (codes "orphan", word_value w) ∷ [])

@@ -1,4 +1,4 @@
--- The question that a value of the code stands for, and the conditions on its parts.
+-- Which question a value of the type Question of the code stands for, and which conditions the parts of the value meet.
 use Rattle.std.specs.Prelude.{◌≡◌, ◌≤◌, None, true, pos, ⊤}
 use Rattle.word_image.specs.LocalRules.{IsShape}
 use Rattle.cert_values.specs.Versions.{names_weights}

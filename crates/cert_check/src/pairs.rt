@@ -41,8 +41,8 @@ pub fn off_diagonal(cert: &Cert) -> Result<(), Refusal>
     }
 }
 
-/// Checks that each pair to which a step leads from a listed pair is listed. Otherwise returns a refusal with the
-/// first place of a pair that leads to a pair that isn't listed, and with the first two letters of such a step.
+/// Checks that each step from a listed pair leads to a listed pair. Otherwise returns a refusal. It has the first
+/// place in the list at which a step leads to a pair that isn't listed, and the two letters of the first such step.
 pub fn pairs_closed(cert: &Cert) -> Result<(), Refusal>
     ensures { IsChecked cert.now Condition.PairsClosed result }
 {

@@ -47,10 +47,11 @@ fn first_not_told(
     None
 }
 
-/// Returns whether the claims show for a pair of nodes that the window (n, c) determines its letter. Let j = min(c,
-/// n). The letter is at place c - j of the nodes, with j letters of the image before the nodes and n - j after them.
-/// So the two nodes must have the same letter there, or the pair must have a backward claim below j, or a forward
-/// claim below n - j.
+/// Let j = min(c, n). Returns whether the claims show this for a pair of nodes: if two words of n + m - 1 letters have
+/// the same image, and the two nodes begin at place j of the two words, the words have the same letter at place c.
+/// This letter is at place c - j of the nodes. The parts of the words that end with the nodes have the same image of j
+/// letters, and the parts that begin with the nodes have the same image of n - j letters. So the two nodes must have
+/// the same letter there, or the pair must have a backward claim below j, or a forward claim below n - j.
 fn is_told(
     rule: &Rule,
     forward: &[Option<u16>],

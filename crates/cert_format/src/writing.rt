@@ -181,7 +181,7 @@ pub fn weights_value(alloc: Global, weights: &Weights) -> Result<Value, AllocErr
     Ok(Value::from(values))
 }
 
-/// Returns letters below 16 as a string of digits.
+/// Returns a word of letters below 16 as a JSON string of hexadecimal digits.
 pub fn word_value(alloc: Global, letters: &[u8]) -> Result<Value, AllocError>
     requires { IsWord most_states letters.now }
     ensures { IfOk result (λ v. view v ≡ written.word_value letters.now) }

@@ -1,14 +1,16 @@
 //! The ranks of pairs of nodes: how long walks from two nodes, or to two nodes, can have equal labels (Sutner 1991).
 //!
-//! The forward rank of two nodes is the greatest n for which two words of n + m - 1 letters with the same image begin
-//! with these nodes. If there are such words for every n, the nodes have no finite forward rank, and they are called
-//! endless forward. The backward rank of two nodes is the greatest n for which two words of n + m - 1 letters with
-//! the same image end with these nodes. If there are such words for every n, the nodes are called endless backward.
-//! On the right side a rank is a forward rank, and on the left side it is a backward rank.
+//! A rule has width m, and a node is a word of m - 1 letters. The forward rank of two nodes is the greatest n for
+//! which two words of n + m - 1 letters with the same image begin with these nodes. If there are such words for every
+//! n, the nodes have no finite forward rank, and they are called endless forward. The backward rank of two nodes is
+//! the greatest n for which two words of n + m - 1 letters with the same image end with these nodes. If there are such
+//! words for every n, the nodes are called endless backward. On the right side a rank is a forward rank, and on the
+//! left side it is a backward rank.
 //!
 //! Rule 204 gives the middle letter of its window. The windows that begin with the node 00 all give 0, and the
-//! windows that begin with 01 all give 1. So the nodes 00 and 01 have the forward rank 0. Two words that end with
-//! these nodes can differ only in their last letter, which is the middle of no window: the nodes are endless
+//! windows that begin with 01 all give 1. So the nodes 00 and 01 have the forward rank 0. Now take two
+//! words of the same length that end with these nodes and are equal except for their last letter. The last letter is
+//! the middle of no window, so the two words have the same image, however long they are: the nodes are endless
 //! backward.
 //!
 //! Two nodes have a rank of at least n + 1 if two edges with equal labels lead from them to nodes with a rank of at

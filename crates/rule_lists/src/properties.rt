@@ -18,11 +18,11 @@ use word_image::{Rule, Weights};
 pub enum Property {
     /// Every word has a preimage.
     Surjective,
-    /// No two different configurations that agree far to the left share an image.
+    /// No two different configurations share an image.
     Injective,
-    /// No two different configurations that agree far to the right share an image.
+    /// No two different configurations that agree far to the left share an image.
     RightClosing,
-    /// No two different configurations that agree on the right share an image.
+    /// No two different configurations that agree far to the right share an image.
     LeftClosing,
     /// The rule closes on both sides.
     Open,

@@ -8,7 +8,7 @@ use Rattle.search_laws.specs.Walks.{Walk}
 pub record IsRelation (r : LocalRule) (Related : ℕ → ℕ → Type 0) (table : List ℕ) : Type 0 where
   pub rows : (u : ℕ) → u < node_count r → IsNodeSet r (Related u) (slice_index table u)
 
--- a relation as a step relation, whose letters have no meaning
+-- the steps of a walk along a relation: a step leads from s to t if s is related to t, and the letter of the step has no meaning
 abbrev pub Unlettered : (ℕ → ℕ → Type 0) → ℕ → Unit {0} → ℕ → Type 0
 Unlettered E s a t = E s t
 
@@ -24,7 +24,7 @@ Open E n u = (v : ℕ) × Steps E n u v
 abbrev pub Rounds : (ℕ → ℕ → Type 0) → ℕ → ℕ → ℕ → Type 0
 Rounds E n on u = (v : ℕ) × Steps E n u v × Steps E on v v
 
--- for some n and some `on` of at least 1 whose sum is `sum`, n steps of the relation lead from u to a node with a loop of `on` steps
+-- n steps of the relation lead from u to a node that has a loop of `on` steps, for some numbers n and `on` with n + `on` = `sum`, where `on` is at least 1
 abbrev pub SomeRounds : (ℕ → ℕ → Type 0) → ℕ → ℕ → Type 0
 SomeRounds E sum u = (n : ℕ) × (on : ℕ) × (n + on ≡ sum) × (1 ≤ on) × Rounds E n on u
 

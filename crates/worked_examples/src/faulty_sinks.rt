@@ -9,9 +9,9 @@ use std::test::Fail;
 
 const LINE: &[u8] = b"surjective no orphan 01010\n";
 
-/// A sink takes one byte in each call, and the output has 27 bytes. First call i of the sink fails, then the sink has
-/// room for only i bytes, for each i from 0 to 27. In both cases the sink takes the first i bytes of the output and
-/// no more.
+/// A sink takes one byte in each call, and the output has 27 bytes. For each i from 0 to 27 there are two tests. In
+/// one test the call with the number i fails. In the other test the sink has room for only i bytes. In both tests the
+/// sink takes the first i bytes of the output and no more.
 #[test]
 fn failed_calls_and_small_rooms(rt: HostRuntime) -> Result<(), Fail> {
     for i in 0..28usize {
