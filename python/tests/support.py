@@ -4,6 +4,7 @@ from __future__ import annotations
 import os
 import random
 import shutil
+import signal
 import subprocess
 import sys
 import time
@@ -54,6 +55,12 @@ def python_with(modules: str, package: str) -> str:
         if Path(python).exists() and subprocess.run(asked, stderr=subprocess.DEVNULL, check=False).returncode == 0:
             return python
     raise unittest.SkipTest(f"there is no Python with {modules} (Debian: {package})")
+
+
+def heed_ctrl_c() -> None:
+    """Lets Ctrl-C end a process that is about to begin. If a shell runs the tests in the background, they ignore Ctrl-C, and so
+    would this process."""
+    signal.signal(signal.SIGINT, signal.SIG_DFL)
 
 
 def patience() -> float:

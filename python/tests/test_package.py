@@ -18,7 +18,7 @@ from pathlib import Path
 import foursaspen as ca
 from foursaspen.lists import Stop
 
-from .support import ENVIRONMENT, output, patience, program, python_with
+from .support import ENVIRONMENT, heed_ctrl_c, output, patience, program, python_with
 
 ASK = [sys.executable, "-m", "foursaspen"]
 NETWORKX = """import networkx
@@ -109,7 +109,8 @@ class Stopped(unittest.TestCase):
     def test_a_terminal_is_told_how_far_it_is(self) -> None:
         """And after Ctrl-C that it has stopped."""
         ours, theirs = os.openpty()
-        begun = subprocess.Popen([*ASK, "atlas", "2", "4", "--csv"], env=ENVIRONMENT, cwd="/", stdout=subprocess.DEVNULL, stderr=theirs)
+        begun = subprocess.Popen([*ASK, "atlas", "2", "4", "--csv"], env=ENVIRONMENT, cwd="/", stdout=subprocess.DEVNULL, stderr=theirs,
+                                 preexec_fn=heed_ctrl_c)
         os.close(theirs)
         said = b""
         try:
@@ -144,7 +145,7 @@ list(rules(sys.argv[1], int(sys.argv[2]), int(sys.argv[3])))
     def stops(self, code: str, words: tuple[str, ...]) -> None:
         """A program whose list is under way ends soon after Ctrl-C."""
         begun = subprocess.Popen([sys.executable, "-c", code, *words], env=ENVIRONMENT, cwd="/", stdout=subprocess.PIPE,
-                                 stderr=subprocess.PIPE, text=True)
+                                 stderr=subprocess.PIPE, text=True, preexec_fn=heed_ctrl_c)
         assert begun.stdout is not None
         try:
             self.assertEqual(begun.stdout.readline(), "begins\n")
