@@ -17,11 +17,13 @@ import tempfile
 import time
 from pathlib import Path
 
-# The most memory that a crate takes, in bytes.
+# The most memory that a crate takes, and the most that each further job takes, in bytes.
 MOST_MEMORY = 3_400_000_000
+JOB_MEMORY = 900_000_000
 
 here = Path.cwd()
 top = here.parent.parent
+rt = [sys.executable, str(Path(__file__).with_name("kit.py"))]
 
 
 def crates_below(name):
@@ -59,9 +61,11 @@ def longest_ways(below):
 
 
 def how_many():
-    """How many crates are built at a time: one for each processor, as far as memory goes."""
-    free = re.search(r"MemAvailable:\s+(\d+)", Path("/proc/meminfo").read_text())
-    return max(1, min(len(os.sched_getaffinity(0)), 1024 * int(free[1]) // MOST_MEMORY))
+    """How many crates are built at a time, and by how many jobs: at most one for each processor, as far as memory goes."""
+    free = 1024 * int(re.search(r"MemAvailable:\s+(\d+)", Path("/proc/meminfo").read_text())[1])
+    processors = len(os.sched_getaffinity(0))
+    crates = max(1, min(processors, free // MOST_MEMORY))
+    return crates, max(1, min(processors, 1 + (free // crates - MOST_MEMORY) // JOB_MEMORY))
 
 
 def copy_into(folder):
@@ -94,7 +98,7 @@ class Builds:
 
     def __init__(self, room, below):
         self.below, self.ways = below, longest_ways(below)
-        self.most = how_many()
+        self.most, self.jobs = how_many()
         self.copies = [room / str(i) for i in range(self.most)]
         self.free = self.copies[:]
         self.built, self.running, self.begun = set(), {}, time.monotonic()
@@ -108,9 +112,10 @@ class Builds:
         return sorted(ready, key=self.ways.get, reverse=True)
 
     def begin(self, name):
-        """Begins with a crate. The one with the longest way up gets all processors, and the others what it leaves of them."""
+        """Begins with a crate. The one with the longest way up gets all processors. The others get what it leaves of them, by
+        several jobs each, so that the last ones don't leave processors idle."""
         is_first = self.ways[name] == max(self.ways[it] for it in self.below if it not in self.built)
-        words = ["rt", "lib", "--jobs", str(self.most)] if is_first else ["nice", "rt", "lib", "--jobs", "1"]
+        words = [*rt, "lib", "--jobs", str(self.most)] if is_first else ["nice", *rt, "lib", "--jobs", str(self.jobs)]
         folder = self.free.pop()
         move(name, top, folder)
         with open(folder / f"{name}.log", "wb") as log:
@@ -174,7 +179,7 @@ def main():
                 return 1
         finally:
             builds.stop()
-        return subprocess.run(sys.argv[1:], check=False).returncode
+        return subprocess.run([*rt, *sys.argv[1:]], check=False).returncode
 
 
 if __name__ == "__main__":

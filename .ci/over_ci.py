@@ -5,23 +5,12 @@ before rt ci began. A library is used if its stamp fits. A library without a sta
 source has changed since then. If there is any other library, this script builds nothing and ends with 1. Afterwards it removes the
 libraries without a stamp: no command of rt uses them, and a later rt ci would put them back in place of its own.
 """
-import importlib.util
 import os
 import shutil
-import subprocess
 import sys
-from importlib.machinery import SourceFileLoader
 from pathlib import Path
 
-
-def library_of_rt():
-    """The module by which rt builds."""
-    page = subprocess.run(["rt", "doc"], stdout=subprocess.PIPE, text=True, check=True).stdout.strip()
-    loader = SourceFileLoader("rtlib", str(Path(page).parent / "bin" / "rtlib.py"))
-    made = importlib.util.module_from_spec(importlib.util.spec_from_loader("rtlib", loader))
-    sys.modules["rtlib"] = made
-    loader.exec_module(made)
-    return made
+from kit import module_of_rt
 
 
 def is_newer(path, begun):
@@ -38,7 +27,7 @@ def is_left(crate, begun):
 
 
 def main():
-    rtlib = library_of_rt()
+    rtlib = module_of_rt().rtlib
     rtlib.guarded()
     begun = Path(sys.argv[1]).stat().st_mtime_ns
     here = os.getcwd()
