@@ -1,4 +1,5 @@
 pub mod Inputs
+pub mod Memory
 pub mod RightAnswers
 pub mod CheckAnswers
 pub mod OneStatus

@@ -1,5 +1,6 @@
 //! The function `reply`, which returns the reply to words as a value.
-ghost use Rattle.std.specs.Prelude.{◌≡◌, ℕ, List, Option, IfOk, map, string_bytes};
+ghost use Rattle.std.specs.Prelude.{◌≡◌, ℕ, List, Option, IfOk, MatchResult, map, string_bytes};
+ghost use Rattle.ca_commands.specs.Asking.{NeedMemory};
 ghost use Rattle.ca_commands.specs.Commands.{IsCommand, check_command};
 ghost use Rattle.ca_questions.specs.Values.{reply_of};
 ghost use Rattle.ca_cli.specs.Outcomes.{IsOutcome};
@@ -28,6 +29,7 @@ pub fn reply<S: Source>(
     ensures read { IsCommand (map string_bytes words.now) check_command →
         IfOk result (λ reply. IsReadFor (reply_status (reply_of reply)) (S.left source.old) (S.left source.new)) }
     ensures failed { result ≡ Err InputFault.Failed → IsCommand (map string_bytes words.now) check_command }
+    ensures memory { (e : AllocError) → result ≡ Err (InputFault.Memory e) → NeedMemory (map string_bytes words.now) }
     ensures reading { Reading (result ≡ Err InputFault.Failed)
         (S.left source.old) (S.left source.new) (S.faults source.old) (S.faults source.new) }
 {
@@ -45,7 +47,7 @@ pub fn reply<S: Source>(
 /// returns it as the error.
 fn said(found: Result<Found, Stop>) -> Result<Reply, AllocError>
     ensures { (words : List (List ℕ)) (input : Option (List ℕ)) → IsOutcome words found →
-        IfOk result (λ reply. IsReplyTo words input (reply_of reply)) }
+        MatchResult result (λ reply. IsReplyTo words input (reply_of reply)) (λ _. NeedMemory words) }
 {
     match found {
         Ok(found) => Ok(Reply::Found(found)),

@@ -1,11 +1,11 @@
 -- What the words of a command line ask, or why nothing is found for them.
-use Rattle.std.specs.Prelude.{◌≡◌, ℕ, List, [], ◌∷◌, None, ⊤}
+use Rattle.std.specs.Prelude.{◌≡◌, ℕ, List, [], ◌∷◌, None}
 use Rattle.word_image.specs.LocalRules.{LocalRule}
 use Rattle.rule_text.specs.declared.text_fault.TextFault.{TextFault}
 use Rattle.rule_text.specs.RuleTexts.{IsTextFault, decimal_value}
 use Rattle.ca_commands.specs.declared.names.Name.{Name}
 use Rattle.ca_commands.specs.declared.names.Name.TheVariants as name
-use Rattle.ca_commands.specs.Commands.{Command, IsCommand, word_of}
+use Rattle.ca_commands.specs.Commands.{Command, CommandNeedsMemory, IsCommand, word_of}
 use Rattle.ca_questions.specs.declared.found.Stop.{Stop}
 use Rattle.ca_questions.specs.declared.found.Stop.TheVariants as stop
 use Rattle.ca_questions.specs.declared.question.Numbered.{Numbered}
@@ -38,12 +38,16 @@ pub record Ask (words : List (List ℕ)) (q : Question) : Type 0 where
 abbrev pub IsAskedBy : List (List ℕ) → code.Question → Type 0
 IsAskedBy words q = Ask words (question_of q) × IsWhole q
 
--- the reason why nothing is found for the words: they are no command, or an operand of their command is refused, or nothing fits the question of their command, or there is no memory
+-- the words are a command that may need memory
+abbrev pub NeedMemory : List (List ℕ) → Type 0
+NeedMemory words = (c : Command) × IsCommand words c × CommandNeedsMemory c.name
+
+-- the reason why nothing is found for the words: they are no command, or an operand of their command is refused, or nothing fits the question of their command, or there is no memory, which their command may need
 abbrev pub IsStop : List (List ℕ) → Stop → Type 0
 IsStop words stop.Usage = (c : Command) → ¬ IsCommand words c
 IsStop words (stop.RuleFault operand f) = (c : Command) × IsCommand words c × IsOperandFault c operand f
 IsStop words (stop.Unfit u) = (q : Question) × Ask words q × IsUnfitFor q (unfit_of u)
-IsStop words (stop.Memory _) = ⊤
+IsStop words (stop.Memory _) = NeedMemory words
 
 -- the operands of a command of this name give the shape, the first number and the count of these rules
 pub record AreNumberedBy (n : Name) (operands : List (List ℕ)) (rules : Numbered) : Type 0 where

@@ -1,5 +1,5 @@
 -- The commands of the program: a name, the texts of rules, and other operands.
-use Rattle.std.specs.Prelude.{◌≡◌, ℕ, List, [], ◌∷◌, ◌++◌, length, codes, ℤ, ⊤}
+use Rattle.std.specs.Prelude.{◌≡◌, ℕ, List, [], ◌∷◌, ◌++◌, length, codes, ℤ, ⊤, ⊥}
 use Rattle.tail_config.specs.TailFaults.{HasForm}
 use Rattle.rule_text.specs.RuleTexts.{IsDecimal, IsOffset}
 use Rattle.ca_commands.specs.Operands.{AreColours, IsCount, IsSeed}
@@ -42,6 +42,22 @@ rule_count name.Sample = 0
 rule_count name.Classes = 0
 rule_count name.Check = 0
 rule_count _ = 1
+
+-- a command of this name may need memory, since it reads an input or a configuration, or answers with lists
+abbrev pub CommandNeedsMemory : Name → Type 0
+CommandNeedsMemory name.Number = ⊥
+CommandNeedsMemory name.Reflect = ⊥
+CommandNeedsMemory name.Trim = ⊥
+CommandNeedsMemory name.Shift = ⊥
+CommandNeedsMemory name.Widen = ⊥
+CommandNeedsMemory name.Permute = ⊥
+CommandNeedsMemory name.Compose = ⊥
+CommandNeedsMemory name.Least = ⊥
+CommandNeedsMemory name.Lift = ⊥
+CommandNeedsMemory name.Unlift = ⊥
+CommandNeedsMemory name.Survey = ⊥
+CommandNeedsMemory name.Sample = ⊥
+CommandNeedsMemory _ = ⊤
 
 -- what follows the rules of a command: nothing, weights or nothing, an offset, a width of one digit, new letters, a configuration, or numbers or a seed of many rules
 pub data Form : Type 0 where

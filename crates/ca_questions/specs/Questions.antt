@@ -1,5 +1,5 @@
 -- The questions that commands ask, as values: they have rules, weights, numbers and configurations instead of texts.
-use Rattle.std.specs.Prelude.{ℕ, List, Option, ℤ, All}
+use Rattle.std.specs.Prelude.{ℕ, List, Option, ℤ, All, ⊤, ⊥}
 use Rattle.word_image.specs.LocalRules.{LocalRule, IsRule}
 use Rattle.tail_config.specs.Tails.{TailConfig}
 use Rattle.cert_values.specs.declared.cert_version.CertVersion.{CertVersion}
@@ -26,6 +26,21 @@ pub data Question : Type 0 where
   Preimage : (r : LocalRule) (t : TailConfig) → Question
   Summary : (rules : List LocalRule) → Question
   Classes : (rules : List LocalRule) → Question
+
+-- the answer to the question has lists, so it may need memory
+abbrev pub AnswerNeedsMemory : Question → Type 0
+AnswerNeedsMemory (Number r) = ⊥
+AnswerNeedsMemory (Reflect r) = ⊥
+AnswerNeedsMemory (Trim r) = ⊥
+AnswerNeedsMemory (Shift r by) = ⊥
+AnswerNeedsMemory (Widen r width) = ⊥
+AnswerNeedsMemory (Permute r letters) = ⊥
+AnswerNeedsMemory (Compose r s) = ⊥
+AnswerNeedsMemory (Least r) = ⊥
+AnswerNeedsMemory (Lift r) = ⊥
+AnswerNeedsMemory (Unlift r) = ⊥
+AnswerNeedsMemory (Summary rules) = ⊥
+AnswerNeedsMemory _ = ⊤
 
 -- the rules of a question are accepted
 abbrev pub AreRules : Question → Type 0

@@ -1,5 +1,5 @@
 -- The findings, causes and replies for which values of the code stand, and the right answers to a question.
-use Rattle.std.specs.Prelude.{ℕ, List, Option, Some, None, Result, MatchResult, ⊤}
+use Rattle.std.specs.Prelude.{ℕ, List, Option, Some, None, Result, MatchResult}
 use Rattle.certificate_laws.specs.ReportValues.{evidence_of}
 use Rattle.image_minimal.specs.ImageLanguages as languages
 use Rattle.tail_preimage.specs.Answers.{placed_config}
@@ -17,7 +17,7 @@ use Rattle.ca_questions.specs.declared.found.Counts as counted
 use Rattle.ca_questions.specs.declared.reply.Reply as said
 use Rattle.ca_questions.specs.declared.reply.Reply.TheVariants as reply
 use Rattle.ca_questions.specs.Counts.{Counts}
-use Rattle.ca_questions.specs.Questions.{Question}
+use Rattle.ca_questions.specs.Questions.{AnswerNeedsMemory, Question}
 use Rattle.ca_questions.specs.Findings.{Finding, Unfit, IsFinding, IsUnfitFor}
 use Rattle.ca_questions.specs.Replies.{Reply}
 
@@ -73,10 +73,10 @@ unfit_of unfit.States = Unfit.States
 abbrev pub Settles : Question → Result Found Cause → Type 0
 Settles q result = MatchResult result (λ f. IsFinding q (finding_of f)) (λ u. IsUnfitFor q (unfit_of u))
 
--- the question has no finding for this reason: a right cause, or lack of memory
+-- the question has no finding for this reason: a right cause, or lack of memory, which its answer may need
 abbrev pub IsStopFor : Question → Stop → Type 0
 IsStopFor q (stop.Unfit u) = IsUnfitFor q (unfit_of u)
-IsStopFor q (stop.Memory _) = ⊤
+IsStopFor q (stop.Memory _) = AnswerNeedsMemory q
 IsStopFor q _ = ⊥
 
 -- the result answers the question: it is a right finding, a right cause why nothing fits, or lack of memory

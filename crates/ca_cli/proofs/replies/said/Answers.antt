@@ -19,3 +19,6 @@ pub returns-in-Err-Unfit : goal.returns-in-Err-Unfit
 returns-in-Err-Unfit c words input outcome =
     let (q, ask, unfits) = subst (IsStop words) c.in-Err-Unfit.field-0-is (subst (IsOutcome words) c.in-Err-Unfit.is outcome) in
     IsReplyTo.Right ask.command _ ask.is (IsReply.NoFit ask.command q _ ask.asked unfits)
+
+pub returns-in-Err-Memory : goal.returns-in-Err-Memory
+returns-in-Err-Memory c words input outcome = subst (IsStop words) c.in-Err-Memory.field-0-is (subst (IsOutcome words) c.in-Err-Memory.is outcome)

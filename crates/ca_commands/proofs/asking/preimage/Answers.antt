@@ -1,4 +1,4 @@
-use Rattle.std.proofs.Common.{◌≡◌, ℕ, List, [], ◌∷◌, refl, sym, ◌∙◌, subst, inl, inr, ◌⊎◌, alloc_error}
+use Rattle.std.proofs.Common.{◌≡◌, ℕ, List, [], ◌∷◌, refl, sym, ◌∙◌, subst, inl, inr, ◌⊎◌, alloc_error, tt}
 use Rattle.word_image.proofs.Common.{LocalRule}
 use Rattle.tail_config.specs.TailFaults.{HasForm}
 use Rattle.tail_config.specs.declared.texts.TailTextFault.{TailTextFault}
@@ -42,3 +42,7 @@ pub returns-in-Err-Form : goal.returns-in-Err-Form
 returns-in-Err-Form c d is =
     no_form (c.has_form.ensures.0 c.if-not-has_form.false)
     (subst (λ (f : TailTextFault). (f ≡ text.Memory alloc_error) ⊎ IsTailTextFault c.k.result c.in-Some.tail.now f) c.in-Err-Form.field-0-is c.in-Err-Form.ensures.fault)
+
+pub returns-in-Err-Memory : goal.returns-in-Err-Memory
+returns-in-Err-Memory c =
+    let call = read_one name.Preimage c.in-Some.ensures refl (c.has_form.ensures.0 c.if-not-has_form.false) c.in_ok-rule.ensures in (_, call.is, tt)
