@@ -32,7 +32,7 @@ pub fn shape_rule(states: u8, width: u8) -> Rule
     ensures width { result.width ≡ width }
     ensures offset { result.offset ≡ pos 0 }
 {
-    Rule::by(states, width, 0, |_| 0)
+    Rule::from_fn(states, width, 0, |_| 0)
 }
 
 /// Returns the fixed letters of a search for tables that begin with these letters. All later letters are free.
@@ -67,7 +67,7 @@ pub fn next_rule(
         order,
     };
     let mut search = if after {
-        Search::after(asked, rule)
+        Search::resume_after(asked, rule)
     } else {
         Search::new(asked)
     };

@@ -48,7 +48,7 @@ impl ClassTally {
     {
         let place = class_of(rule).unwrap();
         let least = decided(&mut self.leasts, &place.least)?;
-        tally::add(&mut self.counts, &of_member(rule, place.mirrored, &least));
+        tally::add(&mut self.counts, &member_truths(rule, place.mirrored, &least));
         Ok(())
     }
 
@@ -91,7 +91,7 @@ fn keep(known: &mut IndexMap<u128, Truths>, number: u128, truths: &Truths) -> Re
 
 /// Returns the verdicts of a rule, from the verdicts of the least rule of its class. It decides anew whether rings
 /// keep their sums, since new names for the letters change the sums.
-fn of_member(rule: &Rule, mirrored: bool, least: &Truths) -> Truths
+fn member_truths(rule: &Rule, mirrored: bool, least: &Truths) -> Truths
     ensures rule { IsRule rule.now }
     ensures truths { (g : LocalRule) → HaveOneVerdict rule.now mirrored g → AreTruths g least.now → AreTruths rule.now result }
 {

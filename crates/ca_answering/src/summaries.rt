@@ -80,7 +80,7 @@ fn counts_of_bytes(k: u8, m: u8, first: u128, bytes: &[u8]) -> Counts
 {
     let mut counts = tally::no_rules();
     for byte in bytes {
-        tally::add(&mut counts, &Truths::of_byte(*byte));
+        tally::add(&mut counts, &Truths::from_byte(*byte));
     }
     counts
 }
@@ -163,7 +163,7 @@ fn counts_in(k: u8, m: u8, seed: u64, count: u16, table: &mut [u8]) -> Counts
     let mut counts = tally::no_rules();
     for _i in 0..count {
         generator.fill(table, k);
-        tally::add(&mut counts, &Truths::of_table(k, m, table));
+        tally::add(&mut counts, &Truths::from_table(k, m, table));
     }
     counts
 }

@@ -1,23 +1,15 @@
 -- The JSON of a cause why nothing fits, of the fault of an operand, and of a refusal.
 use Rattle.std.specs.Prelude.{ℕ, List, [], ◌∷◌, ◌++◌, codes, Option, Some, None}
 use Rattle.serde_json.specs.Data.{Data, null, string, Members, put}
-use Rattle.tail_config.specs.declared.faults.TailFault.{TailFault}
-use Rattle.tail_config.specs.declared.faults.TailFault.TheVariants as tail
+use Rattle.tail_config.specs.TailFaults.{tail_fault_text}
 use Rattle.cert_values.specs.WrittenTexts.{whole_value, word_value}
 use Rattle.ca_questions.specs.Findings.{Unfit}
 use Rattle.rule_algebra.specs.FaultTexts.{algebra_text}
 use Rattle.rule_classes.specs.FaultTexts.{lift_text}
 use Rattle.cert_conditions.specs.declared.refusal_parts.RefusalNumbers.{RefusalNumbers}
 use Rattle.cert_conditions.specs.declared.refusal_parts.RefusalNumbers.TheVariants as numbers
-use Rattle.cert_conditions.specs.RefusalParts.{Parts}
+use Rattle.cert_conditions.specs.RefusalParts.{SaidParts}
 use Rattle.ca_json.specs.Values.{object_of, tagged, status, numbers_json, two}
-
--- the word for the reason why three parts don't form a configuration
-abbrev pub tail_name : TailFault → List ℕ
-tail_name tail.LeftEmpty = codes "leftempty"
-tail_name tail.RightEmpty = codes "rightempty"
-tail_name (tail.Long part) = codes "long"
-tail_name (tail.Letter part place) = codes "letter"
 
 -- the JSON of a cause why nothing fits, under a key for the kind of the cause
 abbrev pub unfit_json : Unfit → Data
@@ -26,7 +18,7 @@ unfit_json (Unfit.Wide n) = tagged (codes "wide") (whole_value n)
 unfit_json Unfit.Colours = tagged (codes "colours") null
 unfit_json (Unfit.Lift f) = tagged (codes "lift") (string (lift_text f))
 unfit_json (Unfit.Algebra f) = tagged (codes "algebra") (string (algebra_text f))
-unfit_json (Unfit.Tail f) = tagged (codes "tail") (string (tail_name f))
+unfit_json (Unfit.Tail f) = tagged (codes "tail") (string (tail_fault_text f))
 unfit_json Unfit.Weights = tagged (codes "weights") null
 unfit_json Unfit.States = tagged (codes "states") null
 
@@ -51,7 +43,7 @@ places_json (numbers.Two a b) = numbers_json (a ∷ b ∷ [])
 places_json (numbers.Three a b c) = numbers_json (a ∷ b ∷ c ∷ [])
 
 -- the JSON object of a refusal: its parts under their keys
-abbrev pub parts_json : Parts → Data
+abbrev pub parts_json : SaidParts → Data
 parts_json p = object_of (
     (codes "at", places_json p.numbers) ∷ (named (codes "because") p.because ++ ((codes "cause", string p.cause) ∷ (named (codes "fault") p.fault
     ++ (named (codes "key") p.key ++ (named (codes "side") p.side ++ (status (codes "refused") ∷ [])))))))

@@ -13,7 +13,7 @@ use rule_classes::lift_name;
 use rule_text::{TextFault, fault_name, fault_place};
 use serde_json::{Value, json};
 use std::alloc::{AllocError, Global};
-use tail_config::TailFault;
+use tail_config::tail_name;
 
 /// Returns an object with one key, which names the kind of the cause why nothing fits. For example, it is
 /// `{"twins":["0","1"]}`.
@@ -33,18 +33,6 @@ pub fn unfit_value(alloc: Global, cause: &Cause) -> Result<Value, AllocError>
         Cause::Tail(fault) => json!(in alloc; {"tail": tail_name(*fault)}),
         Cause::Weights => tagged(alloc, "weights", Value::Null),
         Cause::States => tagged(alloc, "states", Value::Null),
-    }
-}
-
-/// Returns the name of the first reason why three parts don't form a configuration.
-fn tail_name(fault: TailFault) -> &'static str
-    ensures { result.now ≡ causes.tail_name fault }
-{
-    match fault {
-        TailFault::LeftEmpty => "leftempty",
-        TailFault::RightEmpty => "rightempty",
-        TailFault::Long(_) => "long",
-        TailFault::Letter(..) => "letter",
     }
 }
 

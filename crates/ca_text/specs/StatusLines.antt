@@ -10,7 +10,7 @@ use Rattle.cert_conditions.specs.declared.refusal.Refusal.{Refusal}
 use Rattle.cert_conditions.specs.declared.verdicts.Verdicts.{Verdicts}
 use Rattle.cert_conditions.specs.declared.refusal_parts.RefusalNumbers.{RefusalNumbers}
 use Rattle.cert_conditions.specs.declared.refusal_parts.RefusalNumbers.TheVariants as numbers
-use Rattle.cert_conditions.specs.RefusalParts.{Parts, parts_of}
+use Rattle.cert_conditions.specs.RefusalParts.{SaidParts, parts_of}
 use Rattle.cert_conditions.specs.Accepted.{is_open}
 use Rattle.ca_text.specs.Reports.{line}
 
@@ -62,7 +62,7 @@ number_parts (numbers.Two a b) = codes " " ++ decimal a ++ codes " " ++ decimal 
 number_parts (numbers.Three a b c) = codes " " ++ decimal a ++ codes " " ++ decimal b ++ codes " " ++ decimal c
 
 -- the text of a refusal: its parts in their order
-abbrev pub refusal_text : Parts → List ℕ
+abbrev pub refusal_text : SaidParts → List ℕ
 refusal_text p = p.cause ++ word_part p.side ++ word_part p.because ++ word_part p.key ++ word_part p.fault ++ number_parts p.numbers
 
 -- the line of a refused certificate

@@ -5,8 +5,7 @@ use Rattle.word_image.specs.Digits.{word_text}
 use Rattle.rule_text.specs.PrintedRules.{printed_rule}
 use Rattle.rule_algebra.specs.FaultTexts.{algebra_text}
 use Rattle.rule_classes.specs.FaultTexts.{lift_text}
-use Rattle.tail_config.specs.declared.faults.TailFault.{TailFault}
-use Rattle.tail_config.specs.declared.faults.TailFault.TheVariants as tail
+use Rattle.tail_config.specs.TailFaults.{tail_fault_text}
 use Rattle.cert_values.specs.WrittenTexts.{certificate_text}
 use Rattle.ca_questions.specs.Findings.{Finding, Unfit}
 use Rattle.ca_text.specs.Reports.{line, number_line, surjective_line, report_lines}
@@ -37,13 +36,6 @@ text_of (Finding.Gap before after w) = line (gap_text before after w)
 text_of (Finding.Summary t) = counts_lines t
 text_of (Finding.Classes t n) = counts_lines t ++ count_line (codes "classes") n
 
--- the words for the reason why three parts don't form a configuration
-abbrev pub tail_text : TailFault → List ℕ
-tail_text tail.LeftEmpty = codes "tail leftempty"
-tail_text tail.RightEmpty = codes "tail rightempty"
-tail_text (tail.Long part) = codes "tail long"
-tail_text (tail.Letter part place) = codes "tail letter"
-
 -- the words for a cause why nothing fits
 abbrev pub unfit_text : Unfit → List ℕ
 unfit_text (Unfit.Twins x y) = codes "twins " ++ word_text x ++ codes " " ++ word_text y
@@ -51,6 +43,6 @@ unfit_text (Unfit.Wide n) = codes "wide " ++ decimal n
 unfit_text Unfit.Colours = codes "colours"
 unfit_text (Unfit.Lift f) = lift_text f
 unfit_text (Unfit.Algebra f) = algebra_text f
-unfit_text (Unfit.Tail f) = tail_text f
+unfit_text (Unfit.Tail f) = codes "tail " ++ tail_fault_text f
 unfit_text Unfit.Weights = codes "weights"
 unfit_text Unfit.States = codes "states"

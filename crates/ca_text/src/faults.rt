@@ -2,7 +2,7 @@
 ghost use Rattle.std.specs.Prelude.{◌≡◌, IfOk};
 ghost use Rattle.ca_questions.specs.Values.{unfit_of};
 ghost use Rattle.ca_text.specs.StatusLines.{operand_fault_line, unfit_line};
-ghost use Rattle.ca_text.specs.Texts.{tail_text, unfit_text};
+ghost use Rattle.ca_text.specs.Texts.{unfit_text};
 ghost use Rattle.ca_questions.specs.Writable.{IsWritableUnfit};
 
 use crate::output::Output;
@@ -11,7 +11,7 @@ use rule_algebra::algebra_name;
 use rule_classes::lift_name;
 use rule_text::{TextFault, fault_kind};
 use std::alloc::{AllocError, Global};
-use tail_config::TailFault;
+use tail_config::tail_name;
 
 /// Returns the line of a cause why nothing fits, for example `notfit twins 0 1`.
 pub fn unfit_output(alloc: Global, cause: &Cause) -> Result<Output, AllocError>
@@ -26,7 +26,10 @@ pub fn unfit_output(alloc: Global, cause: &Cause) -> Result<Output, AllocError>
         Cause::Colours => Output::unfit(alloc, "colours"),
         Cause::Lift(fault) => Output::unfit(alloc, lift_name(*fault)),
         Cause::Algebra(fault) => Output::unfit(alloc, algebra_name(*fault)),
-        Cause::Tail(fault) => Output::unfit(alloc, tail_name(*fault)),
+        Cause::Tail(fault) => {
+            let name = tail_name(*fault);
+            Output::unfit(alloc, &format!(in alloc; "tail {name}")?)
+        }
         Cause::Weights => Output::unfit(alloc, "weights"),
         Cause::States => Output::unfit(alloc, "states"),
     }
@@ -42,16 +45,4 @@ pub fn operand_fault_output(
 {
     let kind = fault_kind(alloc, fault)?;
     Output::line(alloc, &format!(in alloc; "rule fault {operand} {kind}")?)
-}
-
-/// Returns the words for the reason why three parts don't form a configuration.
-fn tail_name(fault: TailFault) -> &'static str
-    ensures { result.now ≡ tail_text fault }
-{
-    match fault {
-        TailFault::LeftEmpty => "tail leftempty",
-        TailFault::RightEmpty => "tail rightempty",
-        TailFault::Long(_) => "tail long",
-        TailFault::Letter(..) => "tail letter",
-    }
 }

@@ -45,12 +45,12 @@ impl Marks {
     {
         match version {
             CertVersion::One => Marks::of(sets),
-            CertVersion::Two | CertVersion::Three => Marks::above(full, sets),
+            CertVersion::Two | CertVersion::Three => Marks::supersets(full, sets),
         }
     }
 
     /// Makes marks on the sets up to the number `full` that contain a set of a list.
-    fn above(full: u16, sets: &[u16]) -> Marks
+    fn supersets(full: u16, sets: &[u16]) -> Marks
         ensures { (s : ℕ) → IsMarked result.rows s ↔ ((s < full + 1) × HasPart sets.now s) }
     {
         let listed = Marks::of(sets);

@@ -50,7 +50,7 @@ split_text split.Apart = codes "apart"
 split_text split.Image = codes "image"
 
 -- the parts of a refusal: a cause, optionally a side, a reason, a key and a fault of the rule's text, and numbers
-pub record Parts : Type 0 where
+pub record SaidParts : Type 0 where
   pub cause : List ℕ
   pub side : Option (List ℕ)
   pub because : Option (List ℕ)
@@ -59,16 +59,16 @@ pub record Parts : Type 0 where
   pub numbers : RefusalNumbers
 
 -- the parts of a refusal with this cause, these numbers and nothing else
-abbrev pub with : List ℕ → RefusalNumbers → Parts
-with cause ns = record { cause = cause; side = None; because = None; key = None; fault = None; numbers = ns }
+abbrev pub bare_parts : List ℕ → RefusalNumbers → SaidParts
+bare_parts cause ns = record { cause = cause; side = None; because = None; key = None; fault = None; numbers = ns }
 
 -- the given parts of a refusal with this side in addition
-abbrev pub on : Side → Parts → Parts
-on s p = record { cause = p.cause; side = Some (side_text s); because = p.because; key = p.key; fault = p.fault; numbers = p.numbers }
+abbrev pub add_side : Side → SaidParts → SaidParts
+add_side s p = record { cause = p.cause; side = Some (side_text s); because = p.because; key = p.key; fault = p.fault; numbers = p.numbers }
 
 -- the given parts of a refusal with this reason in addition
-abbrev pub because : List ℕ → Parts → Parts
-because why p = record { cause = p.cause; side = p.side; because = Some why; key = p.key; fault = p.fault; numbers = p.numbers }
+abbrev pub add_reason : List ℕ → SaidParts → SaidParts
+add_reason why p = record { cause = p.cause; side = p.side; because = Some why; key = p.key; fault = p.fault; numbers = p.numbers }
 
 -- the numbers of a refusal that names a fault: the place of the fault, or no number if the fault has no place
 abbrev pub place_number : Option ℕ → RefusalNumbers
@@ -76,33 +76,33 @@ place_number None = numbers.None
 place_number (Some place) = numbers.One place
 
 -- the parts of a refusal whose reason is the first fault of a certificate's text
-abbrev pub of_shape : ShapeFault → Parts
-of_shape shape.NotJson = because (codes "notjson") (with (codes "format") numbers.None)
-of_shape (shape.Version v) = because (codes "version") (with (codes "format") (numbers.One v))
-of_shape (shape.Shape k) = record { cause = codes "format"; side = None; because = Some (codes "shape"); key = Some (key_text k); fault = None; numbers = numbers.None }
-of_shape (shape.Rule f) = record { cause = codes "format"; side = None; because = Some (codes "rule"); key = None; fault = Some (fault_name f); numbers = place_number (fault_place f) }
+abbrev pub shape_parts : ShapeFault → SaidParts
+shape_parts shape.NotJson = add_reason (codes "notjson") (bare_parts (codes "format") numbers.None)
+shape_parts (shape.Version v) = add_reason (codes "version") (bare_parts (codes "format") (numbers.One v))
+shape_parts (shape.Shape k) = record { cause = codes "format"; side = None; because = Some (codes "shape"); key = Some (key_text k); fault = None; numbers = numbers.None }
+shape_parts (shape.Rule f) = record { cause = codes "format"; side = None; because = Some (codes "rule"); key = None; fault = Some (fault_name f); numbers = place_number (fault_place f) }
 
 -- the parts of a refusal; a lack of memory, which isn't a refusal, has an empty cause
-abbrev pub parts_of : Refusal → Parts
-parts_of (refusal.Format f) = of_shape f
-parts_of (refusal.Rank s p) = on s (with (codes "rank") (numbers.One p))
-parts_of refusal.NoFull = with (codes "nofull") numbers.None
-parts_of (refusal.EmptySet i) = with (codes "emptyset") (numbers.One i)
-parts_of (refusal.NotClosed i a) = with (codes "notclosed") (numbers.Two i a)
-parts_of (refusal.NoFirst p) = with (codes "nofirst") (numbers.One p)
-parts_of (refusal.Diagonal i) = with (codes "diagonal") (numbers.One i)
-parts_of (refusal.Leaves i a b) = with (codes "leaves") (numbers.Three i a b)
-parts_of refusal.Orphan = with (codes "orphan") numbers.None
-parts_of (refusal.Window p) = with (codes "window") (numbers.One p)
-parts_of (refusal.Twins cause) = because (twin_text cause) (with (codes "twins") numbers.None)
-parts_of (refusal.Ahead s p) = on s (with (codes "ahead") (numbers.One p))
-parts_of (refusal.Split s cause) = because (split_text cause) (on s (with (codes "split") numbers.None))
-parts_of (refusal.Flux w) = with (codes "flux") (numbers.One w)
-parts_of refusal.Ring = with (codes "ring") numbers.None
-parts_of (refusal.Memory _) = with [] numbers.None
+abbrev pub parts_of : Refusal → SaidParts
+parts_of (refusal.Format f) = shape_parts f
+parts_of (refusal.Rank s p) = add_side s (bare_parts (codes "rank") (numbers.One p))
+parts_of refusal.NoFull = bare_parts (codes "nofull") numbers.None
+parts_of (refusal.EmptySet i) = bare_parts (codes "emptyset") (numbers.One i)
+parts_of (refusal.NotClosed i a) = bare_parts (codes "notclosed") (numbers.Two i a)
+parts_of (refusal.NoFirst p) = bare_parts (codes "nofirst") (numbers.One p)
+parts_of (refusal.Diagonal i) = bare_parts (codes "diagonal") (numbers.One i)
+parts_of (refusal.Leaves i a b) = bare_parts (codes "leaves") (numbers.Three i a b)
+parts_of refusal.Orphan = bare_parts (codes "orphan") numbers.None
+parts_of (refusal.Window p) = bare_parts (codes "window") (numbers.One p)
+parts_of (refusal.Twins cause) = add_reason (twin_text cause) (bare_parts (codes "twins") numbers.None)
+parts_of (refusal.Ahead s p) = add_side s (bare_parts (codes "ahead") (numbers.One p))
+parts_of (refusal.Split s cause) = add_reason (split_text cause) (add_side s (bare_parts (codes "split") numbers.None))
+parts_of (refusal.Flux w) = bare_parts (codes "flux") (numbers.One w)
+parts_of refusal.Ring = bare_parts (codes "ring") numbers.None
+parts_of (refusal.Memory _) = bare_parts [] numbers.None
 
 -- the parts of a refusal that a value of the code stands for
-abbrev pub said_in : RefusalParts → Parts
+abbrev pub said_in : RefusalParts → SaidParts
 said_in p = record {
   cause = p.cause.now;
   side = option_map (λ s. s.now) p.side;

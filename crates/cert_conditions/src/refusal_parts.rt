@@ -41,43 +41,43 @@ impl RefusalParts {
         ensures { IfOk result (λ made. said_in made ≡ parts_of refusal) }
     {
         let parts = match refusal {
-            Refusal::Format(fault) => of_shape(fault),
-            Refusal::Rank(side, pair) => with("rank", RefusalNumbers::One(pair.into())).on(side),
-            Refusal::NoFull => with("nofull", RefusalNumbers::None),
-            Refusal::EmptySet(index) => with("emptyset", RefusalNumbers::One(index as u64)),
+            Refusal::Format(fault) => shape_parts(fault),
+            Refusal::Rank(side, pair) => bare_parts("rank", RefusalNumbers::One(pair.into())).add_side(side),
+            Refusal::NoFull => bare_parts("nofull", RefusalNumbers::None),
+            Refusal::EmptySet(index) => bare_parts("emptyset", RefusalNumbers::One(index as u64)),
             Refusal::NotClosed(index, letter) => {
-                with(
+                bare_parts(
                     "notclosed",
                     RefusalNumbers::Two(index as u64, letter.into()),
                 )
             }
-            Refusal::NoFirst(pair) => with("nofirst", RefusalNumbers::One(pair.into())),
-            Refusal::Diagonal(index) => with("diagonal", RefusalNumbers::One(index as u64)),
+            Refusal::NoFirst(pair) => bare_parts("nofirst", RefusalNumbers::One(pair.into())),
+            Refusal::Diagonal(index) => bare_parts("diagonal", RefusalNumbers::One(index as u64)),
             Refusal::Leaves(index, a, b) => {
-                with(
+                bare_parts(
                     "leaves",
                     RefusalNumbers::Three(index as u64, a.into(), b.into()),
                 )
             }
-            Refusal::Orphan => with("orphan", RefusalNumbers::None),
-            Refusal::Window(pair) => with("window", RefusalNumbers::One(pair.into())),
-            Refusal::Twins(cause) => with("twins", RefusalNumbers::None).because(twin_name(cause)),
-            Refusal::Ahead(side, pair) => with("ahead", RefusalNumbers::One(pair.into())).on(side),
+            Refusal::Orphan => bare_parts("orphan", RefusalNumbers::None),
+            Refusal::Window(pair) => bare_parts("window", RefusalNumbers::One(pair.into())),
+            Refusal::Twins(cause) => bare_parts("twins", RefusalNumbers::None).add_reason(twin_name(cause)),
+            Refusal::Ahead(side, pair) => bare_parts("ahead", RefusalNumbers::One(pair.into())).add_side(side),
             Refusal::Split(side, cause) => {
-                with("split", RefusalNumbers::None)
-                    .on(side)
-                    .because(split_name(cause))
+                bare_parts("split", RefusalNumbers::None)
+                    .add_side(side)
+                    .add_reason(split_name(cause))
             }
-            Refusal::Flux(window) => with("flux", RefusalNumbers::One(window.into())),
-            Refusal::Ring => with("ring", RefusalNumbers::None),
+            Refusal::Flux(window) => bare_parts("flux", RefusalNumbers::One(window.into())),
+            Refusal::Ring => bare_parts("ring", RefusalNumbers::None),
             Refusal::Memory(fault) => return Err(fault),
         };
         Ok(parts)
     }
 
     /// Adds the word for a side to the parts.
-    fn on(self, side: Side) -> RefusalParts
-        ensures { said_in result ≡ parts.on side (said_in self) }
+    fn add_side(self, side: Side) -> RefusalParts
+        ensures { said_in result ≡ parts.add_side side (said_in self) }
     {
         RefusalParts {
             cause: self.cause,
@@ -90,8 +90,8 @@ impl RefusalParts {
     }
 
     /// Adds the word for a reason to the parts.
-    fn because(self, why: &'static str) -> RefusalParts
-        ensures { said_in result ≡ parts.because why.now (said_in self) }
+    fn add_reason(self, why: &'static str) -> RefusalParts
+        ensures { said_in result ≡ parts.add_reason why.now (said_in self) }
     {
         RefusalParts {
             cause: self.cause,
@@ -105,8 +105,8 @@ impl RefusalParts {
 }
 
 /// Returns the parts that have only this word for the condition and these numbers.
-fn with(cause: &'static str, numbers: RefusalNumbers) -> RefusalParts
-    ensures { said_in result ≡ parts.with cause.now numbers }
+fn bare_parts(cause: &'static str, numbers: RefusalNumbers) -> RefusalParts
+    ensures { said_in result ≡ parts.bare_parts cause.now numbers }
 {
     RefusalParts {
         cause,
@@ -119,8 +119,8 @@ fn with(cause: &'static str, numbers: RefusalNumbers) -> RefusalParts
 }
 
 /// Returns the parts of the first fault of a certificate's text.
-fn of_shape(fault: ShapeFault) -> RefusalParts
-    ensures { said_in result ≡ parts.of_shape fault }
+fn shape_parts(fault: ShapeFault) -> RefusalParts
+    ensures { said_in result ≡ parts.shape_parts fault }
 {
     let (because, key, fault, numbers) = match fault {
         ShapeFault::NotJson => ("notjson", None, None, RefusalNumbers::None),

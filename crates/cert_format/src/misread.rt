@@ -17,7 +17,7 @@ pub enum Misread {
 
 impl Misread {
     /// Returns this error as the fault of the part of a certificate with this key.
-    pub fn at(self, key: Key) -> CertFault
+    pub fn fault_at(self, key: Key) -> CertFault
         ensures shape { self ≡ Misread.Shape → result ≡ CertFault.Format (ShapeFault.Shape key) }
         ensures memory { self ≡ Misread.Memory alloc_error → result ≡ CertFault.Memory alloc_error }
     {

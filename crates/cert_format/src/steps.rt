@@ -27,8 +27,8 @@ pub fn surjective_step(
     ensures fault { IfErr result (IsStepFault Key.Surjective
         ((e : SurjectiveEvidence) × HasSurjective version rule.now (members_in (view value.now)) e)) }
 {
-    let part = member(value, "surjective").ok_or(Misread::Shape.at(Key::Surjective))?;
-    surjective(alloc, version, rule, part).map_err(|fault| fault.at(Key::Surjective))
+    let part = member(value, "surjective").ok_or(Misread::Shape.fault_at(Key::Surjective))?;
+    surjective(alloc, version, rule, part).map_err(|fault| fault.fault_at(Key::Surjective))
 }
 
 /// Reads the evidence about injectivity, or returns the fault that it is missing or has the wrong shape.
@@ -38,8 +38,8 @@ pub fn injective_step(alloc: Global, rule: &Rule, value: &Value) -> Result<Injec
     ensures fault { IfErr result (IsStepFault Key.Injective
         ((e : InjectiveEvidence) × HasInjective rule.now (members_in (view value.now)) e)) }
 {
-    let part = member(value, "injective").ok_or(Misread::Shape.at(Key::Injective))?;
-    injective(alloc, rule, part).map_err(|fault| fault.at(Key::Injective))
+    let part = member(value, "injective").ok_or(Misread::Shape.fault_at(Key::Injective))?;
+    injective(alloc, rule, part).map_err(|fault| fault.fault_at(Key::Injective))
 }
 
 /// Reads the evidence about closing on a side, which is under the key `name`. Otherwise returns the fault that it is
@@ -57,8 +57,8 @@ pub fn side_step(
     ensures fault { IfErr result (IsStepFault key
         ((e : SideEvidence) × HasSide name.now rule.now (members_in (view value.now)) e)) }
 {
-    let part = member(value, name).ok_or(Misread::Shape.at(key))?;
-    side(alloc, rule, part).map_err(|fault| fault.at(key))
+    let part = member(value, name).ok_or(Misread::Shape.fault_at(key))?;
+    side(alloc, rule, part).map_err(|fault| fault.fault_at(key))
 }
 
 /// Reads the evidence about the sum, or returns the fault that it is missing or has the wrong shape.
@@ -68,8 +68,8 @@ pub fn conserving_step(alloc: Global, rule: &Rule, value: &Value) -> Result<SumP
     ensures fault { IfErr result (IsStepFault Key.Conserving
         ((e : SumEvidence) × HasConserving rule.now (members_in (view value.now)) e)) }
 {
-    let part = member(value, "conserving").ok_or(Misread::Shape.at(Key::Conserving))?;
-    conserving(alloc, rule, part).map_err(|fault| fault.at(Key::Conserving))
+    let part = member(value, "conserving").ok_or(Misread::Shape.fault_at(Key::Conserving))?;
+    conserving(alloc, rule, part).map_err(|fault| fault.fault_at(Key::Conserving))
 }
 
 /// Reads the weights. If there are none, or if the version may not name any, returns the weights by which each letter
@@ -92,7 +92,7 @@ pub fn weights_step(
     };
     match weights(alloc, rule, list) {
         Ok(weights) => Ok(weights),
-        Err(fault) => Err(fault.at(Key::Weights)),
+        Err(fault) => Err(fault.fault_at(Key::Weights)),
     }
 }
 
@@ -110,10 +110,10 @@ pub fn ranks_step(
         × HasRanks rule.now (members_in (view value.now)) forward backward)) }
 {
     let Some(rows) = member(value, "ranks") else {
-        return Err(Misread::Shape.at(Key::Ranks));
+        return Err(Misread::Shape.fault_at(Key::Ranks));
     };
     match ranks(alloc, rule, rows) {
         Ok(rows) => Ok(rows),
-        Err(fault) => Err(fault.at(Key::Ranks)),
+        Err(fault) => Err(fault.fault_at(Key::Ranks)),
     }
 }

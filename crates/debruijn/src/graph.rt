@@ -4,7 +4,7 @@ ghost use Rattle.std.specs.Prelude.{◌≡◌, ◌<◌, ℕ, List, [], ◌∷◌
 ghost use Rattle.word_image.specs.LocalRules.{IsRule, node_count};
 
 use std::marker::Model;
-use word_image::{EdgeRows, MOST_NODES, Rule, Side, after, edge_rows, step};
+use word_image::{EdgeRows, MOST_NODES, Rule, Side, edge_rows, step, union_of_rows};
 
 /// The de Bruijn graph of a rule. In contracts it is the rule. Steps are looked up in tables that `of` fills once.
 #[derive(Clone, Copy, Debug)]
@@ -129,10 +129,10 @@ impl Graph {
     }
 
     /// Returns the union of the sets `rows[u]` for all nodes u of `set`.
-    pub fn after(&self, rows: &[u16; MOST_NODES], set: u16) -> u16
+    pub fn union_of_rows(&self, rows: &[u16; MOST_NODES], set: u16) -> u16
         requires { AreSets self.now rows.now }
         ensures { IsNodeSet self.now (λ v. (u : ℕ) × (u < node_count self.now) × (IsBitSet set u × HasBit rows.now u v)) result }
     {
-        after(self.nodes(), rows, set)
+        union_of_rows(self.nodes(), rows, set)
     }
 }

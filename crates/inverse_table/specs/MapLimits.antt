@@ -1,6 +1,7 @@
 -- The limits of the maps that are computed, and the limits that a map must keep to be a rule.
-use Rattle.std.specs.Prelude.{◌≡◌, ℕ, ◌^◌, ◌≤◌, length, pos, negsuc, ◌≤ℤ◌, ◌-◌, Option, Some, None, nat_lt, ◌||◌, if◌then◌else◌, ◌+ℤ◌, int_lt}
+use Rattle.std.specs.Prelude.{◌≡◌, ℕ, ◌^◌, ◌≤◌, length, pos, negsuc, ◌≤ℤ◌, ◌-◌, Option, Some, None, nat_lt, if◌then◌else◌}
 use Rattle.word_image.specs.LocalRules.{IsWord, LocalRule, most_nodes, most_states, most_width}
+use Rattle.word_image.specs.RuleFaults.{reaches_far}
 use Rattle.tail_config.specs.InverseMaps.{WindowMap}
 use Rattle.word_image.specs.declared.local_rule.RuleFault.{RuleFault}
 use Rattle.word_image.specs.declared.local_rule.RuleFault.TheVariants.{Width, Nodes, Offset}
@@ -30,5 +31,5 @@ abbrev pub rule_limit_fault : LocalRule → Option RuleFault
 rule_limit_fault r =
     if nat_lt most_width r.width then Some Width
     else (if nat_lt most_nodes (r.states ^ (r.width - 1)) then Some Nodes
-    else (if int_lt r.offset (negsuc 15) || int_lt (pos 16) (r.offset +ℤ pos (r.width - 1)) then Some Offset
+    else (if reaches_far r.width r.offset then Some Offset
     else None))

@@ -2,7 +2,7 @@
 ghost use Rattle.std.specs.Prelude.{◌≡◌, ℕ, ◌+◌, ◌*◌, ◌%◌, ◌<◌, ◌≤◌};
 
 /// Returns i + 1, or 0 if i is the last number below `count`.
-pub(crate) fn after(i: usize, count: usize) -> usize
+pub(crate) fn next_number(i: usize, count: usize) -> usize
     requires { i < count }
     ensures next { (n : ℕ) → i ≡ n % count → result ≡ (n + 1) % count }
     ensures below { result < count }
@@ -12,7 +12,7 @@ pub(crate) fn after(i: usize, count: usize) -> usize
 
 /// Returns the first place of the next row of a list, or 0 after the last row. The list has `count` numbers, in rows
 /// of `row` numbers. One row begins at `place`.
-pub(crate) fn after_row(place: usize, row: usize, count: usize) -> usize
+pub(crate) fn next_row(place: usize, row: usize, count: usize) -> usize
     requires some { 0 < row }
     requires inside { place + row ≤ count }
     ensures next { (rows j : ℕ) → count ≡ rows * row → place ≡ j % rows * row → result ≡ (j + 1) % rows * row }

@@ -3,7 +3,7 @@ ghost use Rattle.std.specs.Prelude.{◌≡◌, ℕ, ◌+◌, ◌*◌, ◌^◌, �
 ghost use Rattle.inverse_table.specs.MapLimits.{most_map_entries};
 ghost use Rattle.inverse_table.specs.ImageValues.{AreImageValues};
 
-use crate::cycles::after_row;
+use crate::cycles::next_row;
 use std::alloc::{AllocError, Global};
 use word_image::Rule;
 
@@ -36,7 +36,7 @@ fn longer(alloc: Global, rule: &Rule, images: &[u16]) -> Result<Vec<u16>, AllocE
     for image in images {
         let first = *image * u16::from(k);
         push_all(&mut values, first, row_at(table, place, row));
-        place = after_row(place, row, table.len());
+        place = next_row(place, row, table.len());
     }
     Ok(values)
 }

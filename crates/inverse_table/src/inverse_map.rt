@@ -94,7 +94,7 @@ pub fn as_rule(map: &InverseMap) -> Result<Rule, RuleFault>
     let m = map.n().max(2) as u8;
     let o = map.offset() as i8;
     check_shape(map.k(), m, o)?;
-    Ok(Rule::by(map.k(), m, o, |window| letter_of(map, window)))
+    Ok(Rule::from_fn(map.k(), m, o, |window| letter_of(map, window)))
 }
 
 /// Returns the letter that the map gives for a window of its rule. If the map reads one letter, the second cell is

@@ -3,7 +3,7 @@ ghost use Rattle.std.specs.Prelude.{◌≡◌, ℕ, ◌+◌, ◌*◌, ◌%◌, �
 ghost use Rattle.word_image.specs.LocalRules.{most_states};
 ghost use Rattle.inverse_table.specs.ImageValues.{AreUndetermined, AreReadBack, HasApart, IsRead, letter_by_unit};
 
-use crate::cycles::after;
+use crate::cycles::next_number;
 
 /// The entry for a letter that hasn't been read yet.
 pub(crate) const UNREAD: u8 = 16;
@@ -51,7 +51,7 @@ pub(crate) fn read_letters(
         if let Some(word) = read_run(letters, images, place, run * place.unit, letter as u8) {
             return Some((word, other_apart(images, word, place).unwrap()));
         }
-        letter = after(letter, place.k);
+        letter = next_number(letter, place.k);
     }
     None
 }

@@ -1,12 +1,11 @@
 //! Short rings: their images, and the words that begin at their places.
 ghost use Rattle.std.specs.Prelude.{◌≡◌, ◌^◌, ◌<◌, ◌≤◌, length, take, pos};
-ghost use Rattle.std.specs.Int.{int_rem_euclid};
 ghost use Rattle.word_image.specs.LocalRules.{IsRule, value, word_of};
 ghost use Rattle.word_image.specs.Rings.{IsRing, ring_letters, ring_image};
 ghost use Rattle.kept_sums.specs.Sums.{blocks};
 ghost use Rattle.kept_sums.specs.Stages.{IsCondition};
 
-use word_image::{Rule, ring_apply};
+use word_image::{Rule, first_place, ring_apply};
 
 /// The greatest length of a ring that is tested: 2 (m + range) - 3 at width 5 and range 4.
 pub const LONGEST: usize = 15;
@@ -70,15 +69,6 @@ fn image_letters(rule: &Rule, ring: &[u8]) -> [u8; LONGEST]
         letters[place] = ring_apply(rule, ring, (first + place) % count);
     }
     letters
-}
-
-/// Returns the place of a ring with `count` letters at which the window of place 0 begins.
-fn first_place(rule: &Rule, count: usize) -> usize
-    requires some { 0 < count }
-    requires fits { count < 2 ^ 63 }
-    ensures { pos result ≡ int_rem_euclid rule.now.offset (pos count) }
-{
-    i64::from(rule.o()).rem_euclid(count as i64) as usize
 }
 
 /// Returns the word of `count` letters with this value, followed by zeros.

@@ -48,12 +48,12 @@ impl WalkTree {
         requires { start < 2 * pair_count pairs.now }
         ensures { IfOk result (λ tree. tree ≡ record { rule = pairs.now; start = start; most = most_steps }) }
     {
-        WalkTree::within(alloc, pairs, start, MOST_STEPS)
+        WalkTree::limited(alloc, pairs, start, MOST_STEPS)
     }
 
     /// Finds the least walks of at most `most` steps from this marked pair to all others. The only error is lack of
     /// memory.
-    pub fn within(
+    pub fn limited(
         alloc: Global,
         pairs: &Pairs,
         start: u16,

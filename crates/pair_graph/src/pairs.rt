@@ -41,11 +41,11 @@ impl Pairs {
     pub fn of(rule: &Rule) -> Pairs
         ensures { result ≡ rule.now }
     {
-        Pairs::over(Graph::of(rule))
+        Pairs::from_graph(Graph::of(rule))
     }
 
     /// Makes the pairs of nodes of this graph.
-    pub fn over(graph: Graph) -> Pairs
+    pub fn from_graph(graph: Graph) -> Pairs
         ensures { result ≡ graph }
     {
         let starts = edge_rows(graph.rule(), Side::Left);

@@ -36,7 +36,7 @@ impl Model for Endless {
 
 impl Endless {
     /// Finds the endless pairs of nodes of a rule.
-    pub fn over(pairs: &Pairs) -> Endless
+    pub fn from_pairs(pairs: &Pairs) -> Endless
         ensures { result ≡ pairs.now }
     {
         Endless {

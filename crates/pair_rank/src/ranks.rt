@@ -41,11 +41,11 @@ impl Ranks {
     pub fn of(rule: &Rule) -> Ranks
         ensures { result ≡ rule.now }
     {
-        Ranks::over(&Pairs::of(rule))
+        Ranks::from_pairs(&Pairs::of(rule))
     }
 
     /// Finds the ranks of the rule of these pairs.
-    pub fn over(pairs: &Pairs) -> Ranks
+    pub fn from_pairs(pairs: &Pairs) -> Ranks
         ensures { result ≡ pairs.now }
     {
         let (forward, begins) = exact_ranks(pairs, Side::Right);

@@ -44,7 +44,7 @@ fn composed_rule(first: &Rule, second: &Rule) -> Rule
 {
     let (m, n) = (first.m(), second.m());
     let o = first.o() + second.o();
-    Rule::by(
+    Rule::from_fn(
         first.k(),
         m + n - 1,
         o,

@@ -5,7 +5,7 @@ ghost use Rattle.word_image.specs.LocalRules.{most_states};
 ghost use Rattle.rule_algebra.specs.AlgebraFaults.{offset_fault, limit_fault};
 ghost use Rattle.rule_algebra.specs.FaultTexts.{algebra_text};
 
-use word_image::{MOST_NODES, MOST_WIDTH};
+use word_image::{GREATEST_PLACE, LEAST_PLACE, MOST_NODES, MOST_WIDTH};
 
 /// Why no rule can be made of the given rules. It is the first of these faults that applies.
 #[derive(Clone, Copy, Debug, PartialEq, Eq)]
@@ -28,7 +28,7 @@ pub(crate) fn check_offset(m: u8, o: i16) -> Result<i8, AlgebraFault>
     ensures fault { result_err result ≡ offset_fault m o }
     ensures offset { IfOk result (λ p. p ≡ o) }
 {
-    if o < -16 || o > 17 - i16::from(m) {
+    if o < i16::from(LEAST_PLACE) || o > i16::from(GREATEST_PLACE) + 1 - i16::from(m) {
         return Err(AlgebraFault::Offset);
     }
     Ok(o as i8)

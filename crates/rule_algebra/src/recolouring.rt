@@ -23,7 +23,7 @@ pub fn permute(rule: &Rule, colours: &[u8]) -> Result<Rule, AlgebraFault>
         return Err(AlgebraFault::NotPermutation);
     }
     let letters = old_letters(rule.k(), colours);
-    Ok(Rule::by(rule.k(), rule.m(), rule.o(), |window| {
+    Ok(Rule::from_fn(rule.k(), rule.m(), rule.o(), |window| {
         colours[usize::from(rule.at(recoloured_value(rule, &letters, window)))]
     }))
 }

@@ -32,5 +32,5 @@ fn widened_rule(rule: &Rule, m: u8) -> Rule
     ensures { result ≡ widened rule.now m }
 {
     let ignored = u16::from(rule.k()).pow(u32::from(m - rule.m()));
-    Rule::by(rule.k(), m, rule.o(), |window| rule.at(window / ignored))
+    Rule::from_fn(rule.k(), m, rule.o(), |window| rule.at(window / ignored))
 }

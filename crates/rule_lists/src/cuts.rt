@@ -91,7 +91,7 @@ fn is_lost(shape: &Rule, letters: &Letters, hint: &Hint) -> bool
     if !has_one_node(shape, pair) {
         return false;
     }
-    is_tail(Side::Right, shape, letters, hint.before(), pair)
+    is_tail(Side::Right, shape, letters, hint.predecessors(), pair)
 }
 
 /// Tests a hint that no rule with these letters is injective. Returns true if `is_lost` returns true. Otherwise
@@ -110,7 +110,7 @@ fn bars_injective(shape: &Rule, letters: &Letters, hint: &Hint) -> bool
     if has_one_node(shape, pair) {
         return false;
     }
-    is_round(Side::Right, shape, letters, hint.after(), pair)
+    is_round(Side::Right, shape, letters, hint.successors(), pair)
 }
 
 /// Tests a hint that no rule with these letters closes on this side. Returns true if the links of the hint show two
@@ -123,13 +123,13 @@ fn bars_closing(side: Side, shape: &Rule, letters: &Letters, hint: &Hint) -> boo
     if pair >= shape.pairs() {
         return false;
     }
-    if !is_tail(side, shape, letters, hint.before(), pair) {
+    if !is_tail(side, shape, letters, hint.predecessors(), pair) {
         return false;
     }
     if has_one_node(shape, pair) {
         return true;
     }
-    is_round(side, shape, letters, hint.after(), pair)
+    is_round(side, shape, letters, hint.successors(), pair)
 }
 
 /// Tests a hint that no rule with these letters is open. Returns true if the hint shows that no rule with these

@@ -52,12 +52,12 @@ impl Edges {
     }
 
     /// Returns the node at which the edge of a window begins.
-    pub(crate) fn from(&self, window: u8) -> u8 {
+    pub(crate) fn first_node(&self, window: u8) -> u8 {
         self.from[usize::from(window)]
     }
 
     /// Returns the node at which the edge of a window ends.
-    pub(crate) fn to(&self, window: u8) -> u8 {
+    pub(crate) fn last_node(&self, window: u8) -> u8 {
         self.to[usize::from(window)]
     }
 
@@ -90,15 +90,15 @@ impl Edges {
 
     /// Adds the edge of this window with this label.
     pub(crate) fn add(&mut self, window: u8, label: u8) {
-        let node = usize::from(self.from(window) % 16);
-        let end = bit(self.to(window));
+        let node = usize::from(self.first_node(window) % 16);
+        let end = bit(self.last_node(window));
         self.ends[usize::from(label % 16)][node] |= end;
     }
 
     /// Removes the edge of this window with this label.
     pub(crate) fn take(&mut self, window: u8, label: u8) {
-        let node = usize::from(self.from(window) % 16);
-        let end = bit(self.to(window));
+        let node = usize::from(self.first_node(window) % 16);
+        let end = bit(self.last_node(window));
         self.ends[usize::from(label % 16)][node] &= !end;
     }
 }

@@ -62,12 +62,12 @@ impl Hint {
     }
 
     /// Returns for each pair the pair from which a step first led to it.
-    pub(crate) fn before(&self) -> &Links {
+    pub(crate) fn predecessors(&self) -> &Links {
         &self.reach.before
     }
 
     /// Returns for each pair of the last loop the next pair on the loop.
-    pub(crate) fn after(&self) -> &Links {
+    pub(crate) fn successors(&self) -> &Links {
         &self.rounds.after
     }
 
@@ -124,13 +124,13 @@ impl Hint {
     /// Returns the number of a pair on a loop that the last known letter closes, or None if it closes none. The loop
     /// must rule out the property. For example, no loop rules out that a rule is surjective.
     fn round(&mut self, window: u8, letter: u8) -> Option<u8> {
-        let from = self.reach.edges.from(window);
+        let from = self.reach.edges.first_node(window);
         let nodes = match self.property {
             Property::Surjective => return None,
             Property::Injective => u16::MAX,
             _ => self.reach.partners(from),
         };
-        let to = self.reach.edges.to(window);
+        let to = self.reach.edges.last_node(window);
         let ends = self.reach.edges.all_ends(letter, nodes);
         self.rounds.find(&self.reach.edges, &self.letters, to, ends)
     }

@@ -62,5 +62,5 @@ fn keeps_sums(rule: &Rule) -> bool
 fn endless(rule: &Rule) -> Endless
     ensures { result ≡ rule.now }
 {
-    Endless::over(&Pairs::of(rule))
+    Endless::from_pairs(&Pairs::of(rule))
 }

@@ -76,7 +76,7 @@ impl Reach {
     pub(crate) fn add(&mut self, letters: &Letters, window: u8, label: u8) -> Option<u8> {
         self.edges.add(window, label);
         self.looked = self.count;
-        let (from, to) = (self.edges.from(window), self.edges.to(window));
+        let (from, to) = (self.edges.first_node(window), self.edges.last_node(window));
         let mut rest = self.partners(from);
         for _ in 0..MOST_NODES {
             if rest == 0 {
@@ -116,7 +116,7 @@ impl Reach {
             let window = self.edges.window(pair.0, letter);
             let label = letters[usize::from(window)];
             if label < self.edges.k() {
-                let to = self.edges.to(window);
+                let to = self.edges.last_node(window);
                 let ends = self.edges.ends(label, pair.1);
                 if self.join(pair, to, ends) {
                     return Some(self.edges.pair(to, to));

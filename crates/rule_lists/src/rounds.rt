@@ -140,7 +140,7 @@ impl Rounds {
         for letter in stop.letter..edges.k() {
             let window = edges.window(stop.pair.0, letter);
             let label = letters[usize::from(window)];
-            let to = edges.to(window);
+            let to = edges.last_node(window);
             let row = usize::from(to % 16);
             let ends = edges.ends(label, stop.pair.1) & !bit(to) & !self.done[row];
             if label < edges.k() && ends != 0 {

@@ -45,7 +45,7 @@ impl<'a> Search<'a> {
 
     /// Makes a search that begins after this rule of the shape. The rule need not have the property. Every rule that
     /// the search returns has a greater rank.
-    pub fn after(asked: Asked<'a>, rule: &Rule) -> Search<'a>
+    pub fn resume_after(asked: Asked<'a>, rule: &Rule) -> Search<'a>
         requires order { IsOrdered asked }
         requires shape { HasShape asked rule.now }
         ensures { IsBehind asked.entry (Some rule.now) result }
@@ -175,7 +175,7 @@ fn filled(k: u8, m: u8, entries: &Entries) -> Rule
     ensures table { (v : ℕ) → v < k ^ m → slice_index result.table v ≡ slice_index entries.now v }
     ensures accepted { IsRule result }
 {
-    Rule::by(k, m, 0, |window| entries[usize::from(window)])
+    Rule::from_fn(k, m, 0, |window| entries[usize::from(window)])
 }
 
 /// Makes one step of a search after the letters at the first n windows of the order are known. It adds the letter 0

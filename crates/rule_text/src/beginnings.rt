@@ -8,7 +8,7 @@ ghost use Rattle.rule_text.specs.Beginnings.{IsBeginning, IsBeginningFault, IsBe
 
 use crate::digits::{first_stop, write_letters};
 use crate::head::{Head, Kind, read_head};
-use crate::text_fault::{TextFault, in_text};
+use crate::text_fault::{TextFault, as_text_fault};
 use word_image::{MOST_ENTRIES, Rule, check_shape};
 
 /// The beginning of a table text. For example, `2:3:-1:t01` stands for all rules with 2 states, width 3 and offset -1
@@ -45,7 +45,7 @@ fn begin(head: &Head, digits: &[u8]) -> Result<Beginning, TextFault>
     ensures { IsBeginningOf (said_of head.now digits.now) result }
 {
     if let Err(fault) = check_shape(head.k, head.m, head.o) {
-        return Err(in_text(fault, head.place));
+        return Err(as_text_fault(fault, head.place));
     }
     match head.kind {
         Kind::Table => begin_table(head, digits),
@@ -71,7 +71,7 @@ fn begin_table(head: &Head, digits: &[u8]) -> Result<Beginning, TextFault>
             rule,
             given: digits.len() as u16,
         }),
-        Err(fault) => Err(in_text(fault, head.place)),
+        Err(fault) => Err(as_text_fault(fault, head.place)),
     }
 }
 

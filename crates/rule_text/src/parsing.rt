@@ -10,7 +10,7 @@ ghost use Rattle.rule_text.specs.Heads.{IsEntries, said_of, said_with};
 use crate::decimals::decimal_number;
 use crate::digits::{first_stop, write_letters};
 use crate::head::{Head, Kind, read_head};
-use crate::text_fault::{TextFault, in_text};
+use crate::text_fault::{TextFault, as_text_fault};
 use crate::wolfram_numbers::{MOST_NUMBERED_STATES, rule_of_number};
 use word_image::{MOST_ENTRIES, Rule, check_shape};
 
@@ -39,7 +39,7 @@ fn accept(head: &Head, digits: &[u8]) -> Result<Rule, TextFault>
     ensures { IsReading (said_of head.now digits.now) result }
 {
     if let Err(fault) = check_shape(head.k, head.m, head.o) {
-        return Err(in_text(fault, head.place));
+        return Err(as_text_fault(fault, head.place));
     }
     match head.kind {
         Kind::Table => accept_table(head, digits),
@@ -64,7 +64,7 @@ fn accept_table(head: &Head, digits: &[u8]) -> Result<Rule, TextFault>
     write_letters(table, digits);
     match Rule::new(head.k, head.m, head.o, table) {
         Ok(rule) => Ok(rule),
-        Err(fault) => Err(in_text(fault, head.place)),
+        Err(fault) => Err(as_text_fault(fault, head.place)),
     }
 }
 

@@ -1,6 +1,6 @@
 //! The faults of a text.
 ghost use Rattle.std.specs.Prelude.{◌≡◌, ◌+◌, ◌^◌, ◌<◌};
-ghost use Rattle.rule_text.specs.RuleTexts.{in_text};
+ghost use Rattle.rule_text.specs.RuleTexts.{as_text_fault};
 
 use word_image::RuleFault;
 
@@ -29,9 +29,9 @@ pub enum TextFault {
 }
 
 /// Returns the fault of a text whose rule has this fault. The table begins at the place `place` of the text.
-pub fn in_text(fault: RuleFault, place: usize) -> TextFault
+pub fn as_text_fault(fault: RuleFault, place: usize) -> TextFault
     requires { place + 2 ^ 16 < 2 ^ 64 }
-    ensures { result ≡ in_text place fault }
+    ensures { result ≡ as_text_fault place fault }
 {
     match fault {
         RuleFault::States => TextFault::States,

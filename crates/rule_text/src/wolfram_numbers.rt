@@ -4,11 +4,11 @@ ghost use Rattle.std.specs.Option.{SomeIff, option_map};
 ghost use Rattle.std.specs.Result.{result_err};
 ghost use Rattle.word_image.specs.LocalRules.{IsShape};
 ghost use Rattle.word_image.specs.RuleFaults.{shape_fault};
-ghost use Rattle.rule_text.specs.RuleTexts.{by_number, in_text, rule_of};
+ghost use Rattle.rule_text.specs.RuleTexts.{by_number, as_text_fault, rule_of};
 ghost use Rattle.rule_text.specs.TextReadings.{IsReading};
 
 use crate::digits::write_number;
-use crate::text_fault::{TextFault, in_text};
+use crate::text_fault::{TextFault, as_text_fault};
 use word_image::{MOST_ENTRIES, Rule};
 
 /// The greatest number of states of a rule that can be given by its Wolfram number.
@@ -17,11 +17,11 @@ pub const MOST_NUMBERED_STATES: u8 = 6;
 /// Checks whether a rule can have k states, width m and offset o. Returns the first of `States`, `Width`, `Nodes` and
 /// `Offset` that applies, if any.
 pub fn check_shape(k: u8, m: u8, o: i8) -> Result<(), TextFault>
-    ensures { result_err result ≡ option_map (in_text 0) (shape_fault k m o) }
+    ensures { result_err result ≡ option_map (as_text_fault 0) (shape_fault k m o) }
 {
     match word_image::check_shape(k, m, o) {
         Ok(()) => Ok(()),
-        Err(fault) => Err(in_text(fault, 0)),
+        Err(fault) => Err(as_text_fault(fault, 0)),
     }
 }
 

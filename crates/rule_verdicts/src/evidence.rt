@@ -61,7 +61,7 @@ impl Evidence {
     {
         have_eight_bits(weights.as_slice());
         let pairs = Pairs::of(rule);
-        let ranks = Ranks::over(&pairs);
+        let ranks = Ranks::from_pairs(&pairs);
         let mut walker = Walker::new(alloc)?;
         let report = Report {
             rule: *rule,

@@ -50,7 +50,7 @@ pub fn injectivity(alloc: Global, rule: &Rule) -> Result<InjectivePart, AllocErr
     ensures most { IfOk result (λ part. HasShortWindow (injective_of part)) }
 {
     let pairs = Pairs::of(rule);
-    let ranks = Ranks::over(&pairs);
+    let ranks = Ranks::from_pairs(&pairs);
     let mut walker = Walker::new(alloc)?;
     injective_part(alloc, &pairs, &ranks, &mut walker)
 }

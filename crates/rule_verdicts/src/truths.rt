@@ -44,7 +44,7 @@ impl Truths {
     }
 
     /// Returns the verdicts of the rule of k states, width m and offset 0 with this table. Needs no memory.
-    pub fn of_table(k: u8, m: u8, table: &[u8]) -> Truths
+    pub fn from_table(k: u8, m: u8, table: &[u8]) -> Truths
         requires { IsRule (texts.rule_of_table k m table.now) }
         ensures { AreTruths (texts.rule_of_table k m table.now) result }
     {
@@ -69,7 +69,7 @@ impl Truths {
     }
 
     /// Returns the verdicts whose byte is this byte.
-    pub fn of_byte(byte: u8) -> Truths
+    pub fn from_byte(byte: u8) -> Truths
         ensures { (t : Truths) → byte ≡ byte_of t → result ≡ t }
     {
         Truths {
@@ -121,7 +121,7 @@ pub fn rule_of_table(k: u8, m: u8, table: &[u8]) -> Rule
     requires { IsRule (texts.rule_of_table k m table.now) }
     ensures { result ≡ texts.rule_of_table k m table.now }
 {
-    Rule::by(k, m, 0, |window| table[usize::from(window)])
+    Rule::from_fn(k, m, 0, |window| table[usize::from(window)])
 }
 
 /// Returns false only if no rule of k states with this table is surjective. It looks at how often each letter occurs
@@ -149,7 +149,7 @@ fn decided(rule: &Rule, may_be_surjective: bool) -> Truths
     if !is_surjective(&graph) {
         return Truths::not_surjective(conserving);
     }
-    let endless = Endless::over(&Pairs::over(graph));
+    let endless = Endless::from_pairs(&Pairs::from_graph(graph));
     Truths {
         surjective: true,
         injective: is_injective(&endless),

@@ -1,5 +1,5 @@
 -- The texts that describe an accepted configuration, and the first fault of the three parts of a configuration.
-use Rattle.std.specs.Prelude.{ℕ, List, [], ◌∷◌, ◌++◌, length, Option, Some, None, nat_lt, nat_le, ◌==◌, if◌then◌else◌, position}
+use Rattle.std.specs.Prelude.{ℕ, List, [], ◌∷◌, ◌++◌, length, Option, Some, None, nat_lt, nat_le, ◌==◌, if◌then◌else◌, position, codes}
 use Rattle.std.specs.Option.{option_map, option_or}
 use Rattle.tail_config.specs.Tails.{TailConfig}
 use Rattle.tail_config.specs.declared.faults.Part.{Part}
@@ -38,6 +38,13 @@ letter_faults k t = letter_fault k part.Left t.left ∷ letter_fault k part.Midd
 -- the first fault of the three parts of a configuration over the letters below k, if there is one
 abbrev pub tail_fault : ℕ → TailConfig → Option TailFault
 tail_fault k t = first_fault (length_faults t.left t.middle t.right ++ letter_faults k t)
+
+-- the word for the reason why three parts don't form a configuration
+abbrev pub tail_fault_text : TailFault → List ℕ
+tail_fault_text fault.LeftEmpty = codes "leftempty"
+tail_fault_text fault.RightEmpty = codes "rightempty"
+tail_fault_text (fault.Long part) = codes "long"
+tail_fault_text (fault.Letter part place) = codes "letter"
 
 -- the text is in the grammar: it describes some configuration, accepted or not
 abbrev pub HasForm : List ℕ → Type 0

@@ -2,7 +2,7 @@
 ghost use Rattle.std.specs.Prelude.{◌≡◌};
 ghost use Rattle.std.specs.Result.{result_err};
 ghost use Rattle.tail_config.specs.TailValues.{config_of};
-ghost use Rattle.tail_config.specs.TailFaults.{first_fault, length_faults, long_fault, letter_fault, tail_fault};
+ghost use Rattle.tail_config.specs.TailFaults.{first_fault, length_faults, long_fault, letter_fault, tail_fault, tail_fault_text};
 
 use word_image::first_foreign;
 
@@ -44,6 +44,18 @@ pub struct TailRefusal {
     pub middle: Vec<u8>,
     /// The right period that was given.
     pub right: Vec<u8>,
+}
+
+/// Returns the word that texts use for a fault.
+pub fn tail_name(fault: TailFault) -> &'static str
+    ensures { result.now ≡ tail_fault_text fault }
+{
+    match fault {
+        TailFault::LeftEmpty => "leftempty",
+        TailFault::RightEmpty => "rightempty",
+        TailFault::Long(_) => "long",
+        TailFault::Letter(..) => "letter",
+    }
 }
 
 /// Checks whether three parts form a Tail over the letters below k. Otherwise returns the first fault, in the order

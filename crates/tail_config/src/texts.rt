@@ -29,7 +29,7 @@ pub enum TailTextFault {
 
 /// The digits of the three parts of a text.
 #[derive(Drop)]
-struct Parts<'a> {
+struct SplitText<'a> {
     // The digits of the left period.
     left: &'a [u8],
     // The digits of the middle.
@@ -88,7 +88,7 @@ pub fn printed_text_is_read()
 
 /// Splits a text at its two bars into the digits of its three parts. Returns `Form` if the text doesn't have the form
 /// `L|M|R`.
-fn split(text: &[u8]) -> Result<Parts<'_>, TailTextFault>
+fn split(text: &[u8]) -> Result<SplitText<'_>, TailTextFault>
     ensures parts { IfOk result (λ p. IsCut text.now p.left.now p.middle.now p.right.now) }
     ensures fault { IfErr result (λ f. IsFormAt f (IsFormFault HasForm text.now)) }
 {
@@ -98,7 +98,7 @@ fn split(text: &[u8]) -> Result<Parts<'_>, TailTextFault>
     if end < text.len() {
         return Err(TailTextFault::Form(end));
     }
-    Ok(Parts {
+    Ok(SplitText {
         left: &text[..first],
         middle: &text[first + 1..second],
         right: &text[second + 1..],
@@ -134,7 +134,7 @@ fn digits_end(text: &[u8], start: usize) -> usize
 }
 
 /// Checks whether rows of digits are the parts of a Tail over the letters below k. Returns the first fault otherwise.
-fn check_digits(k: u8, parts: &Parts) -> Result<(), TailFault>
+fn check_digits(k: u8, parts: &SplitText) -> Result<(), TailFault>
     ensures { let p = parts.now in
         result_err result ≡ tail_fault k (letters_of p.left.now p.middle.now p.right.now) }
 {
@@ -165,7 +165,7 @@ fn first_foreign(k: u8, digits: &[u8]) -> Option<usize>
 }
 
 /// Makes the Tail that rows of digits describe. The only error is lack of memory.
-fn tail_of(alloc: Global, k: u8, parts: &Parts) -> Result<Tail, AllocError>
+fn tail_of(alloc: Global, k: u8, parts: &SplitText) -> Result<Tail, AllocError>
     requires least { 2 ≤ k }
     requires most { k ≤ most_states }
     requires parts { let p = parts.now in

@@ -8,7 +8,7 @@ use Rattle.tail_preimage.specs.Preimages.{Shape, shape_cmp, IsSmall}
 use Rattle.tail_preimage.specs.Relations.{IsRelation, Steps, Open, Rounds}
 use Rattle.word_image.specs.Graphs.{AreSets, HasBit}
 use Rattle.tail_preimage.specs.declared.periods.Periods.{Periods}
-use Rattle.tail_preimage.specs.declared.shapes.Parts.{Parts}
+use Rattle.tail_preimage.specs.declared.shapes.PartRelations.{PartRelations}
 use Rattle.tail_preimage.specs.declared.shapes.Spans.{Spans}
 
 -- for each n from 0 to 16, the stored relation of n periods is right: it relates u to v if n steps of the relation of one period lead from u to v
@@ -17,7 +17,7 @@ pub record ArePeriods (r : LocalRule) (periods : Periods) : Type 0 where
   pub powers : (n : ℕ) → n ≤ most_nodes → IsRelation r (Steps (HasBit periods.period) n) (get_or periods.powers n [])
 
 -- each part has the right relation: the left period relates the node at its end to the node at its start, and the middle and the right period relate the node at their start to the node at their end
-pub record AreTailParts (r : LocalRule) (t : TailConfig) (parts : Parts) : Type 0 where
+pub record AreTailParts (r : LocalRule) (t : TailConfig) (parts : PartRelations) : Type 0 where
   pub rule : IsRule r
   pub left_periods : ArePeriods r parts.left
   pub right_periods : ArePeriods r parts.right
@@ -26,15 +26,15 @@ pub record AreTailParts (r : LocalRule) (t : TailConfig) (parts : Parts) : Type 
   pub right : IsRelation r (HasWalk r t.right) parts.right.period
 
 -- the relations are the relations of the parts of some configuration
-abbrev pub HaveParts : LocalRule → Parts → Type 0
+abbrev pub HaveParts : LocalRule → PartRelations → Type 0
 HaveParts r parts = (t : TailConfig) × AreTailParts r t parts
 
 -- the relation of the middle relates some node with the property `Before` to some node with the property `Behind`
-abbrev pub Through : LocalRule → Parts → (ℕ → Type 0) → (ℕ → Type 0) → Type 0
+abbrev pub Through : LocalRule → PartRelations → (ℕ → Type 0) → (ℕ → Type 0) → Type 0
 Through r parts Before Behind = (v : ℕ) × (w : ℕ) × (v < node_count r) × (w < node_count r) × Before v × HasBit parts.middle v w × Behind w
 
 -- some walk leads along b left periods, the middle and a right periods
-abbrev pub PassesThrough : LocalRule → Parts → ℕ → ℕ → Type 0
+abbrev pub PassesThrough : LocalRule → PartRelations → ℕ → ℕ → Type 0
 PassesThrough r parts b a = Through r parts (Open (HasBit parts.left.period) b) (Open (HasBit parts.right.period) a)
 
 -- the shape with the numbers of periods that the program has found
@@ -42,14 +42,14 @@ abbrev pub shape_of : Spans → Shape
 shape_of s = record { before = s.before; back = s.back; after = s.after; on = s.on }
 
 -- walks of this shape start at node v: a walk along `back` left periods leads from v to v, and a walk along `before` left periods, the middle and `after` right periods leads from v to a node with a loop of `on` right periods
-abbrev pub Starts : LocalRule → Parts → Shape → ℕ → Type 0
+abbrev pub Starts : LocalRule → PartRelations → Shape → ℕ → Type 0
 Starts r parts s v =
     Steps (HasBit parts.left.period) s.back v v
     × ((u : ℕ) × (u < node_count r) × Steps (HasBit parts.left.period) s.before u v
     × ((w : ℕ) × (w < node_count r) × HasBit parts.middle u w × Rounds (HasBit parts.right.period) s.after s.on w))
 
 -- the shape is possible: walks of this shape start at some node
-pub record IsPossible (r : LocalRule) (parts : Parts) (s : Shape) : Type 0 where
+pub record IsPossible (r : LocalRule) (parts : PartRelations) (s : Shape) : Type 0 where
   pub back_some : 1 ≤ s.back
   pub on_some : 1 ≤ s.on
   pub node : ℕ
@@ -57,13 +57,13 @@ pub record IsPossible (r : LocalRule) (parts : Parts) (s : Shape) : Type 0 where
   pub starts : Starts r parts s node
 
 -- the shape is the least of all possible shapes, and it has at most 16 periods on each side
-pub record IsFirstShape (r : LocalRule) (parts : Parts) (s : Shape) : Type 0 where
+pub record IsFirstShape (r : LocalRule) (parts : PartRelations) (s : Shape) : Type 0 where
   pub possible : IsPossible r parts s
   pub small : IsSmall s
   pub least : (u : Shape) → IsPossible r parts u → shape_cmp s u ≢ Greater
 
 -- no walk leads along b left periods, the middle and a right periods: b is the least number of left periods that no walk leads along before the middle and 16 right periods, a is the least number of right periods that no walk leads along after b left periods and the middle, and b and a are at most 16
-pub record IsFirstGap (r : LocalRule) (parts : Parts) (b a : ℕ) : Type 0 where
+pub record IsFirstGap (r : LocalRule) (parts : PartRelations) (b a : ℕ) : Type 0 where
   pub before_few : b ≤ most_nodes
   pub after_few : a ≤ most_nodes
   pub closed : ¬ PassesThrough r parts b a

@@ -11,8 +11,8 @@ ghost use Rattle.tail_preimage.specs.Parts.{AreTailParts, HaveParts, IsFirstShap
 
 use crate::gaps::first_gap;
 use crate::periods::{loops, rounds};
-use crate::relations::before;
-use crate::shapes::{Parts, Spans, first_shape, parts_of};
+use crate::relations::sources;
+use crate::shapes::{PartRelations, Spans, first_shape, parts_of};
 use crate::walks::{least_node, least_walk};
 use crate::words::{copies, stretch};
 use debruijn::Graph;
@@ -76,7 +76,7 @@ fn first_placed(
     alloc: Global,
     graph: &Graph,
     tail: &Tail,
-    parts: &Parts,
+    parts: &PartRelations,
     spans: Spans,
 ) -> Result<Placed, AllocError>
     requires one_k { graph.now.states ≡ tail.now.states }
@@ -120,18 +120,18 @@ fn first_loop(
 /// Returns the nodes at which the middle of a placed configuration with this shape can begin. Such a node has a loop
 /// of left periods. From it left periods, the middle and right periods lead to a node with a loop of right periods.
 /// The shape says how many periods these are.
-fn starts(graph: &Graph, parts: &Parts, spans: Spans) -> u16
+fn starts(graph: &Graph, parts: &PartRelations, spans: Spans) -> u16
     requires left { spans.back + spans.before ≤ most_nodes }
     requires right { spans.on + spans.after ≤ most_nodes }
     requires parts { HaveParts graph.now parts.now }
     ensures { IsNodeSet graph.now (Starts graph.now parts.now (shape_of spans)) result }
 {
-    let rears = before(
+    let rears = sources(
         graph,
         &parts.middle,
         rounds(graph, &parts.right, spans.after, spans.on),
     );
-    let lefts = graph.after(&parts.left.powers[usize::from(spans.before)], rears);
+    let lefts = graph.union_of_rows(&parts.left.powers[usize::from(spans.before)], rears);
     loops(graph, &parts.left, spans.back) & lefts
 }
 

@@ -5,8 +5,8 @@ ghost use Rattle.word_image.specs.LocalRules.{most_nodes};
 ghost use Rattle.tail_preimage.specs.Parts.{HaveParts, PassesThrough, IsFirstGap};
 
 use crate::periods::{least_closed, open};
-use crate::relations::before;
-use crate::shapes::Parts;
+use crate::relations::sources;
+use crate::shapes::PartRelations;
 use debruijn::Graph;
 use word_image::MOST_NODES;
 
@@ -14,17 +14,17 @@ use word_image::MOST_NODES;
 /// number of left periods that can't be followed by the middle and 16 right periods. The second number is the least
 /// number of right periods that can't follow so many left periods and the middle. Returns None if there is a walk
 /// along 16 left periods, the middle and 16 right periods.
-pub fn first_gap(graph: &Graph, parts: &Parts) -> Option<(u8, u8)>
+pub fn first_gap(graph: &Graph, parts: &PartRelations) -> Option<(u8, u8)>
     requires { HaveParts graph.now parts.now }
     ensures { MatchOption result (PassesThrough graph.now parts.now most_nodes most_nodes) (λ (b, a). IsFirstGap graph.now parts.now b a) }
 {
-    let rears = before(
+    let rears = sources(
         graph,
         &parts.middle,
         open(graph, &parts.right, MOST_NODES as u8),
     );
     let left = least_closed(graph, &parts.left, rears)?;
-    let fronts = graph.after(&parts.middle, open(graph, &parts.left, left));
+    let fronts = graph.union_of_rows(&parts.middle, open(graph, &parts.left, left));
     let right = least_closed(graph, &parts.right, fronts)?;
     Some((left, right))
 }

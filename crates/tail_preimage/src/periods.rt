@@ -6,7 +6,7 @@ ghost use Rattle.word_image.specs.Graphs.{IsNodeSet, AreSets, HasBit};
 ghost use Rattle.tail_preimage.specs.Relations.{Steps, Open, Rounds, SomeRounds, IsFirst, Meets};
 ghost use Rattle.tail_preimage.specs.Parts.{ArePeriods};
 
-use crate::relations::{Relation, before, powers, returning};
+use crate::relations::{Relation, powers, returning, sources};
 use debruijn::Graph;
 use word_image::MOST_NODES;
 
@@ -37,7 +37,7 @@ pub fn open(graph: &Graph, periods: &Periods, n: u8) -> u16
     requires periods { ArePeriods graph.now periods.now }
     ensures { IsNodeSet graph.now (Open (HasBit periods.now.period) n) result }
 {
-    before(graph, &periods.powers[usize::from(n)], graph.full())
+    sources(graph, &periods.powers[usize::from(n)], graph.full())
 }
 
 /// Returns the nodes from which a walk along n periods leads back to the same node.
@@ -56,7 +56,7 @@ pub fn rounds(graph: &Graph, periods: &Periods, n: u8, on: u8) -> u16
     requires periods { ArePeriods graph.now periods.now }
     ensures { IsNodeSet graph.now (Rounds (HasBit periods.now.period) n on) result }
 {
-    before(
+    sources(
         graph,
         &periods.powers[usize::from(n)],
         loops(graph, periods, on),

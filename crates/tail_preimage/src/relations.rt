@@ -37,7 +37,7 @@ pub fn edges(graph: &Graph, label: u8) -> Relation
 }
 
 /// Returns the nodes that the relation `rows` relates to some node of the set.
-pub fn before(graph: &Graph, rows: &Relation, set: u16) -> u16
+pub fn sources(graph: &Graph, rows: &Relation, set: u16) -> u16
     ensures { IsNodeSet graph.now (λ u. (v : ℕ) × HasBit rows.now u v × IsBitSet set v) result }
 {
     let mut before = 0;
@@ -70,7 +70,7 @@ fn joined(graph: &Graph, first: &Relation, second: &Relation) -> Relation
 {
     let mut rows = [0; MOST_NODES];
     for u in 0..graph.nodes() {
-        rows[usize::from(u)] = graph.after(second, first[usize::from(u)]);
+        rows[usize::from(u)] = graph.union_of_rows(second, first[usize::from(u)]);
     }
     rows
 }
@@ -81,7 +81,7 @@ pub fn reversed(graph: &Graph, relation: &Relation) -> Relation
 {
     let mut rows = [0; MOST_NODES];
     for u in 0..graph.nodes() {
-        rows[usize::from(u)] = before(graph, relation, 1u16 << u);
+        rows[usize::from(u)] = sources(graph, relation, 1u16 << u);
     }
     rows
 }

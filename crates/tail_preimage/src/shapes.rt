@@ -6,14 +6,14 @@ ghost use Rattle.tail_config.specs.Tails.{IsTail};
 ghost use Rattle.tail_preimage.specs.Parts.{AreTailParts, HaveParts, PassesThrough, IsFirstShape, shape_of};
 
 use crate::periods::{Periods, least_first, least_sum, open, periods_of, rounds, some_rounds};
-use crate::relations::{Relation, before, relation, reversed};
+use crate::relations::{Relation, relation, reversed, sources};
 use debruijn::Graph;
 use tail_config::Tail;
 use word_image::MOST_NODES;
 
 /// The relations of the parts of the given configuration.
 #[derive(Clone, Copy)]
-pub struct Parts {
+pub struct PartRelations {
     /// The relations of the left periods, from the node at the end of a period to the node at its start.
     pub left: Periods,
     /// The relation of the middle, from the node at its start to the node at its end.
@@ -37,12 +37,12 @@ pub struct Spans {
 }
 
 /// Returns the relations of the parts of this configuration.
-pub fn parts_of(graph: &Graph, tail: &Tail) -> Parts
+pub fn parts_of(graph: &Graph, tail: &Tail) -> PartRelations
     requires { graph.now.states ≡ tail.now.states }
     ensures parts { AreTailParts graph.now tail.now.config result }
     ensures tail { IsTail graph.now.states tail.now.config }
 {
-    Parts {
+    PartRelations {
         left: periods_of(graph, reversed(graph, &relation(graph, tail.left()))),
         middle: relation(graph, tail.middle()),
         right: periods_of(graph, relation(graph, tail.right())),
@@ -51,27 +51,27 @@ pub fn parts_of(graph: &Graph, tail: &Tail) -> Parts
 
 /// Returns the first shape that a placed configuration can have. There must be a walk along 16 left periods, the
 /// middle and 16 right periods.
-pub fn first_shape(graph: &Graph, parts: &Parts) -> Spans
+pub fn first_shape(graph: &Graph, parts: &PartRelations) -> Spans
     requires parts { HaveParts graph.now parts.now }
     requires some { PassesThrough graph.now parts.now most_nodes most_nodes }
     ensures { IsFirstShape graph.now parts.now (shape_of result) }
 {
-    let rears = before(
+    let rears = sources(
         graph,
         &parts.middle,
         open(graph, &parts.right, MOST_NODES as u8),
     );
     let left = least_sum(graph, &parts.left, rears);
-    let fronts = graph.after(&parts.middle, some_rounds(graph, &parts.left, left));
+    let fronts = graph.union_of_rows(&parts.middle, some_rounds(graph, &parts.left, left));
     let right = least_sum(graph, &parts.right, fronts);
 
-    let rears = before(
+    let rears = sources(
         graph,
         &parts.middle,
         some_rounds(graph, &parts.right, right),
     );
     let first = least_first(graph, &parts.left, left, rears);
-    let fronts = graph.after(
+    let fronts = graph.union_of_rows(
         &parts.middle,
         rounds(graph, &parts.left, first, left - first),
     );

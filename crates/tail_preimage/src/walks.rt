@@ -7,7 +7,7 @@ ghost use Rattle.tail_preimage.specs.Walks.{Reaches, IsLeastWalkInto};
 ghost use Rattle.tail_preimage.specs.Relations.{IsFirst};
 ghost use Rattle.tail_preimage.specs.FirstWalks.{AreOpen};
 
-use crate::relations::{before, edges};
+use crate::relations::{edges, sources};
 use debruijn::Graph;
 use std::alloc::{AllocError, Global};
 use word_image::Rule;
@@ -30,7 +30,7 @@ fn open_sets(alloc: Global, graph: &Graph, word: &[u8], goal: u16) -> Result<Vec
     let mut sets = Vec::new(alloc);
     sets.push(goal)?;
     for n in 0..word.len() {
-        let set = before(graph, &edges(graph, word[word.len() - 1 - n]), sets[n]);
+        let set = sources(graph, &edges(graph, word[word.len() - 1 - n]), sets[n]);
         sets.push(set)?;
     }
     Ok(sets)

@@ -42,11 +42,11 @@ pub fn step(rule: &Rule, edges: &EdgeRows, set: u16, a: u8) -> u16
     ensures step { IsStep rule.now set a result }
     ensures word { (w : List ℕ) → IsLastSet rule.now w set → IsLastSet rule.now (w ++ a ∷ []) result }
 {
-    after(rule.nodes(), &edges[usize::from(a)], set)
+    union_of_rows(rule.nodes(), &edges[usize::from(a)], set)
 }
 
 /// Returns the union of the sets `rows[u]` for all nodes u of `set`. There are `nodes` nodes, at most 16.
-pub fn after(nodes: u8, rows: &[u16; MOST_NODES], set: u16) -> u16
+pub fn union_of_rows(nodes: u8, rows: &[u16; MOST_NODES], set: u16) -> u16
     requires few { nodes ≤ most_nodes }
     requires within { (u : ℕ) → u < nodes → slice_index rows.now u < 2 ^ nodes }
     ensures { IsSetOf nodes (λ v. (u : ℕ) × (u < nodes) × (IsBitSet set u × HasBit rows.now u v)) result }

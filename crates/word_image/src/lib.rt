@@ -43,15 +43,15 @@ mod side;
 mod values;
 mod weights;
 
-pub use edges::{EdgeRows, after, edge_rows, step};
+pub use edges::{EdgeRows, edge_rows, step, union_of_rows};
 pub use images::{ImageFault, image};
 pub use letters::{digit, letter, text_word, word_text};
 pub use lists::{FluxRow, RankRow, SetList, Word};
 pub use local_rule::{
-    MOST_ENTRIES, MOST_NODES, MOST_PAIRS, MOST_STATES, MOST_WIDTH, Rule, RuleFault, check_shape,
+    GREATEST_PLACE, LEAST_PLACE, MOST_ENTRIES, MOST_NODES, MOST_PAIRS, MOST_STATES, MOST_WIDTH, Rule, RuleFault, check_shape,
     first_foreign,
 };
-pub use rings::{RingFault, keeps_sum, ring_apply, ring_image};
+pub use rings::{RingFault, first_place, keeps_sum, ring_apply, ring_image};
 pub use side::Side;
 pub use values::{letter_of, value_by};
 pub use weights::{WeightFault, Weights};

@@ -17,6 +17,12 @@ pub const MOST_STATES: usize = 16;
 /// The greatest width that an accepted rule may have.
 pub const MOST_WIDTH: usize = 5;
 
+/// The least place from which cell 0 of an image may depend under an accepted rule.
+pub const LEAST_PLACE: i8 = -16;
+
+/// The greatest place from which cell 0 of an image may depend under an accepted rule.
+pub const GREATEST_PLACE: i8 = 16;
+
 /// The greatest number of nodes, which are the words of m - 1 letters.
 pub const MOST_NODES: usize = 16;
 
@@ -103,13 +109,13 @@ impl Rule {
             m,
             o,
             nodes: node_count(k, m),
-            entries: in_memory(table),
+            entries: padded_table(table),
         })
     }
 
     /// Makes the rule with k states, width m and offset o that gives for each window the letter `letter(value)`,
     /// where `value` is the value of the window.
-    pub fn by<F: Fn(u16) -> u8>(k: u8, m: u8, o: i8, letter: F) -> Rule
+    pub fn from_fn<F: Fn(u16) -> u8>(k: u8, m: u8, o: i8, letter: F) -> Rule
         requires rule { (r : LocalRule) × IsRuleBy k m o (F.post letter) r }
         requires callable { (v : ℕ) → v < k ^ m → F.pre letter v }
         ensures { (r : LocalRule) → IsRuleBy k m o (F.post letter) r → result ≡ r }
@@ -218,7 +224,7 @@ impl Rule {
         ensures image { (x : List ℕ) → IsWord self.now.states x → image result (reverse x) ≡ reverse (image self.now x) }
     {
         let (k, m) = (self.k(), self.m());
-        Rule::by(
+        Rule::from_fn(
             k,
             m,
             self.mirrored_offset(),
@@ -253,7 +259,7 @@ impl Eq for Rule {
 }
 
 /// Returns the letters of a table, followed by zeros.
-fn in_memory(table: &[u8]) -> [u8; MOST_ENTRIES]
+fn padded_table(table: &[u8]) -> [u8; MOST_ENTRIES]
     requires { length table.now ≤ most_windows }
     ensures { result ≡ padded table.now }
 {
@@ -285,7 +291,7 @@ pub fn check_shape(k: u8, m: u8, o: i8) -> Result<(), RuleFault>
         return Err(RuleFault::Nodes);
     }
     let last = i16::from(o) + i16::from(m) - 1;
-    if o < -16 || last > 16 {
+    if o < LEAST_PLACE || last > i16::from(GREATEST_PLACE) {
         return Err(RuleFault::Offset);
     }
     Ok(())

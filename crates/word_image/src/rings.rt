@@ -56,7 +56,7 @@ fn new_letters(alloc: Global, rule: &Rule, ring: &[u8]) -> Result<Vec<u8>, Alloc
 }
 
 /// Returns the place of a ring with `count` letters at which the window of place 0 begins.
-fn first_place(rule: &Rule, count: usize) -> usize
+pub fn first_place(rule: &Rule, count: usize) -> usize
     requires some { 0 < count }
     requires fits { count < 2 ^ 63 }
     ensures { pos result ≡ int_rem_euclid rule.now.offset (pos count) }

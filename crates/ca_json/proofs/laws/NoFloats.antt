@@ -18,7 +18,7 @@ use Rattle.ca_json.specs.Causes.{unfit_json, operand_json, named, places_json, p
 use Rattle.rule_text.specs.FaultTexts.{fault_name, fault_place}
 use Rattle.cert_conditions.specs.declared.refusal_parts.RefusalNumbers.{RefusalNumbers}
 use Rattle.cert_conditions.specs.declared.refusal_parts.RefusalNumbers.TheVariants as numbers
-use Rattle.cert_conditions.specs.RefusalParts.{Parts, parts_of}
+use Rattle.cert_conditions.specs.RefusalParts.{SaidParts, parts_of}
 use Rattle.ca_json.specs.Replies.{verdicts_json, json_of}
 
 -- a JSON value has no float
@@ -161,7 +161,7 @@ NoFloat-named key None rest none = none
 NoFloat-named key (Some word) rest none = none
 
 -- the JSON of a refusal has no float
-NoFloat-parts : (p : Parts) → NoFloat (parts_json p)
+NoFloat-parts : (p : SaidParts) → NoFloat (parts_json p)
 NoFloat-parts p =
     rw (NoFloat-places p.numbers) (NoFloat-named (codes "because") p.because _
     (NoFloat-named (codes "fault") p.fault _ (NoFloat-named (codes "key") p.key _ (NoFloat-named (codes "side") p.side _ refl))))

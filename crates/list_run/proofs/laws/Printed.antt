@@ -1,5 +1,6 @@
 -- The rule of a line has the property: it is the listed one at another offset.
 use Rattle.std.proofs.Common.{◌≡◌, ℕ, ◌-◌, ◌^◌, List, ℤ, pos, negsuc, ◌+ℤ◌, ◌≤ℤ◌, refl, subst, arith}
+use Rattle.word_image.specs.LocalRules.{least_place, greatest_place}
 use Rattle.word_image.proofs.Common.{ints, LocalRule, IsRule, IsShape-offset, rule_from_parts}
 use Rattle.rule_lists.specs.Listed.{IsListed, at_offset}
 use Rattle.rule_lists.specs.Properties.{Has}
@@ -9,7 +10,7 @@ use Rattle.rule_lists.proofs.laws.Offsets.{Has-at_offset}
 use Rattle.list_run.specs.Lines.{with_table}
 
 -- a rule is accepted at each offset within the limits
-IsRule-at_offset : {r : LocalRule} (o : ℤ) → IsRule r → negsuc 15 ≤ℤ o → (o +ℤ pos (r.width - 1)) ≤ℤ pos 16 → IsRule (at_offset r o)
+IsRule-at_offset : {r : LocalRule} (o : ℤ) → IsRule r → least_place ≤ℤ o → (o +ℤ pos (r.width - 1)) ≤ℤ greatest_place → IsRule (at_offset r o)
 IsRule-at_offset o rule least most = record { shape = IsShape-offset o rule.shape least most; entries = rule.entries; letters = rule.letters }
 
 -- the rule of a line is accepted, and has the property

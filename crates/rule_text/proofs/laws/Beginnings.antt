@@ -7,7 +7,7 @@ use Rattle.word_image.specs.declared.local_rule.RuleFault.TheVariants as limit
 use Rattle.rule_text.specs.declared.text_fault.TextFault.{TextFault}
 use Rattle.rule_text.specs.declared.text_fault.TextFault.TheVariants as fault
 use Rattle.rule_text.specs.declared.beginnings.Beginning.{Beginning}
-use Rattle.rule_text.specs.RuleTexts.{Said, Says, Entries, IsTextFault, NoForm, Refused, in_text, entries_fault, fault_of}
+use Rattle.rule_text.specs.RuleTexts.{Said, Says, Entries, IsTextFault, NoForm, Refused, as_text_fault, entries_fault, fault_of}
 use Rattle.rule_text.specs.Heads.{IsForm}
 use Rattle.rule_text.specs.Beginnings.{IsBeginning, IsBeginningFault, IsBeginningOf, filled}
 
@@ -25,21 +25,21 @@ is_form (Some (fault.Letter place)) = false
 is_form (Some fault.Number) = false
 
 -- no limit of a rule is one
-is_form-in_text : (place : ℕ) (f : RuleFault) → is_form (Some (in_text place f)) ≡ false
-is_form-in_text place limit.States = refl
-is_form-in_text place limit.Width = refl
-is_form-in_text place limit.Nodes = refl
-is_form-in_text place limit.Offset = refl
-is_form-in_text place limit.Length = refl
-is_form-in_text place (limit.Letter i) = refl
+is_form-as_text_fault : (place : ℕ) (f : RuleFault) → is_form (Some (as_text_fault place f)) ≡ false
+is_form-as_text_fault place limit.States = refl
+is_form-as_text_fault place limit.Width = refl
+is_form-as_text_fault place limit.Nodes = refl
+is_form-as_text_fault place limit.Offset = refl
+is_form-as_text_fault place limit.Length = refl
+is_form-as_text_fault place (limit.Letter i) = refl
 
-is_form-limit : (place : ℕ) (o : Option RuleFault) (e : Option TextFault) → is_form e ≡ false → is_form (option_or (option_map (in_text place) o) e) ≡ false
+is_form-limit : (place : ℕ) (o : Option RuleFault) (e : Option TextFault) → is_form e ≡ false → is_form (option_or (option_map (as_text_fault place) o) e) ≡ false
 is_form-limit place None e h = h
-is_form-limit place (Some f) e h = is_form-in_text place f
+is_form-limit place (Some f) e h = is_form-as_text_fault place f
 
-is_form-map : (place : ℕ) (o : Option RuleFault) → is_form (option_map (in_text place) o) ≡ false
+is_form-map : (place : ℕ) (o : Option RuleFault) → is_form (option_map (as_text_fault place) o) ≡ false
 is_form-map place None = refl
-is_form-map place (Some f) = is_form-in_text place f
+is_form-map place (Some f) = is_form-as_text_fault place f
 
 is_form-number : (large out : Bool) → is_form (if large then Some fault.Kind else (if out then Some fault.Number else None)) ≡ false
 is_form-number true out = refl
@@ -60,7 +60,7 @@ IsBeginningFault-form (NoForm p h) form = IsBeginningFault.NoForm p h
 IsBeginningFault-form (Refused s f says is) (p, e) = absurd (false≢true (sym (is_form-said s) ∙ ap is_form is ∙ ap (λ x. is_form (Some x)) e))
 
 -- the first fault of a shape and a table, as it stands in a text
-pub fault_in_text : (place : ℕ) (a b : Option RuleFault) → option_or (option_map (in_text place) a) (option_map (in_text place) b) ≡ option_map (in_text place) (option_or a b)
+pub fault_in_text : (place : ℕ) (a b : Option RuleFault) → option_or (option_map (as_text_fault place) a) (option_map (as_text_fault place) b) ≡ option_map (as_text_fault place) (option_or a b)
 fault_in_text place None b = refl
 fault_in_text place (Some f) b = refl
 

@@ -3,7 +3,7 @@ use Rattle.std.proofs.Common.{◌≡◌, ℕ, zero, suc, ◌+◌, ◌-◌, ◌*�
 use Rattle.std.specs.Option.{option_or}
 use Rattle.word_image.proofs.Common.{range_with_len, div-eq_of_lt, pow-le-pow_right, nat_tests, Decides-below_and, length-reverse, reverse-append, drop_more, take_more, map-range_with_len_more, sum_by_push, All-drop, LocalRule, IsShape, IsRule, IsWord, value, word_of, wolfram_number, IsWord-reverse, shape_fault-IsShape, length-word_of, IsWord-word_of, value-snoc, value-below}
 use Rattle.rule_text.specs.declared.text_fault.TextFault.TheVariants as fault
-use Rattle.rule_text.specs.RuleTexts.{Said, Number, in_text, number_fault, entries_fault, fault_of}
+use Rattle.rule_text.specs.RuleTexts.{Said, Number, as_text_fault, number_fault, entries_fault, fault_of}
 
 -- a test passes at all numbers below a limit
 abbrev all_below : (ℕ → Bool) → ℕ → Bool
@@ -33,7 +33,7 @@ number_limit k m o shape few =
 -- of an accepted shape the entries alone may have a fault
 pub fault_of-shape : (s : Said) → IsShape s.states s.width s.offset → fault_of s ≡ entries_fault s s.entries
 fault_of-shape s shape =
-    ap (λ f. option_or (option_map (in_text s.place) f) (entries_fault s s.entries)) (shape_fault-IsShape s.states s.width s.offset shape)
+    ap (λ f. option_or (option_map (as_text_fault s.place) f) (entries_fault s s.entries)) (shape_fault-IsShape s.states s.width s.offset shape)
 
 -- the digits of a number of an accepted shape are the table of a rule
 pub IsRule-number : (k m : ℕ) (o p : ℤ) (long n : ℕ) (table : List ℕ) → IsShape k m o → p ≡ o → long ≡ k ^ m → n < k ^ long

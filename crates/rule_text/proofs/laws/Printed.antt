@@ -2,7 +2,7 @@
 use Rattle.std.proofs.Common.{◌≡◌, ℕ, suc, ◌+◌, ◌*◌, ◌/◌, ◌%◌, ◌<◌, List, [], ◌∷◌, ◌++◌, length, map, Some, inl, inr, refl, sym, ap, ap₂, subst, ◌∙◌, arith, add-one, mod-lt, All, ℤ, pos, negsuc, neg_ℤ, codes, unwrap_or, option_map, decimal, div-add-mod'}
 use Rattle.std.proofs.lemmas.Fmt.{decimal_digit, decimal_step}
 use Rattle.word_image.proofs.Common.{cases_lt, nat_tests, ints, div_below, none-some, All-nil, All-cons, All-head, All-tail, All-map, All-weaker, LocalRule, IsShape, IsRule, lower_digit, hex_value, IsHexDigit, letter_at, table_fault-IsWord}
-use Rattle.rule_text.specs.RuleTexts.{IsDigit, IsDecimal, IsOffset, Plain, Minus, Says, InTable, Table, IsRuleText, decimal_value, in_text}
+use Rattle.rule_text.specs.RuleTexts.{IsDigit, IsDecimal, IsOffset, Plain, Minus, Says, InTable, Table, IsRuleText, decimal_value, as_text_fault}
 use Rattle.rule_text.specs.PrintedRules.{offset_text, printed_rule, head}
 use Rattle.rule_text.proofs.laws.Parts.{saying}
 use Rattle.rule_text.proofs.laws.Heads.{Says-same}
@@ -94,6 +94,6 @@ IsRuleText-printed_rule r rule =
       said = saying r.states r.width r.offset (Table r.table) (length begin);
       says = subst (λ (t : List ℕ). Says (printed_rule r) (saying r.states r.width r.offset (Table t) (length begin))) (letters-lower_digits r.table small) says;
       accepted = fault_of-shape (saying r.states r.width r.offset (Table r.table) (length begin)) shape
-          ∙ ap (option_map (in_text (length begin))) (table_fault-IsWord r.states r.width r.table rule.entries rule.letters);
+          ∙ ap (option_map (as_text_fault (length begin))) (table_fault-IsWord r.states r.width r.table rule.entries rule.letters);
       rule = refl;
     }

@@ -9,7 +9,7 @@ use Rattle.tail_preimage.specs.Parts.{AreTailParts, PassesThrough, Starts, IsFir
 use Rattle.tail_preimage.specs.FirstWalks.{AreLoopWalks}
 use Rattle.tail_preimage.specs.declared.answer.Pre.{Pre}
 use Rattle.tail_preimage.specs.declared.answer.Pre.TheVariants.{From, Gap}
-use Rattle.tail_preimage.specs.declared.shapes.Parts.{Parts}
+use Rattle.tail_preimage.specs.declared.shapes.PartRelations.{PartRelations}
 use Rattle.tail_preimage.proofs.laws.Walks.{IsWalk-first}
 use Rattle.tail_preimage.proofs.laws.Steps.{Open-rounds}
 use Rattle.tail_preimage.proofs.laws.PlacedWalks.{not_MapsTo-orphan}
@@ -18,7 +18,7 @@ use Rattle.tail_preimage.proofs.laws.Shapes.{Through-map}
 use Rattle.tail_preimage.proofs.laws.LeastPreimages.{IsLeastPreimage-unique}
 
 -- where 16 right periods lead through any number of them does
-PassesThrough-any : {r : LocalRule} {t : TailConfig} {parts : Parts} → AreTailParts r t parts → (b a : ℕ) → PassesThrough r parts b 16 → PassesThrough r parts b a
+PassesThrough-any : {r : LocalRule} {t : TailConfig} {parts : PartRelations} → AreTailParts r t parts → (b a : ℕ) → PassesThrough r parts b 16 → PassesThrough r parts b a
 PassesThrough-any {r} {parts = parts} h b a =
     let C : ℕ → ℕ → Type 0 = HasBit parts.right.period in
     Through-map r parts (Open (HasBit parts.left.period) b) (Open C 16) (Open (HasBit parts.left.period) b) (Open C a) (λ v _ leads. leads) (λ w node leads.
@@ -26,7 +26,7 @@ PassesThrough-any {r} {parts = parts} h b a =
     Open-rounds C n on w some rounds a)
 
 -- the first numbers of periods that lead nowhere are the least gap
-pub IsGap-first : {r : LocalRule} {t : TailConfig} {parts : Parts} → IsTail r.states t → AreTailParts r t parts → (b a : ℕ) → IsFirstGap r parts b a → IsGap r t b a (stretch t b a)
+pub IsGap-first : {r : LocalRule} {t : TailConfig} {parts : PartRelations} → IsTail r.states t → AreTailParts r t parts → (b a : ℕ) → IsFirstGap r parts b a → IsGap r t b a (stretch t b a)
 IsGap-first {r} {t} ht h b a gap =
     let orphan : IsOrphan r (stretch t b a) = PassesThrough-IsOrphan ht h b a gap.closed in
     record {
@@ -42,7 +42,7 @@ IsGap-first {r} {t} ht h b a gap =
     }
 
 -- the least of the nodes from which walks of a shape lead
-pub Starts-least : {r : LocalRule} {t : TailConfig} {parts : Parts} {s : Shape} {set v : ℕ} → AreTailParts r t parts → IsNodeSet r (Starts r parts s) set → IsFirst (IsBitSet set) v
+pub Starts-least : {r : LocalRule} {t : TailConfig} {parts : PartRelations} {s : Shape} {set v : ℕ} → AreTailParts r t parts → IsNodeSet r (Starts r parts s) set → IsFirst (IsBitSet set) v
     → (u q : ℕ) (a b c : List ℕ) → AreLoopWalks r t s u q a b c → v ≤ u
 Starts-least {v = v} h set least u q a b c walks =
     ⊎_elim (λ l. absurd (least.none u l ((set.nodes u (IsWalk-first walks.left)).1 (walks-Starts h walks)))) (λ l. l) (cases_lt u v)

@@ -9,7 +9,7 @@ use Rattle.tail_preimage.specs.Relations.{IsRelation, Steps, Open, SomeRounds}
 use Rattle.tail_preimage.specs.Parts.{ArePeriods, AreTailParts, PassesThrough, Starts, IsPossible}
 use Rattle.tail_preimage.specs.FirstWalks.{AreLoopWalks}
 use Rattle.tail_preimage.specs.declared.periods.Periods.{Periods}
-use Rattle.tail_preimage.specs.declared.shapes.Parts.{Parts}
+use Rattle.tail_preimage.specs.declared.shapes.PartRelations.{PartRelations}
 use Rattle.tail_preimage.proofs.laws.Walks.{IsWalk-first, IsWalk-last, IsWalk-none, IsWalk-stays, HasWalk-join, HasWalk-cut, IsOrphan-none, IsOrphan-walk}
 use Rattle.tail_preimage.proofs.laws.Stretches.{repeat-more, IsWord-stretch}
 use Rattle.tail_preimage.proofs.laws.Steps.{Steps-none, Steps-stay, Steps-cons, Steps-first, Steps-end, SomeRounds-open}
@@ -58,7 +58,7 @@ Steps-reversed {r} {p} rule h (suc n) u v l =
     )
 
 -- three walks of a shape lead from its starts, and from no other node
-pub Starts-walks : {r : LocalRule} {t : TailConfig} {parts : Parts} {s : Shape} {v : ℕ} → AreTailParts r t parts → 1 ≤ s.back → 1 ≤ s.on → v < node_count r → Starts r parts s v
+pub Starts-walks : {r : LocalRule} {t : TailConfig} {parts : PartRelations} {s : Shape} {v : ℕ} → AreTailParts r t parts → 1 ≤ s.back → 1 ≤ s.on → v < node_count r → Starts r parts s v
     → (w : ℕ) × (x : List ℕ) × (y : List ℕ) × (z : List ℕ) × AreLoopWalks r t s v w x y z
 Starts-walks {r} {t} {parts} {s} {v} h back on node (loop, (u, u_node, lefts, (n, n_node, middle, (w, rights, turn)))) =
     let x = (Steps-reversed h.rule h.left s.back v v node).0 loop in
@@ -69,7 +69,7 @@ Starts-walks {r} {t} {parts} {s} {v} h back on node (loop, (u, u_node, lefts, (n
     let z = (Steps-repeat h.rule h.right s.on w w (IsWalk-last third.1)).0 turn in
     (w, x.0, y.0, z.0, record { back_some = back; on_some = on; left = x.1; middle = y.1; right = z.1 })
 
-pub walks-Starts : {r : LocalRule} {t : TailConfig} {parts : Parts} {s : Shape} {v w : ℕ} {x y z : List ℕ} → AreTailParts r t parts → AreLoopWalks r t s v w x y z → Starts r parts s v
+pub walks-Starts : {r : LocalRule} {t : TailConfig} {parts : PartRelations} {s : Shape} {v w : ℕ} {x y z : List ℕ} → AreTailParts r t parts → AreLoopWalks r t s v w x y z → Starts r parts s v
 walks-Starts {r} {t} {parts} {s} {v} {w} {x} {y} {z} h walks =
     let (n, before, third) = HasWalk-cut h.rule (repeat s.before t.left ++ t.middle) (repeat s.after t.right) (y, walks.middle) in
     let (u, first, second) = HasWalk-cut h.rule (repeat s.before t.left) t.middle before in
@@ -90,18 +90,18 @@ walks-Starts {r} {t} {parts} {s} {v} {w} {x} {y} {z} h walks =
     )
 
 -- a shape is possible where three walks have it
-pub walks-IsPossible : {r : LocalRule} {t : TailConfig} {parts : Parts} {s : Shape} {v w : ℕ} {x y z : List ℕ} → AreTailParts r t parts → AreLoopWalks r t s v w x y z → IsPossible r parts s
+pub walks-IsPossible : {r : LocalRule} {t : TailConfig} {parts : PartRelations} {s : Shape} {v w : ℕ} {x y z : List ℕ} → AreTailParts r t parts → AreLoopWalks r t s v w x y z → IsPossible r parts s
 walks-IsPossible {v = v} h walks = record { back_some = walks.back_some; on_some = walks.on_some; node = v; below = IsWalk-first walks.left; starts = walks-Starts h walks }
 
 -- periods lead through where some walk leads along them, and nowhere else
-pub PassesThrough-walk : {r : LocalRule} {t : TailConfig} {parts : Parts} → AreTailParts r t parts → (b a : ℕ) → PassesThrough r parts b a → (u : ℕ) × (s : ℕ) × HasWalk r (stretch t b a) u s
+pub PassesThrough-walk : {r : LocalRule} {t : TailConfig} {parts : PartRelations} → AreTailParts r t parts → (b a : ℕ) → PassesThrough r parts b a → (u : ℕ) × (s : ℕ) × HasWalk r (stretch t b a) u s
 PassesThrough-walk h b a (v, w, v_node, w_node, (u, lefts), middle, (s, rights)) =
     let first = (Steps-reversed h.rule h.left b v u v_node).0 lefts in
     let second = ((h.middle.rows v v_node).nodes w w_node).0 middle in
     let third = (Steps-repeat h.rule h.right a w s w_node).0 rights in
     (u, s, HasWalk-join h.rule (HasWalk-join h.rule first second) third)
 
-pub walk-PassesThrough : {r : LocalRule} {t : TailConfig} {parts : Parts} {u s : ℕ} → AreTailParts r t parts → (b a : ℕ) → HasWalk r (stretch t b a) u s → PassesThrough r parts b a
+pub walk-PassesThrough : {r : LocalRule} {t : TailConfig} {parts : PartRelations} {u s : ℕ} → AreTailParts r t parts → (b a : ℕ) → HasWalk r (stretch t b a) u s → PassesThrough r parts b a
 walk-PassesThrough {r} {t} {parts} {u} {s} h b a walk =
     let (w, before, third) = HasWalk-cut h.rule (repeat b t.left ++ t.middle) (repeat a t.right) walk in
     let (v, first, second) = HasWalk-cut h.rule (repeat b t.left) t.middle before in
@@ -117,10 +117,10 @@ walk-PassesThrough {r} {t} {parts} {u} {s} h b a walk =
     )
 
 -- where a stretch is an orphan, its periods and the middle lead nowhere
-pub IsOrphan-PassesThrough : {r : LocalRule} {t : TailConfig} {parts : Parts} → AreTailParts r t parts → (b a : ℕ) → IsOrphan r (stretch t b a) → ¬ PassesThrough r parts b a
+pub IsOrphan-PassesThrough : {r : LocalRule} {t : TailConfig} {parts : PartRelations} → AreTailParts r t parts → (b a : ℕ) → IsOrphan r (stretch t b a) → ¬ PassesThrough r parts b a
 IsOrphan-PassesThrough h b a orphan passes = let walk = PassesThrough-walk h b a passes in IsOrphan-walk orphan walk.2
 
-pub PassesThrough-IsOrphan : {r : LocalRule} {t : TailConfig} {parts : Parts} → IsTail r.states t → AreTailParts r t parts → (b a : ℕ) → ¬ PassesThrough r parts b a → IsOrphan r (stretch t b a)
+pub PassesThrough-IsOrphan : {r : LocalRule} {t : TailConfig} {parts : PartRelations} → IsTail r.states t → AreTailParts r t parts → (b a : ℕ) → ¬ PassesThrough r parts b a → IsOrphan r (stretch t b a)
 PassesThrough-IsOrphan ht h b a none = IsOrphan-none (IsWord-stretch ht b a) (λ u s walk. none (walk-PassesThrough h b a walk))
 
 -- where 16 periods lead somewhere, few lead to a loop

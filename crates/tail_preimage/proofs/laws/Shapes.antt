@@ -6,7 +6,7 @@ use Rattle.tail_config.proofs.Common.{TailConfig}
 use Rattle.tail_preimage.specs.Preimages.{Shape}
 use Rattle.tail_preimage.specs.Relations.{Open, Rounds, SomeRounds, Meets, IsFirst}
 use Rattle.tail_preimage.specs.Parts.{AreTailParts, Through, PassesThrough, IsPossible, IsFirstShape}
-use Rattle.tail_preimage.specs.declared.shapes.Parts.{Parts}
+use Rattle.tail_preimage.specs.declared.shapes.PartRelations.{PartRelations}
 use Rattle.tail_preimage.proofs.laws.Orders.{key_not_greater}
 use Rattle.tail_preimage.proofs.laws.Steps.{Open-rounds}
 use Rattle.tail_preimage.proofs.laws.Parts.{ArePeriods-end, SomeRounds-periods}
@@ -20,11 +20,11 @@ pub IsFirst-same : (P Q : ℕ → Type 0) (n : ℕ) → ((i : ℕ) → (P i ↔ 
 IsFirst-same P Q n same h = record { holds = (same n).0 h.holds; none = λ i l holds. h.none i l ((same i).1 holds) }
 
 -- the middle leads through to weaker ends too
-pub Through-map : (r : LocalRule) (parts : Parts) (P Q S T : ℕ → Type 0) → ((v : ℕ) → v < node_count r → P v → S v) → ((w : ℕ) → w < node_count r → Q w → T w) → Through r parts P Q → Through r parts S T
+pub Through-map : (r : LocalRule) (parts : PartRelations) (P Q S T : ℕ → Type 0) → ((v : ℕ) → v < node_count r → P v → S v) → ((w : ℕ) → w < node_count r → Q w → T w) → Through r parts P Q → Through r parts S T
 Through-map r parts P Q S T first second (v, w, v_node, w_node, before, middle, behind) = (v, w, v_node, w_node, first v v_node before, middle, second w w_node behind)
 
 -- the middle leads from a node of P to one of Q exactly where one of P is a node from which the middle leads into the set of Q
-pub Through-before : {set rears : ℕ} → (r : LocalRule) (parts : Parts) (P Q : ℕ → Type 0) → IsNodeSet r Q set → IsNodeSet r (λ v. (w : ℕ) × HasBit parts.middle v w × IsBitSet set w) rears → Meets r P rears ↔ Through r parts P Q
+pub Through-before : {set rears : ℕ} → (r : LocalRule) (parts : PartRelations) (P Q : ℕ → Type 0) → IsNodeSet r Q set → IsNodeSet r (λ v. (w : ℕ) × HasBit parts.middle v w × IsBitSet set w) rears → Meets r P rears ↔ Through r parts P Q
 Through-before {set = set} r parts P Q h g = (
   (λ (v, node, before, bit).
       let (w, row, behind) = (g.nodes v node).0 bit in
@@ -34,7 +34,7 @@ Through-before {set = set} r parts P Q h g = (
 )
 
 -- a set meets the nodes to which the middle leads from a set exactly where something leads through
-pub Through-behind : {set fronts : ℕ} → (r : LocalRule) (parts : Parts) (P Q : ℕ → Type 0) → IsNodeSet r P set
+pub Through-behind : {set fronts : ℕ} → (r : LocalRule) (parts : PartRelations) (P Q : ℕ → Type 0) → IsNodeSet r P set
     → IsNodeSet r (λ w. (v : ℕ) × (v < node_count r) × (IsBitSet set v × HasBit parts.middle v w)) fronts → Meets r Q fronts ↔ Through r parts P Q
 Through-behind r parts P Q h g = (
   (λ (w, w_node, behind, bit). let (v, node, (before, row)) = (g.nodes w w_node).0 bit in (v, w, node, w_node, (h.nodes v node).0 before, row, behind)),
@@ -42,18 +42,18 @@ Through-behind r parts P Q h g = (
 )
 
 -- a shape is possible where the middle leads from a node with its left rounds to one with its right rounds
-pub IsPossible-through : {r : LocalRule} {t : TailConfig} {parts : Parts} → AreTailParts r t parts → (s : Shape) → 1 ≤ s.back → 1 ≤ s.on
+pub IsPossible-through : {r : LocalRule} {t : TailConfig} {parts : PartRelations} → AreTailParts r t parts → (s : Shape) → 1 ≤ s.back → 1 ≤ s.on
     → Through r parts (Rounds (HasBit parts.left.period) s.before s.back) (Rounds (HasBit parts.right.period) s.after s.on) → IsPossible r parts s
 IsPossible-through h s back on (v, w, v_node, w_node, (n, lefts, turn), row, behind) =
     record { back_some = back; on_some = on; node = n; below = ArePeriods-end h.left_periods v_node lefts; starts = (turn, (v, v_node, lefts, (w, w_node, row, behind))) }
 
-through-IsPossible : {r : LocalRule} {parts : Parts} {s : Shape} → IsPossible r parts s → Through r parts (Rounds (HasBit parts.left.period) s.before s.back) (Rounds (HasBit parts.right.period) s.after s.on)
+through-IsPossible : {r : LocalRule} {parts : PartRelations} {s : Shape} → IsPossible r parts s → Through r parts (Rounds (HasBit parts.left.period) s.before s.back) (Rounds (HasBit parts.right.period) s.after s.on)
 through-IsPossible h =
     let (turn, (v, v_node, lefts, (w, w_node, row, behind))) = h.starts in
     (v, w, v_node, w_node, (h.node, lefts, turn), row, behind)
 
 -- what the four keys of the first shape are, each in turn
-pub record AreFirstKeys (r : LocalRule) (parts : Parts) (left right before after : ℕ) : Type 0 where
+pub record AreFirstKeys (r : LocalRule) (parts : PartRelations) (left right before after : ℕ) : Type 0 where
   pub left_few : left ≤ 16
   pub right_few : right ≤ 16
   pub before_less : before < left
@@ -74,7 +74,7 @@ exact_rounds E n m on sum v same both h =
     subst (λ k. Rounds E m k v) rest (subst (λ k. Rounds E k on v) same h)
 
 -- the first keys of both sides are those of the first shape
-pub IsFirstShape-keys : {r : LocalRule} {t : TailConfig} {parts : Parts} → AreTailParts r t parts → (left right before after : ℕ) → AreFirstKeys r parts left right before after
+pub IsFirstShape-keys : {r : LocalRule} {t : TailConfig} {parts : PartRelations} → AreTailParts r t parts → (left right before after : ℕ) → AreFirstKeys r parts left right before after
     → IsFirstShape r parts (record { before = before; back = left - before; after = after; on = right - after })
 IsFirstShape-keys {r} {t} {parts} h left right before after keys =
     let A : ℕ → ℕ → Type 0 = HasBit parts.left.period in
@@ -112,23 +112,23 @@ IsFirstShape-keys {r} {t} {parts} h left right before after keys =
     }
 
 -- where 16 periods on either side lead through, there is a first key
-pub left_key : {r : LocalRule} {t : TailConfig} {parts : Parts} → AreTailParts r t parts → PassesThrough r parts 16 16 → (n : ℕ) × (n ≤ 16) × Through r parts (SomeRounds (HasBit parts.left.period) n) (Open (HasBit parts.right.period) 16)
+pub left_key : {r : LocalRule} {t : TailConfig} {parts : PartRelations} → AreTailParts r t parts → PassesThrough r parts 16 16 → (n : ℕ) × (n ≤ 16) × Through r parts (SomeRounds (HasBit parts.left.period) n) (Open (HasBit parts.right.period) 16)
 left_key h (v, w, v_node, w_node, before, row, behind) =
     let (sum, few, rounds) = SomeRounds-periods h.rule h.left v_node before in
     (sum, few, (v, w, v_node, w_node, rounds, row, behind))
 
 -- where there is a first key, there is a second one
-pub right_key : {r : LocalRule} {t : TailConfig} {parts : Parts} (P : ℕ → Type 0) → AreTailParts r t parts → Through r parts P (Open (HasBit parts.right.period) 16) → (n : ℕ) × (n ≤ 16) × Through r parts P (SomeRounds (HasBit parts.right.period) n)
+pub right_key : {r : LocalRule} {t : TailConfig} {parts : PartRelations} (P : ℕ → Type 0) → AreTailParts r t parts → Through r parts P (Open (HasBit parts.right.period) 16) → (n : ℕ) × (n ≤ 16) × Through r parts P (SomeRounds (HasBit parts.right.period) n)
 right_key P h (v, w, v_node, w_node, before, row, behind) =
     let (sum, few, rounds) = SomeRounds-periods h.rule h.right w_node behind in
     (sum, few, (v, w, v_node, w_node, before, row, rounds))
 
 -- where there is a second key, there is a third one
-pub before_key : (r : LocalRule) (parts : Parts) (Q : ℕ → Type 0) (left : ℕ) → Through r parts (SomeRounds (HasBit parts.left.period) left) Q → (n : ℕ) × (n < left) × Through r parts (Rounds (HasBit parts.left.period) n (left - n)) Q
+pub before_key : (r : LocalRule) (parts : PartRelations) (Q : ℕ → Type 0) (left : ℕ) → Through r parts (SomeRounds (HasBit parts.left.period) left) Q → (n : ℕ) × (n < left) × Through r parts (Rounds (HasBit parts.left.period) n (left - n)) Q
 before_key r parts Q left (v, w, v_node, w_node, (n, on, both, some, rounds), row, behind) =
     (n, omega (arith, both, some), (v, w, v_node, w_node, exact_rounds (HasBit parts.left.period) n n on left v refl both rounds, row, behind))
 
 -- where there is a third key, there is a fourth one
-pub after_key : (r : LocalRule) (parts : Parts) (P : ℕ → Type 0) (right : ℕ) → Through r parts P (SomeRounds (HasBit parts.right.period) right) → (n : ℕ) × (n < right) × Through r parts P (Rounds (HasBit parts.right.period) n (right - n))
+pub after_key : (r : LocalRule) (parts : PartRelations) (P : ℕ → Type 0) (right : ℕ) → Through r parts P (SomeRounds (HasBit parts.right.period) right) → (n : ℕ) × (n < right) × Through r parts P (Rounds (HasBit parts.right.period) n (right - n))
 after_key r parts P right (v, w, v_node, w_node, before, row, (n, on, both, some, rounds)) =
     (n, omega (arith, both, some), (v, w, v_node, w_node, before, row, exact_rounds (HasBit parts.right.period) n n on right w refl both rounds))

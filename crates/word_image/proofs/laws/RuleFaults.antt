@@ -6,7 +6,7 @@ use Rattle.std.proofs.lemmas.Int.{ints}
 use Rattle.std.specs.List.{position_or_len}
 use Rattle.std.proofs.lemmas.List.Sums.{position_or_len_is, fails_before_first}
 use Rattle.std.proofs.lemmas.List.Elements.{All-from_get_or}
-use Rattle.word_image.specs.LocalRules.{IsWord, IsShape, most_states, most_width, most_sets}
+use Rattle.word_image.specs.LocalRules.{IsWord, IsShape, most_states, most_width, most_sets, least_place, greatest_place}
 use Rattle.word_image.specs.RuleFaults.{shape_fault, table_fault}
 
 -- a power that is taken before it is known to be small: at most 16^4
@@ -33,7 +33,7 @@ pub shape_fault-IsShape : (k m : ℕ) (o : ℤ) → IsShape k m o → shape_faul
 shape_fault-IsShape k m o shape = grind (arith, nat_tests, ints)
 
 -- an accepted shape is accepted at each offset within the limits
-pub IsShape-offset : {k m : ℕ} {o : ℤ} (p : ℤ) → IsShape k m o → negsuc 15 ≤ℤ p → (p +ℤ pos (m - 1)) ≤ℤ pos 16 → IsShape k m p
+pub IsShape-offset : {k m : ℕ} {o : ℤ} (p : ℤ) → IsShape k m o → least_place ≤ℤ p → (p +ℤ pos (m - 1)) ≤ℤ greatest_place → IsShape k m p
 IsShape-offset p shape least most = record {
   least_states = shape.least_states;
   most_states = shape.most_states;

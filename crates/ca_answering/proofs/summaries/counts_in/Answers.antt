@@ -19,8 +19,8 @@ long c = c.loop-i.auto.table ∙ c.requires.long
 drawn_is : (c : After-fill) → rule_of_table c.args.k c.args.m c.fill.new.letters ≡ drawn_rule c.args.k c.args.m c.loop-i.generator
 drawn_is c = ap (rule_of_table c.args.k c.args.m) (c.fill.ensures.letters ∙ ap (λ n. map (drawn c.args.k c.loop-i.generator) (range_with_len 0 n)) (long c))
 
-pub of_table-requires : goal.of_table-requires
-of_table-requires c = subst IsRule (sym (drawn_is (goal.at.of_table-requires c).After-fill)) (IsRule-drawn c.args.k c.args.m c.loop-i.generator c.requires.shape)
+pub from_table-requires : goal.from_table-requires
+from_table-requires c = subst IsRule (sym (drawn_is (goal.at.from_table-requires c).After-fill)) (IsRule-drawn c.args.k c.args.m c.loop-i.generator c.requires.shape)
 
 pub loop-i-preserved : goal.loop-i-preserved
 loop-i-preserved c =
@@ -30,7 +30,7 @@ loop-i-preserved c =
     let s = c.loop-i.generator in
     let sofar = c.loop-i.invariant in
     let r : LocalRule = drawn_rule k m s in
-    let truths : AreTruths r c.of_table.result = subst (λ (q : LocalRule). AreTruths q c.of_table.result) (drawn_is d) c.of_table.ensures in
+    let truths : AreTruths r c.from_table.result = subst (λ (q : LocalRule). AreTruths q c.from_table.result) (drawn_is d) c.from_table.ensures in
     let state = c.fill.ensures.state ∙ ap (state_after s) (long d) in (
       sofar.0 ++ r ∷ [],
       c.add.ensures sofar.0 r sofar.1 (IsRule-drawn k m s c.requires.shape) truths,

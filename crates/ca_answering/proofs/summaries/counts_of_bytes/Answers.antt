@@ -25,7 +25,7 @@ loop-byte-preserved c =
     let within : i < length c.args.bytes.now = omega arith in
     let rule : IsRule (numbered_rule k m (first + i)) = IsRule-said (by_number k m (pos 0) (first + i)) (survey-accepted k m first (length c.args.bytes.now) i c.requires.accepted within) in
     let said = c.requires.bytes i within in
-    let truths : AreTruths (numbered_rule k m (first + i)) c.of_byte.result = subst (AreTruths (numbered_rule k m (first + i))) (sym (c.of_byte.ensures said.truths said.is)) said.are in
+    let truths : AreTruths (numbered_rule k m (first + i)) c.from_byte.result = subst (AreTruths (numbered_rule k m (first + i))) (sym (c.from_byte.ensures said.truths said.is)) said.are in
     subst (λ rules. AreCounts rules (counts_of c.add.new.counts)) (sym (survey_rules-more k m first i)) (c.add.ensures (survey_rules k m first i) (numbered_rule k m (first + i)) c.loop-byte.invariant rule truths)
 
 pub returns : goal.returns

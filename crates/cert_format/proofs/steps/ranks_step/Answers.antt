@@ -10,5 +10,5 @@ pub returns-in-Err-clause-fault : goal.returns-in-Err-clause-fault
 returns-in-Err-clause-fault c =
     let r = c.args.rule.now in
     let ms = members_in (view c.args.value.now) in
-    IsStepFault-at c.in-Err.fault key.Ranks c.at-in-Err.result ((forward backward : List (Option ℕ)) × HasRanks r ms forward backward) c.at-in-Err.ensures.shape c.at-in-Err.ensures.memory
+    IsStepFault-at c.in-Err.fault key.Ranks c.fault_at-in-Err.result ((forward backward : List (Option ℕ)) × HasRanks r ms forward backward) c.fault_at-in-Err.ensures.shape c.fault_at-in-Err.ensures.memory
     (λ shape. no_ranks r ms (view c.in-Some.rows.now) (sym c.in-Some.ensures) (c.in-Err.ensures.none shape))

@@ -25,5 +25,5 @@ pub returns-in-Err-clause-fault : goal.returns-in-Err-clause-fault
 returns-in-Err-clause-fault c =
     let names : names_weights c.args.version ≡ true = sym c.names_weights.ensures ∙ c.if-not-names_weights.false in
     let ms = members_in (view c.args.value.now) in
-    IsStepFault-at c.in-Err.fault key.Weights c.at.result ((weights : List ℕ) × HasWeights c.args.version c.args.rule.now ms weights) c.at.ensures.shape c.at.ensures.memory
+    IsStepFault-at c.in-Err.fault key.Weights c.fault_at.result ((weights : List ℕ) × HasWeights c.args.version c.args.rule.now ms weights) c.fault_at.ensures.shape c.fault_at.ensures.memory
     (λ shape. no_weights names (sym c.in-Some.ensures) (c.in-Err.ensures.none shape))

@@ -28,8 +28,8 @@ is_row {r} {table} {word} {place} {row} rule is same at =
 pub row_at-requires : goal.row_at-requires
 row_at-requires c = (is_row c.k-k.ensures.rule c.table-table.ensures.table (c.from-row.ensures ∙ c.k-k.ensures.states) c.loop-image.invariant.place).inside
 
-pub after_row-place-requires : goal.after_row-place-requires
-after_row-place-requires c = record {
+pub next_row-place-requires : goal.next_row-place-requires
+next_row-place-requires c = record {
   some = omega (arith, c.from-row.ensures, c.k-k.ensures.states, c.k-k.ensures.rule.shape.least_states);
   inside = (is_row c.k-k.ensures.rule c.table-table.ensures.table (c.from-row.ensures ∙ c.k-k.ensures.states) c.loop-image.invariant.place).inside;
 }
@@ -50,7 +50,7 @@ loop-image-preserved c =
     record {
       longer = subst (AreLonger r images (word + 1)) (sym (c.push_all.ensures.items ∙ ap (λ labels. before ++ map (λ label. first + label) labels) (c.row_at.ensures ∙ is.labels))) row;
       room = omega (arith, c.push_all.ensures.room, c.loop-image.invariant.room);
-      place = c.after_row-place.ensures.next (node_count r) word size (c.loop-image.invariant.place ∙ ap (λ k. node * k) (sym same)) ∙ ap (λ k. (word + 1) % node_count r * k) same;
+      place = c.next_row-place.ensures.next (node_count r) word size (c.loop-image.invariant.place ∙ ap (λ k. node * k) (sym same)) ∙ ap (λ k. (word + 1) % node_count r * k) same;
     }
 
 pub returns : goal.returns

@@ -32,8 +32,8 @@ returns-in_err-check_shape-clause-accepted c =
       λ rule. absurd (none-some _ (sym (shape_fault-IsShape _ _ _ rule.shape) ∙ sym (asked c.n.ensures.map c.k.ensures.states width c.offset-o.ensures.offset) ∙ sym c.in_err-check_shape.ensures)),
     )
 
-pub by-requires-clause-rule : goal.by-requires-clause-rule
-by-requires-clause-rule c =
+pub from_fn-requires-clause-rule : goal.from_fn-requires-clause-rule
+from_fn-requires-clause-rule c =
     let h = c.n.ensures.map in
     let width : c.max-m.result ≡ (map_rule c.args.map.now).width = omega (arith, c.max-m.ensures, c.n.ensures.width) in
     let rule = accepted h c.k.ensures.states width c.offset-o.ensures.offset c.in_ok-check_shape.ensures in
@@ -44,7 +44,7 @@ returns-clause-rule c =
     let h = c.n.ensures.map in
     let width : c.max-m.result ≡ (map_rule c.args.map.now).width = omega (arith, c.max-m.ensures, c.n.ensures.width) in
     let rule = accepted h c.k.ensures.states width c.offset-o.ensures.offset c.in_ok-check_shape.ensures in
-    c.by.ensures _ (IsRuleBy-entries rule c.k-2.ensures.states width (passed h c.offset-o.ensures.offset) (λ v a l h. search rules))
+    c.from_fn.ensures _ (IsRuleBy-entries rule c.k-2.ensures.states width (passed h c.offset-o.ensures.offset) (λ v a l h. search rules))
 
 pub returns-clause-fault : goal.returns-clause-fault
 returns-clause-fault c =

@@ -18,12 +18,12 @@ by_letters {first} {second} {k} {m} {n} {o} {p} before after none states one two
     IsRuleBy-map (give second.states second.width) (IsRule-composed_fault before after none) states (ap₂ (λ (i j : ℕ). i + j - 1) one two) (offsets_of before after o p offset other) refl
     (λ v a l h. given v a l h ∙ ap₂ (λ (k n : ℕ). give k n v) same two)
 
-pub by-requires-clause-rule : goal.by-requires-clause-rule
-by-requires-clause-rule c =
+pub from_fn-requires-clause-rule : goal.from_fn-requires-clause-rule
+from_fn-requires-clause-rule c =
     (_, by_letters c.m-m.ensures.rule c.m-n.ensures.rule c.requires c.k.ensures.states c.m-m.ensures.width c.m-n.ensures.width c.o.ensures.offset c.o-2.ensures.offset (λ v a l h. search rules))
 
-pub by-requires-clause-callable : goal.by-requires-clause-callable
-by-requires-clause-callable c = λ v l.
+pub from_fn-requires-clause-callable : goal.from_fn-requires-clause-callable
+from_fn-requires-clause-callable c = λ v l.
     let first = c.args.first.now in
     let second = c.args.second.now in
     let n = c.m-n.result in
@@ -37,4 +37,4 @@ by-requires-clause-callable c = λ v l.
 
 pub returns : goal.returns
 returns c =
-    c.by.ensures _ (by_letters c.m-m.ensures.rule c.m-n.ensures.rule c.requires c.k.ensures.states c.m-m.ensures.width c.m-n.ensures.width c.o.ensures.offset c.o-2.ensures.offset (λ v a l h. search rules))
+    c.from_fn.ensures _ (by_letters c.m-m.ensures.rule c.m-n.ensures.rule c.requires c.k.ensures.states c.m-m.ensures.width c.m-n.ensures.width c.o.ensures.offset c.o-2.ensures.offset (λ v a l h. search rules))

@@ -22,13 +22,13 @@ old_letters-letters-requires-clause-few c = omega (arith, c.k-2.ensures.states, 
 pub old_letters-letters-requires-clause-colours : goal.old_letters-letters-requires-clause-colours
 old_letters-letters-requires-clause-colours c = subst (λ k. IsRecolouring k c.args.colours.now) (c.k.ensures.states ∙ sym c.k-2.ensures.states) (c.if-not-is_recolouring.ensures.0 refl)
 
-pub by-requires-clause-rule : goal.by-requires-clause-rule
-by-requires-clause-rule c =
+pub from_fn-requires-clause-rule : goal.from_fn-requires-clause-rule
+from_fn-requires-clause-rule c =
     let h = subst (λ k. IsRecolouring k c.args.colours.now) c.k.ensures.states (c.if-not-is_recolouring.ensures.0 refl) in
     (_, by_colours c.old_letters-letters.result c.k.ensures.rule h c.k-3.ensures.states c.m.ensures.width c.o.ensures.offset (λ v a l given. search rules))
 
-pub by-requires-clause-callable : goal.by-requires-clause-callable
-by-requires-clause-callable c = λ v l.
+pub from_fn-requires-clause-callable : goal.from_fn-requires-clause-callable
+from_fn-requires-clause-callable c = λ v l.
     let r = c.args.rule.now in
     let h = subst (λ k. IsRecolouring k c.args.colours.now) c.k.ensures.states (c.if-not-is_recolouring.ensures.0 refl) in
     let old = subst (λ k. AreOldLetters k c.args.colours.now k c.old_letters-letters.result) c.k-2.ensures.states c.old_letters-letters.ensures in
@@ -39,10 +39,10 @@ by-requires-clause-callable c = λ v l.
     grind (serving, word, enough, below, many)
 
 -- the recoloured rule is what is made
-made : (c : goal.After-by) → c.by.result ≡ recoloured_rule c.args.rule.now c.args.colours.now c.old_letters-letters.result
+made : (c : goal.After-from_fn) → c.from_fn.result ≡ recoloured_rule c.args.rule.now c.args.colours.now c.old_letters-letters.result
 made c =
     let h = subst (λ k. IsRecolouring k c.args.colours.now) c.k.ensures.states (c.if-not-is_recolouring.ensures.0 refl) in
-    c.by.ensures _ (by_colours c.old_letters-letters.result c.k.ensures.rule h c.k-3.ensures.states c.m.ensures.width c.o.ensures.offset (λ v a l given. search rules))
+    c.from_fn.ensures _ (by_colours c.old_letters-letters.result c.k.ensures.rule h c.k-3.ensures.states c.m.ensures.width c.o.ensures.offset (λ v a l given. search rules))
 
 pub returns-clause-recoloured : goal.returns-clause-recoloured
 returns-clause-recoloured c =

@@ -20,13 +20,13 @@ pow-ignored-requires c =
     let few = window_count-le _ _ _ c.requires.shape in
     rw (c.from.ensures, c.k.ensures.states, c.from-2.ensures, c.m.ensures.width) (omega arith)
 
-pub by-requires-clause-rule : goal.by-requires-clause-rule
-by-requires-clause-rule c =
+pub from_fn-requires-clause-rule : goal.from_fn-requires-clause-rule
+from_fn-requires-clause-rule c =
     let ignored = power_of c.args.rule.now.states (c.args.m - c.args.rule.now.width) _ _ _ c.pow-ignored.ensures (c.from.ensures ∙ c.k.ensures.states) (c.from-2.ensures ∙ ap (λ j. c.args.m - j) c.m.ensures.width) in
     (_, by_first_digits c.k.ensures.rule c.requires.wider c.requires.shape c.k-2.ensures.states c.o.ensures.offset ignored (λ v a l h. search rules))
 
-pub by-requires-clause-callable : goal.by-requires-clause-callable
-by-requires-clause-callable c = λ v l.
+pub from_fn-requires-clause-callable : goal.from_fn-requires-clause-callable
+from_fn-requires-clause-callable c = λ v l.
     let k = c.args.rule.now.states in
     let w = c.args.rule.now.width in
     let some : 1 ≤ k = omega (arith, c.k.ensures.rule.shape.least_states) in
@@ -43,4 +43,4 @@ by-requires-clause-callable c = λ v l.
 pub returns : goal.returns
 returns c =
     let ignored = power_of c.args.rule.now.states (c.args.m - c.args.rule.now.width) _ _ _ c.pow-ignored.ensures (c.from.ensures ∙ c.k.ensures.states) (c.from-2.ensures ∙ ap (λ j. c.args.m - j) c.m.ensures.width) in
-    c.by.ensures _ (by_first_digits c.k.ensures.rule c.requires.wider c.requires.shape c.k-2.ensures.states c.o.ensures.offset ignored (λ v a l h. search rules))
+    c.from_fn.ensures _ (by_first_digits c.k.ensures.rule c.requires.wider c.requires.shape c.k-2.ensures.states c.o.ensures.offset ignored (λ v a l h. search rules))

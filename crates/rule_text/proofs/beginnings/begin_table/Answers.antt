@@ -1,7 +1,7 @@
 use Rattle.std.proofs.Common.{◌≡◌, ℕ, ◌^◌, List, Some, take, map, length, sym, ap, ap₂, ◌∙◌, arith, rules, FitsSigned, w8, to_z, of_z, ℤ, option_map}
 use Rattle.std.proofs.lemmas.Int.{to_z-of_z}
 use Rattle.word_image.proofs.Common.{length-map, letter_at, shape_fault, table_fault, rule_fault, window_count-le}
-use Rattle.rule_text.specs.RuleTexts.{in_text}
+use Rattle.rule_text.specs.RuleTexts.{as_text_fault}
 use Rattle.rule_text.specs.Beginnings.{filled}
 use Rattle.rule_text.proofs.laws.Beginnings.{fault_in_text, take-filled}
 use Rattle.rule_text.proofs.beginnings.begin_table.Goals as goal
@@ -16,7 +16,7 @@ returns-in-Ok c =
     let table : take c.pow-size.result c.filled-table.result ≡ filled (h.k ^ h.m) letters =
     ap₂ take size c.filled-table.ensures
     ∙ take-filled letters (length c.args.digits.now) (h.k ^ h.m) (sym (length-map c.args.digits.now letter_at)) (omega (arith, c.if-digits-size.false, size)) (window_count-le h.k h.m h.o c.requires.shape) in (
-      fault_in_text h.place (shape_fault h.k h.m h.o) (table_fault h.k h.m (filled (h.k ^ h.m) letters)) ∙ ap (option_map (in_text h.place)) (sym (c.in-Ok.ensures.fault ∙ ap₂ (rule_fault h.k h.m) offset table)),
+      fault_in_text h.place (shape_fault h.k h.m h.o) (table_fault h.k h.m (filled (h.k ^ h.m) letters)) ∙ ap (option_map (as_text_fault h.place)) (sym (c.in-Ok.ensures.fault ∙ ap₂ (rule_fault h.k h.m) offset table)),
       c.in-Ok.ensures.rule ∙ ap₂ (λ (o : ℤ) (t : List ℕ). record { states = h.k; width = h.m; offset = o; table = t }) offset table,
       sym (length-map c.args.digits.now letter_at),
     )
@@ -32,4 +32,4 @@ returns-in-Err c =
     ap₂ take size c.filled-table.ensures
     ∙ take-filled letters (length c.args.digits.now) (h.k ^ h.m) (sym (length-map c.args.digits.now letter_at)) (omega (arith, c.if-digits-size.false, size)) (window_count-le h.k h.m h.o c.requires.shape) in
     fault_in_text h.place (shape_fault h.k h.m h.o) (table_fault h.k h.m (filled (h.k ^ h.m) letters))
-    ∙ ap (option_map (in_text h.place)) (sym (c.in-Err.ensures.fault ∙ ap₂ (rule_fault h.k h.m) offset table)) ∙ sym (ap Some c.in_text.ensures)
+    ∙ ap (option_map (as_text_fault h.place)) (sym (c.in-Err.ensures.fault ∙ ap₂ (rule_fault h.k h.m) offset table)) ∙ sym (ap Some c.as_text_fault.ensures)

@@ -10,7 +10,7 @@ of_rule Has {verdict = verdict} same is = subst (λ s. IsTrue verdict ↔ Has s)
 
 pub returns : goal.returns
 returns c =
-    let same = c.over-endless.ensures ∙ c.over.ensures ∙ c.of-graph.ensures in
+    let same = c.from_pairs-endless.ensures ∙ c.from_graph.ensures ∙ c.of-graph.ensures in
     let right = of_rule IsRightClosing same c.is_right_closing.ensures in
     let left = of_rule IsLeftClosing same c.is_left_closing.ensures in
     record {

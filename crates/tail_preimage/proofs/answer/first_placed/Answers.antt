@@ -8,7 +8,7 @@ use Rattle.tail_preimage.specs.Preimages.{Shape}
 use Rattle.tail_preimage.specs.Relations.{Steps, IsFirst}
 use Rattle.tail_preimage.specs.Parts.{AreTailParts, Starts, IsPossible, shape_of}
 use Rattle.tail_preimage.specs.FirstWalks.{AreLoopWalks, AreFirstWalks}
-use Rattle.tail_preimage.specs.declared.shapes.Parts.{Parts}
+use Rattle.tail_preimage.specs.declared.shapes.PartRelations.{PartRelations}
 use Rattle.tail_preimage.proofs.laws.Walks.{IsWalk-last}
 use Rattle.tail_preimage.proofs.laws.Stretches.{IsWord-stretch}
 use Rattle.tail_preimage.proofs.laws.Parts.{Steps-repeat, Starts-walks, walks-IsPossible}
@@ -31,14 +31,14 @@ record IsStart (r : LocalRule) (t : TailConfig) (s : Shape) (u : ℕ) : Type 0 w
   walks : AreLoopWalks r t s u end left middle right
   least : (v q : ℕ) (a b c : List ℕ) → AreLoopWalks r t s v q a b c → u ≤ v
 
-start_node : {r : LocalRule} {t : TailConfig} {parts : Parts} {s : Shape} {set u : ℕ} → AreTailParts r t parts → IsPossible r parts s → IsNodeSet r (Starts r parts s) set → IsFirst (IsBitSet set) u → IsStart r t s u
+start_node : {r : LocalRule} {t : TailConfig} {parts : PartRelations} {s : Shape} {set u : ℕ} → AreTailParts r t parts → IsPossible r parts s → IsNodeSet r (Starts r parts s) set → IsFirst (IsBitSet set) u → IsStart r t s u
 start_node {r} {set = set} {u = u} h possible starts least =
     let below = IsBitSet-below (node_count r) set u starts.within least.holds in
     let (w, x, y, z, walks) = Starts-walks h possible.back_some possible.on_some below ((starts.nodes u below).0 least.holds) in
     record { below = below; end = w; left = x; middle = y; right = z; walks = walks; least = Starts-least h starts least }
 
 -- the nodes with a loop of right periods
-loop_nodes : {r : LocalRule} {t : TailConfig} {parts : Parts} {set : ℕ} → AreTailParts r t parts → (on : ℕ) → IsNodeSet r (λ u. Steps (HasBit parts.right.period) on u u) set → IsNodeSet r (λ u. HasWalk r (repeat on t.right) u u) set
+loop_nodes : {r : LocalRule} {t : TailConfig} {parts : PartRelations} {set : ℕ} → AreTailParts r t parts → (on : ℕ) → IsNodeSet r (λ u. Steps (HasBit parts.right.period) on u u) set → IsNodeSet r (λ u. HasWalk r (repeat on t.right) u u) set
 loop_nodes h on = IsSetOf-same (λ u. Steps-repeat h.rule h.right on u u)
 
 pub first_loop-requires : goal.first_loop-requires

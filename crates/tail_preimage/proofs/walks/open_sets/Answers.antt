@@ -9,4 +9,4 @@ loop-n-init c = rw c.in_ok-push.ensures.items (rw c.new-sets.ensures.items (AreO
 pub loop-n-preserved : goal.loop-n-preserved
 loop-n-preserved c =
     let last : c.index.result.now ≡ slice_index c.loop-n.sets.items c.loop-n.n = c.index.ensures ∙ get_or_default c.loop-n.sets.items c.loop-n.n c.index.result.now 0 (omega (arith, c.loop-n.invariant.long)) in
-    rw c.in_ok-push-2.ensures.items (AreOpen-more c.edges.ensures.rule c.loop-n.invariant (omega arith) c.edges.ensures.relation (rw last at c.before-set.ensures))
+    rw c.in_ok-push-2.ensures.items (AreOpen-more c.edges.ensures.rule c.loop-n.invariant (omega arith) c.edges.ensures.relation (rw last at c.sources-set.ensures))

@@ -7,8 +7,8 @@ use Rattle.word_image.proofs.laws.LastSets.{IsLastSet-step}
 use Rattle.word_image.proofs.laws.Unions.{IsSetOf-same}
 use Rattle.word_image.proofs.edges.step.Goals as goal
 
-pub after-requires-clause-within : goal.after-requires-clause-within
-after-requires-clause-within c u node =
+pub union_of_rows-requires-clause-within : goal.union_of_rows-requires-clause-within
+union_of_rows-requires-clause-within c u node =
     let count = c.nodes.ensures.nodes in
     subst (λ n. ends_at c.args.edges.now c.from.result u < 2 ^ n) (sym count)
     (AreEdgeRows-ends c.nodes.ensures.rule c.requires.edges c.args.a u _ u c.requires.letter (subst (λ n. u < n) count node) c.from.ensures refl).within
@@ -20,8 +20,8 @@ returns-clause-step c =
       (λ (u, node, (present, there)). (u, node, (present, ((ends u node).nodes v l).0 there))),
       (λ (u, node, (present, edge)). (u, node, (present, ((ends u node).nodes v l).1 edge))),
     ))
-    (subst (λ n. IsSetOf n (λ v. (u : ℕ) × (u < n) × (IsBitSet c.args.set u × HasBit (slice_index_or c.args.edges.now c.from.result []) u v)) c.after.result)
-    c.nodes.ensures.nodes c.after.ensures)
+    (subst (λ n. IsSetOf n (λ v. (u : ℕ) × (u < n) × (IsBitSet c.args.set u × HasBit (slice_index_or c.args.edges.now c.from.result []) u v)) c.union_of_rows.result)
+    c.nodes.ensures.nodes c.union_of_rows.ensures)
 
 pub returns-clause-word : goal.returns-clause-word
 returns-clause-word c w last = IsLastSet-step c.nodes.ensures.rule last c.requires.letter (returns-clause-step c)

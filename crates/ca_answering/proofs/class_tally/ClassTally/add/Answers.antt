@@ -18,7 +18,7 @@ returns c rules tally =
     let new = (c.decided.new.known).entries in
     let added = subst₂ (λ k m. IsRuleAdded place.least (rules_in k m old) (rules_in k m new)) shape.0 shape.1 decided.added in
     record {
-      counts = c.add.ensures rules r tally.counts c.of_member.ensures.rule (c.of_member.ensures.truths place.least one decided.truths);
+      counts = c.add.ensures rules r tally.counts c.member_truths.ensures.rule (c.member_truths.ensures.truths place.least one decided.truths);
       decided = subst₂ (λ k m. All (IsDecided k m) new) shape.0 shape.1 decided.known;
       leasts = AreLeastRules-push (place.mirrored, least) added tally.leasts;
     }

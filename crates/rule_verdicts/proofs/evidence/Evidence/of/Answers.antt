@@ -24,7 +24,7 @@ invariant_of-result c =
     let pairs = c.of-pairs.ensures in
     let right = c.side_part.ensures.right r (subst (λ (q : LocalRule). IsRightAnswer q c.in_ok-right_over.field-0) pairs c.in_ok-right_over.ensures) in
     let left = c.side_part-2.ensures.left r (subst (λ (q : LocalRule). IsLeftAnswer q c.in_ok-left_over.field-0) pairs c.in_ok-left_over.ensures) in
-    (search rules, c.over-ranks.ensures ∙ pairs, right.1, left.1, found c.args.weights.now pairs c.graph.ensures c.in_ok-first_orphan.ensures c.in_ok-injective_part.ensures.least right.0 left.0 c.in_ok-sum_part.ensures, record { each_letter = c.requires; small = subst (All (λ w. w ≤ 255)) c.as_slice.ensures.weights c.have_eight_bits.ensures })
+    (search rules, c.from_pairs-ranks.ensures ∙ pairs, right.1, left.1, found c.args.weights.now pairs c.graph.ensures c.in_ok-first_orphan.ensures c.in_ok-injective_part.ensures.least right.0 left.0 c.in_ok-sum_part.ensures, record { each_letter = c.requires; small = subst (All (λ w. w ≤ 255)) c.as_slice.ensures.weights c.have_eight_bits.ensures })
 
 pub returns-clause-least : goal.returns-clause-least
 returns-clause-least c =

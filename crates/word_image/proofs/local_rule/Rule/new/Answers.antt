@@ -26,8 +26,8 @@ check_table-requires c =
     let shape = accepted_shape c.args.k c.args.m o c.ranges.o c.in_ok-check_shape.ensures in
     window_count-le c.args.k c.args.m o shape
 
-pub in_memory-requires : goal.in_memory-requires
-in_memory-requires c =
+pub padded_table-requires : goal.padded_table-requires
+padded_table-requires c =
     let o = c.args.o in
     let shape = accepted_shape c.args.k c.args.m o c.ranges.o c.in_ok-check_shape.ensures in
     let table = IsWord-table_fault c.args.k c.args.m c.args.table.now (sym c.in_ok-check_table.ensures) in
@@ -56,8 +56,8 @@ invariant_of-result c =
     let n = c.args.k ^ c.args.m in
     let shape = accepted_shape c.args.k c.args.m o c.ranges.o c.in_ok-check_shape.ensures in
     let table = IsWord-table_fault c.args.k c.args.m t (sym c.in_ok-check_table.ensures) in
-    let same = ap (take n) c.in_memory.ensures ∙ take-in_row 256 n t table.0 in
-    let zeros = ap (drop n) c.in_memory.ensures ∙ drop-in_row 256 n t table.0 in
+    let same = ap (take n) c.padded_table.ensures ∙ take-in_row 256 n t table.0 in
+    let zeros = ap (drop n) c.padded_table.ensures ∙ drop-in_row 256 n t table.0 in
     (IsRule-same _ _ o _ t _ (to_z-of_z w8 o c.ranges.o) same shape table.0 table.1, zeros, c.node_count.ensures)
 
 pub returns-clause-accepted : goal.returns-clause-accepted

@@ -13,11 +13,11 @@ by_backwards {r} rule states width offset given =
     IsRuleBy-map (λ v. local_map r (reverse (word_of r.states r.width v))) (IsRule-mirrored rule) states width offset refl
     (λ v a l h. given v a l h ∙ ap₂ (λ (k m : ℕ). slice_index r.table (value k (reverse (word_of k m v)))) states width)
 
-pub by-requires-clause-rule : goal.by-requires-clause-rule
-by-requires-clause-rule c = (_, by_backwards c.k-k.ensures.rule c.k-k.ensures.states c.m-m.ensures.width c.mirrored_offset.ensures (λ v a l h. search rules))
+pub from_fn-requires-clause-rule : goal.from_fn-requires-clause-rule
+from_fn-requires-clause-rule c = (_, by_backwards c.k-k.ensures.rule c.k-k.ensures.states c.m-m.ensures.width c.mirrored_offset.ensures (λ v a l h. search rules))
 
 pub returns-clause-mirrored : goal.returns-clause-mirrored
-returns-clause-mirrored c = c.by.ensures _ (by_backwards c.k-k.ensures.rule c.k-k.ensures.states c.m-m.ensures.width c.mirrored_offset.ensures (λ v a l h. search rules))
+returns-clause-mirrored c = c.from_fn.ensures _ (by_backwards c.k-k.ensures.rule c.k-k.ensures.states c.m-m.ensures.width c.mirrored_offset.ensures (λ v a l h. search rules))
 
 pub returns-clause-image : goal.returns-clause-image
 returns-clause-image c = λ x word. ap (λ r. image r (reverse x)) (returns-clause-mirrored c) ∙ image-mirrored c.k-k.ensures.rule x word

@@ -1,8 +1,8 @@
 use Rattle.std.proofs.Common.{◌≡◌, ◌≢◌, ℕ, subst, arith, slice_index, bit_and}
 use Rattle.word_image.proofs.Common.{one_shl, IsSetOf-same, IsSetTo-take, IsSetTo-skip, IsSetTo-all}
 use Rattle.tail_preimage.proofs.Meets.{sets_meet}
-use Rattle.tail_preimage.proofs.relations.before.Goals as goal
-use Rattle.tail_preimage.proofs.relations.before.Goals.{then-rows-from-ne0, else-rows-from-ne0}
+use Rattle.tail_preimage.proofs.relations.sources.Goals as goal
+use Rattle.tail_preimage.proofs.relations.sources.Goals.{then-rows-from-ne0, else-rows-from-ne0}
 
 pub loop-u-preserved : goal.loop-u-preserved
 loop-u-preserved c =

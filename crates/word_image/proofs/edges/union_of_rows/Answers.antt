@@ -2,8 +2,8 @@ use Rattle.std.proofs.Common.{◌≡◌, ℕ, ◌+◌, slice_index, bit_or, IsBi
 use Rattle.word_image.specs.Graphs.{HasBit}
 use Rattle.word_image.proofs.Common.{bit_set_by_shift}
 use Rattle.word_image.proofs.laws.Unions.{IsUnion, IsUnion-skip, IsUnion-take}
-use Rattle.word_image.proofs.edges.after.Goals as goal
-use Rattle.word_image.proofs.edges.after.Goals.{then-set-u-eq1, else-set-u-eq1}
+use Rattle.word_image.proofs.edges.union_of_rows.Goals as goal
+use Rattle.word_image.proofs.edges.union_of_rows.Goals.{then-set-u-eq1, else-set-u-eq1}
 
 pub loop-u-preserved : goal.loop-u-preserved
 loop-u-preserved c =

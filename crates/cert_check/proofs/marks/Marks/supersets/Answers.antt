@@ -1,6 +1,6 @@
 use Rattle.std.proofs.Common.{true≢false, sym, ◌∙◌, arith}
 use Rattle.cert_check.proofs.laws.Parts.{above_more, above_skip}
-use Rattle.cert_check.proofs.marks.Marks.above.Goals as goal
+use Rattle.cert_check.proofs.marks.Marks.supersets.Goals as goal
 
 pub loop-number-preserved-then-not-is_above : goal.loop-number-preserved-then-not-is_above
 loop-number-preserved-then-not-is_above c =

@@ -1,7 +1,7 @@
 use Rattle.std.proofs.Common.{◌≡◌, ◌≢◌, ℕ, suc, ◌+◌, ◌*◌, ◌%◌, ◌<◌, ◌≤◌, sym, ap, ◌∙◌, ⊎_elim, arith, mod-lt, mod-eq_of_lt}
 use Rattle.word_image.proofs.Common.{mod_self, suc-mod, cases_eq, cases_lt}
 use Rattle.inverse_table.proofs.ImageLaws.{row_below}
-use Rattle.inverse_table.proofs.cycles.after_row.Goals as goal
+use Rattle.inverse_table.proofs.cycles.next_row.Goals as goal
 
 -- where a row is within, there are rows
 some_rows : (row rows place : ℕ) → 0 < row → place + row ≤ rows * row → 0 < rows

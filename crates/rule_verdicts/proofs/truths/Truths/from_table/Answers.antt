@@ -4,7 +4,7 @@ use Rattle.ring_laws.proofs.SameWeights.{IsConserving-own}
 use Rattle.garden_laws.proofs.MeanTables.{HasMean-conserving}
 use Rattle.rule_text.specs.RuleTexts.{rule_of_table}
 use Rattle.rule_verdicts.proofs.laws.Means.{HasMean-surjective}
-use Rattle.rule_verdicts.proofs.truths.Truths.of_table.Goals as goal
+use Rattle.rule_verdicts.proofs.truths.Truths.from_table.Goals as goal
 
 pub returns-then-not-has_mean : goal.returns-then-not-has_mean
 returns-then-not-has_mean c =

@@ -7,7 +7,7 @@ use Rattle.word_image.specs.Storage.{padded}
 use Rattle.word_image.proofs.Storage.{in_row-more, take-in_row, drop-in_row}
 use Rattle.word_image.proofs.laws.RuleFaults.{window_count-le}
 use Rattle.word_image.proofs.laws.SameRules.{rule_from_parts}
-use Rattle.word_image.proofs.local_rule.Rule.by.Goals as goal
+use Rattle.word_image.proofs.local_rule.Rule.from_fn.Goals as goal
 
 -- a rule, and how its table lies in memory
 record IsMade (k m : ℕ) (o : ℤ) (entries : List ℕ) (r : LocalRule) : Type 0 where

@@ -1,7 +1,7 @@
 use Rattle.std.proofs.Common.{ℕ, ◌<◌, ◌↔◌}
 use Rattle.cert_conditions.proofs.Common.{HasPart}
 use Rattle.cert_check.specs.Rows.{IsMarked}
-use Rattle.cert_check.proofs.marks.Marks.above.Given as goal
+use Rattle.cert_check.proofs.marks.Marks.supersets.Given as goal
 
 -- the sets so far are marked that contain a listed one, and no others
 abbrev pub invariant-loop-number : goal.invariant-loop-number

@@ -3,7 +3,7 @@ use Rattle.word_image.proofs.Common.{range_with_len}
 use Rattle.word_image.specs.LocalRules.{LocalRule}
 use Rattle.word_image.specs.RulesBy.{IsRuleBy}
 use Rattle.word_image.specs.Storage.{padded}
-use Rattle.word_image.proofs.local_rule.Rule.by.Given as goal
+use Rattle.word_image.proofs.local_rule.Rule.from_fn.Given as goal
 
 -- the entries so far are those of the rule
 abbrev pub invariant-loop-window : goal.invariant-loop-window

@@ -1,6 +1,6 @@
 use Rattle.std.proofs.Common.{ℕ, List, ◌++◌, length, ap₂}
 use Rattle.word_image.proofs.Common.{drop-replicate}
-use Rattle.word_image.proofs.local_rule.in_memory.Goals as goal
+use Rattle.word_image.proofs.local_rule.padded_table.Goals as goal
 
 pub returns : goal.returns
 returns c =

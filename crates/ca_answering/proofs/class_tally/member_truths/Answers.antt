@@ -3,8 +3,8 @@ use Rattle.word_image.proofs.Common.{LocalRule}
 use Rattle.tail_config.proofs.Common.{IsRightClosing, IsLeftClosing}
 use Rattle.cert_conditions.proofs.Common.{both_true}
 use Rattle.ca_answering.proofs.laws.ClassTallies.{verdict_through}
-use Rattle.ca_answering.proofs.class_tally.of_member.Goals as goal
-use Rattle.ca_answering.proofs.class_tally.of_member.Goals.{then-mirrored, else-mirrored}
+use Rattle.ca_answering.proofs.class_tally.member_truths.Goals as goal
+use Rattle.ca_answering.proofs.class_tally.member_truths.Goals.{then-mirrored, else-mirrored}
 
 pub returns-clause-truths : goal.returns-clause-truths
 returns-clause-truths c g one are =

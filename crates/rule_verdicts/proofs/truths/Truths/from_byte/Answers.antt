@@ -1,7 +1,7 @@
 use Rattle.std.proofs.Common.{◌≡◌, ◌≤◌, ℕ, ◌+◌, ◌*◌, ◌/◌, ◌%◌, Bool, true, false, ap, ◌∙◌, arith, ◌==◌, ◌&&◌}
 use Rattle.word_image.proofs.Common.{from_bool}
 use Rattle.rule_verdicts.specs.declared.truths.Truths.{Truths}
-use Rattle.rule_verdicts.proofs.truths.Truths.of_byte.Goals as goal
+use Rattle.rule_verdicts.proofs.truths.Truths.from_byte.Goals as goal
 
 -- a bit of a number
 bit : (b : Bool) (n : ℕ) → n ≡ from_bool b → (n == 1) ≡ b

@@ -1,6 +1,6 @@
 use Rattle.std.proofs.Common.{◌≢◌, bit_and, slice_index}
 use Rattle.word_image.proofs.Common.{node_count, IsSetTo}
-use Rattle.tail_preimage.proofs.relations.before.Given as goal
+use Rattle.tail_preimage.proofs.relations.sources.Given as goal
 
 -- the first nodes are done
 abbrev pub invariant-loop-u : goal.invariant-loop-u

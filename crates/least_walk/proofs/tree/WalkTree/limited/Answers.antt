@@ -1,7 +1,7 @@
 use Rattle.std.proofs.Common.{sym, subst}
 use Rattle.least_walk.specs.Trees.{AreApart}
 use Rattle.least_walk.proofs.TreeLaws.{AreApart-walking, ended}
-use Rattle.least_walk.proofs.tree.WalkTree.within.Goals as goal
+use Rattle.least_walk.proofs.tree.WalkTree.limited.Goals as goal
 
 pub index-places-requires : goal.index-places-requires
 index-places-requires c =
