@@ -1,4 +1,6 @@
--- The meaning of the results of the functions `right` and `left`, which test whether a rule is closing on a side.
+-- The meaning of the results of the functions `right` and `left`, which test whether a rule is closing on a side. A
+-- look-ahead is a number n for which m - 1 letters of a word and n letters of its image determine the next letter of
+-- the word. A split consists of two different configurations with the same image that agree far out on one side.
 use Rattle.std.specs.Prelude.{◌≡◌, ℕ, ◌+◌, ◌≤◌, length}
 use Rattle.least_walk.specs.Queues.{most_steps}
 use Rattle.pair_rank.specs.Sides.{most_rank}
@@ -10,7 +12,7 @@ use Rattle.tail_config.specs.TailValues.{TailOver}
 use Rattle.closing_test.specs.declared.closing.Closing.{Closing}
 use Rattle.closing_test.specs.declared.closing.Closing.TheVariants.{Ahead, Split}
 
--- the greatest number of letters of a least look-ahead: two more than the greatest rank
+-- the least look-ahead of a rule is at most this number: two more than the greatest rank of a pair of nodes
 abbrev pub most_ahead : ℕ
 most_ahead = most_rank + 2
 
@@ -21,24 +23,24 @@ pub record IsShortOver (r : LocalRule) (t : TailOver) : Type 0 where
   pub middle : length t.config.middle ≤ most_steps
   pub right : length t.config.right ≤ most_steps
 
--- x and y are the least normal right split, as configurations over the rule's letters whose parts have at most 512 letters each
+-- x and y are the least normal right split, and their parts have at most 512 letters each
 pub record IsLeastSplitOf (r : LocalRule) (x y : TailOver) : Type 0 where
   pub least : IsLeastRightSplit r x.config y.config
   pub first : IsShortOver r x
   pub second : IsShortOver r y
 
--- x and y are the least normal left split, as configurations over the rule's letters whose parts have at most 512 letters each
+-- x and y are the least normal left split, and their parts have at most 512 letters each
 pub record IsLeastLeftSplitOf (r : LocalRule) (x y : TailOver) : Type 0 where
   pub least : IsLeastLeftSplit r x.config y.config
   pub first : IsShortOver r x
   pub second : IsShortOver r y
 
--- the result of `right` is right: the least right look-ahead if the rule is right-closing, or the least normal right split if it isn't
+-- the result of `right` is right. `Ahead`: the rule is right-closing, and n is its least right look-ahead. `Split`: the rule isn't right-closing, and x and y are its least normal right split
 abbrev pub IsRightAnswer : LocalRule → Closing → Type 0
 IsRightAnswer r (Ahead n) = IsRightClosing r × IsLeastRightAhead r n × (n ≤ most_ahead)
 IsRightAnswer r (Split x y) = ¬ IsRightClosing r × IsLeastSplitOf r x y
 
--- the result of `left` is right: the least left look-ahead if the rule is left-closing, or the least normal left split if it isn't
+-- the result of `left` is right. `Ahead`: the rule is left-closing, and n is its least left look-ahead. `Split`: the rule isn't left-closing, and x and y are its least normal left split
 abbrev pub IsLeftAnswer : LocalRule → Closing → Type 0
 IsLeftAnswer r (Ahead n) = IsLeftClosing r × IsLeastRightAhead (mirrored r) n × (n ≤ most_ahead)
 IsLeftAnswer r (Split x y) = ¬ IsLeftClosing r × IsLeastLeftSplitOf r x y

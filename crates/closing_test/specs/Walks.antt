@@ -1,4 +1,8 @@
--- Two walks that form a normal split: two different configurations with the same image, each with zeros to the left, then a middle, then a right period. The letters of the first walk are the two middles, and the letters of the second walk are the two right periods. The walks lead from state to state, and a state is a pair of nodes with a mark. The pair of letters (a, b) is stored as the number a * 16 + b.
+-- The search for the least normal split. A normal split consists of two different configurations with the same image,
+-- each with zeros to the left, then a middle, then a right period. It is stored as two walks of pairs of letters: the
+-- first walk spells the two middles, and the second walk spells the two right periods. The number a * 16 + b stands for
+-- the pair of letters (a, b). The walks lead from state to state, and a state is a pair of nodes with a mark. The best
+-- walks are the walks of the least split that has been found so far.
 use Rattle.std.specs.Prelude.{◌≡◌, ℕ, ◌+◌, ◌/◌, ◌%◌, ◌<◌, ◌≤◌, ◌⊎◌, length, List, [], ◌∷◌, map, Option, Some, None}
 use Rattle.std.specs.declared.cmp.Ordering.TheVariants.{Greater}
 use Rattle.word_image.specs.LocalRules.{LocalRule, most_states}
@@ -23,7 +27,7 @@ abbrev pub letter_of : Letter → ℕ → ℕ
 letter_of First step = step / most_states
 letter_of Second step = step % most_states
 
--- the configuration with zeros to the left, whose middle and right period are the first letters of the two walks, or their second letters
+-- the first or the second configuration of a split, as `letter` says: zeros to the left, then the letters of the first walk as the middle, then the letters of the second walk as the right period
 abbrev pub tail_by : Letter → Walks → TailConfig
 tail_by letter w = record { left = 0 ∷ []; middle = map (letter_of letter) w.middle.items; right = map (letter_of letter) w.period.items }
 
@@ -31,26 +35,26 @@ tail_by letter w = record { left = 0 ∷ []; middle = map (letter_of letter) w.m
 abbrev pub split_by : Walks → TailConfig × TailConfig
 split_by w = split_of (middle_pairs w) (period_pairs w)
 
--- the given split is less than the split of the best walks, or there are no best walks
+-- `split` is less than the split of the best walks, or there are no best walks
 abbrev pub ComesBefore : TailConfig × TailConfig → Option Walks → Type 0
 ComesBefore split None = Unit {0}
 ComesBefore split (Some best) = splits_cmp (split_by best) split ≡ Greater
 
--- each split with a middle of at least n letters and a right period of more than `most` letters is greater than the split of the best walks, by its number of letters or by the length of its middle
+-- each split with a middle of at least n letters and a right period of more than `most` letters is greater than the best split: it has more letters, or as many letters and a longer middle
 abbrev pub IsMostAfter : Walks → ℕ → ℕ → Type 0
 IsMostAfter best n most = (w v : ℕ) → n ≤ w → most < v
     → (length best.middle.items + length best.period.items < w + v) ⊎ ((length best.middle.items + length best.period.items ≡ w + v) × (length best.middle.items < w))
 
--- no normal split in which the walk of the right periods begins at the state t is less than the best split; if there is no best split, the walk of the right periods begins at t in no normal split
+-- no split whose right periods begin at the state t is less than the best split; if there is no best split, no split has right periods that begin at t
 abbrev pub IsNoneBefore : LocalRule → ℕ → Option Walks → Type 0
 IsNoneBefore r t best = (w v : List (ℕ × ℕ)) → IsSplitAt r t w v → ¬ ComesBefore (split_of w v) best
 
--- the found walks form the least normal split in which the walk of the right periods begins at the state t, and this split is less than the best one so far
+-- the walks `found` are the least split whose right periods begin at the state t, and this split is less than the best split
 pub record AreEarlier (r : LocalRule) (t : ℕ) (best : Option Walks) (found : Walks) : Type 0 where
   pub least : IsLeastSplitAt r t (middle_pairs found) (period_pairs found)
   pub before : ComesBefore (split_by found) best
 
--- the best walks form a normal split, and no normal split in which the walk of the right periods begins at a state below t is less; if there are no best walks, the walk of the right periods begins at a state below t in no normal split
+-- `best` is a normal split, and no split whose right periods begin at a state below t is less; if `best` is None, there is no split whose right periods begin at a state below t
 abbrev pub IsLeastSoFar : LocalRule → ℕ → Option Walks → Type 0
 IsLeastSoFar r t None = IsNoSplitBelow r t
 IsLeastSoFar r t (Some best) = IsLeastBelow r t (middle_pairs best) (period_pairs best)

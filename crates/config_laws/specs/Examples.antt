@@ -1,4 +1,5 @@
--- A rule for which a configuration determines the letters of its preimages only from far away, and examples of the definitions, worked by hand, which the prover computes.
+-- Worked examples, which the prover computes. Under the first rule, a letter of a preimage can depend on letters of the
+-- image that are arbitrarily far away.
 use Rattle.std.specs.Prelude.{◌≡◌, ℕ, [], ◌∷◌, ◌==◌, if◌then◌else◌, pos, negsuc, refl}
 use Rattle.std.specs.List.{repeat}
 use Rattle.word_image.specs.LocalRules.{LocalRule}
@@ -6,7 +7,7 @@ use Rattle.word_image.specs.Rings.{ring_image}
 use Rattle.tail_config.specs.Configs.{Config, run, image_of}
 use Rattle.config_laws.specs.Sums.{weight_on, weight_within}
 
--- the rule by which 2 becomes 1 and 3 becomes 2, and 0 and 1 become 0 if they have the parity of the letter to the right, and 3 if not: the text 4:2:0:t0303303011112222
+-- the rule that maps 2 to 1 and 3 to 2, and that maps 0 and 1 to 0 if the letter to the right has the same parity, and to 3 if not: the text 4:2:0:t0303303011112222
 abbrev pub parities : LocalRule
 parities = record { states = 4; width = 2; offset = pos 0; table = 0 ∷ 3 ∷ 0 ∷ 3 ∷ 3 ∷ 0 ∷ 3 ∷ 0 ∷ 1 ∷ 1 ∷ 1 ∷ 1 ∷ 2 ∷ 2 ∷ 2 ∷ 2 ∷ [] }
 
@@ -15,7 +16,7 @@ abbrev steps_to : ℕ → ℕ → Config
 steps_to a b (pos i) = if i == 0 then a else (if i == 1 then b else 0)
 steps_to a b (negsuc i) = a
 
--- the image of zeros before a 2 and the image of ones before a 3 are equal to the left of place 1, and differ at place 1
+-- zeros before a 2 and ones before a 3 have images that are equal to the left of place 1 and differ at place 1
 
 image_of-zeros_2 : run (image_of parities (steps_to 0 2)) (negsuc 1) 5 ≡ 0 ∷ 0 ∷ 0 ∷ 1 ∷ 0 ∷ []
 image_of-zeros_2 = refl
@@ -35,7 +36,7 @@ weight_within-ones_3 = refl
 abbrev rule90 : LocalRule
 rule90 = record { states = 2; width = 3; offset = negsuc 0; table = 0 ∷ 1 ∷ 0 ∷ 1 ∷ 1 ∷ 0 ∷ 1 ∷ 0 ∷ [] }
 
--- the ring 1 is no image under rule 90, but it is one if it is written four times, as many times as there are nodes
+-- under rule 90 no ring has the image 1, but a ring of four letters has the image 1111, which is the ring 1 repeated as many times as there are nodes
 
 ring_image-zero : ring_image rule90 (0 ∷ []) ≡ 0 ∷ []
 ring_image-zero = refl

@@ -15,15 +15,15 @@ IsRightClosingMap r = (x y : Config) → IsConfig r.states x → IsConfig r.stat
 abbrev pub IsLeftClosingMap : LocalRule → Type 0
 IsLeftClosingMap r = (x y : Config) → IsConfig r.states x → IsConfig r.states y → image_of r x ≡ image_of r y → AgreeFarRight x y → x ≡ y
 
--- no two different configurations that agree far out on both sides have the same image
+-- no two different configurations that agree far to the left and far to the right have the same image
 abbrev pub IsPreinjectiveMap : LocalRule → Type 0
 IsPreinjectiveMap r = (x y : Config) → IsConfig r.states x → IsConfig r.states y → image_of r x ≡ image_of r y → AgreeFarLeft x y → AgreeFarRight x y → x ≡ y
 
--- the map is right-continuing: if y agrees far to the left with the image of x, it is the image of a configuration that agrees far to the left with x
+-- the map is right-continuing: if y agrees far to the left with the image of x, then y is the image of some configuration z that agrees far to the left with x
 abbrev pub IsRightContinuingMap : LocalRule → Type 0
 IsRightContinuingMap r = (x y : Config) → IsConfig r.states x → IsConfig r.states y → AgreeFarLeft (image_of r x) y → (z : Config) × IsConfig r.states z × AgreeFarLeft x z × (image_of r z ≡ y)
 
--- the map is left-continuing: if y agrees far to the right with the image of x, it is the image of a configuration that agrees far to the right with x
+-- the map is left-continuing: if y agrees far to the right with the image of x, then y is the image of some configuration z that agrees far to the right with x
 abbrev pub IsLeftContinuingMap : LocalRule → Type 0
 IsLeftContinuingMap r = (x y : Config) → IsConfig r.states x → IsConfig r.states y → AgreeFarRight (image_of r x) y → (z : Config) × IsConfig r.states z × AgreeFarRight x z × (image_of r z ≡ y)
 
@@ -39,15 +39,15 @@ IsOntoMap r = (y : Config) → IsConfig r.states y → (x : Config) × IsConfig 
 abbrev pub IsBijectiveMap : LocalRule → Type 0
 IsBijectiveMap r = (y : Config) → IsConfig r.states y → (x : Config) × IsConfig r.states x × (image_of r x ≡ y) × ((z : Config) → IsConfig r.states z → image_of r z ≡ y → z ≡ x)
 
--- each configuration that agrees with the image of x from -N to N is the image of a configuration that agrees with x from -n to n
+-- each configuration that agrees with the image of x from -N to N has a preimage that agrees with x from -n to n
 abbrev pub IsNear : LocalRule → Config → ℕ → ℕ → Type 0
 IsNear r x n N = (y : Config) → IsConfig r.states y → AgreeWithin N (image_of r x) y → (z : Config) × IsConfig r.states z × AgreeWithin n x z × (image_of r z ≡ y)
 
--- the map is open: for each x and n there is an N such that each configuration that agrees with the image of x from -N to N is the image of a configuration that agrees with x from -n to n
+-- the map is open: for each x and n there is an N such that every configuration that agrees with the image of x from -N to N has a preimage that agrees with x from -n to n
 abbrev pub IsOpenMap : LocalRule → Type 0
 IsOpenMap r = (x : Config) (n : ℕ) → IsConfig r.states x → (N : ℕ) × IsNear r x n N
 
--- the map is uniformly open: for each n there is one N for all x, such that each configuration that agrees with the image of x from -N to N is the image of a configuration that agrees with x from -n to n
+-- the map is uniformly open: for each n there is an N such that, for all x, every configuration that agrees with the image of x from -N to N has a preimage that agrees with x from -n to n
 abbrev pub IsEvenlyOpenMap : LocalRule → Type 0
 IsEvenlyOpenMap r = (n : ℕ) → (N : ℕ) × ((x : Config) → IsConfig r.states x → IsNear r x n N)
 

@@ -17,7 +17,7 @@ pub record RepeatsFarLeft (x : Config) : Type 0 where
   pub some : 1 ≤ period
   pub again : (i : ℤ) → i ≤ℤ place → x (i -ℤ pos period) ≡ x i
 
--- the configuration is periodic far out on both sides
+-- the configuration has periodic tails: it is periodic far to the left and far to the right
 abbrev pub HasTails : Config → Type 0
 HasTails x = RepeatsFarLeft x × RepeatsFarRight x
 

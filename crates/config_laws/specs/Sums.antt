@@ -1,4 +1,5 @@
--- Sums of weights over finite parts of a configuration. The rule has width m, and a node is a word of m - 1 letters.
+-- Sums of weights over finite parts of a configuration. The rule has width m, and a node is a word of m - 1 letters. A
+-- flux has a number for each node.
 use Rattle.std.specs.Prelude.{◌≡◌, ℕ, ◌+◌, ◌-◌, ◌≤◌, List, sum_by, get_or, ℤ, pos, ◌+ℤ◌, neg_ℤ}
 use Rattle.word_image.specs.LocalRules.{LocalRule, value}
 use Rattle.tail_config.specs.Configs.{Config, IsConfig, zeros, run, image_of, AgreeFarLeft, AgreeFarRight}
@@ -11,7 +12,7 @@ weight_on weight x i n = sum_by weight (run x i n)
 abbrev pub weight_within : (ℕ → ℕ) → ℕ → Config → ℕ
 weight_within weight n x = weight_on weight x (neg_ℤ (pos n)) (n + n + 1)
 
--- the number of the flux phi for the first node of the window of place i
+-- the number that the flux phi has for the first node of the window of place i, which is the first m - 1 letters of the window
 abbrev pub flow_under : LocalRule → List ℤ → Config → ℤ → ℤ
 flow_under r phi x i = get_or phi (value r.states (run x (i +ℤ r.offset) (r.width - 1))) (pos 0)
 

@@ -1,4 +1,6 @@
--- The edges of a rule as a table, with a row for each label and a set in it for each node. The rule determines this table.
+-- The edges of the de Bruijn graph of a rule as a table: for each label and each node, the set of the nodes to which
+-- edges with this label lead from the node. The side says whether edges are followed forward (`Right`) or backward
+-- (`Left`). The rule determines this table.
 use Rattle.std.proofs.Common.{◌≡◌, ℕ, zero, suc, ◌+◌, ◌*◌, ◌/◌, ◌%◌, ◌^◌, ◌<◌, ◌≤◌, List, [], length, replicate, slice_index_or, refl, sym, ◌∙◌, subst, arith, ⊎_elim, mod-lt}
 use Rattle.std.proofs.lemmas.Bool.{cases_lt}
 use Rattle.std.proofs.lemmas.Grind.{same_number_lists}
@@ -49,7 +51,7 @@ label_at-below side {r} rule u a node letter =
     let within : window < length r.table = omega (arith, rule.entries, window_with-within side rule u a node letter) in
     omega (arith, rule.shape.most_states, All-get_or (λ b. b < r.states) r.table window 0 within rule.letters)
 
--- the table of the first n edges holds exactly these edges
+-- the table of the first n edges has exactly these edges
 HaveEdges-first : (side : Side) {r : LocalRule} → IsRule r → (n : ℕ) → n ≤ node_count r * r.states → HaveEdges side r n (first_edges side r n)
 HaveEdges-first side {r} rule zero few = HaveEdges-none side r
 HaveEdges-first side {r} rule (suc n) few =
@@ -63,7 +65,7 @@ HaveEdges-first side {r} rule (suc n) few =
     subst (λ i. HaveEdges side r i (first_edges side r (suc n))) (omega (arith, edge))
     (HaveEdges-more rule node letter before (label_at side r u a) u (2 ^ end_at side r u a) refl refl refl (label_at-below side rule u a node letter) (omega (arith, node, rule.shape.most_nodes)))
 
--- any table of a rule's edges equals the table that is computed here
+-- any table of the edges of the rule is equal to `edge_table`
 pub edge_table-one : {side : Side} {r : LocalRule} {rows : List (List ℕ)} → IsRule r → AreEdgeRows side r rows → AreRowsOf16 rows → edge_table side r ≡ rows
 edge_table-one {side} {r} {rows} rule edges size =
     let h = HaveEdges-first side rule (node_count r * r.states) (omega arith) in

@@ -5,6 +5,6 @@ use Rattle.std.specs.Prelude.{◌≡◌, ℕ, ◌+◌, ◌*◌, ◌<◌, ◌==�
 abbrev pub IsEven : ℕ → List ℕ → Type 0
 IsEven k table = (a : ℕ) → a < k → k * count_by (λ b. b == a) table ≡ length table
 
--- the letters of the table have the mean of k letters, (k - 1) / 2: twice their sum is k - 1 times the length
+-- the mean of the letters in the table is (k - 1) / 2, which is the mean of the letters from 0 to k - 1
 abbrev pub HasMean : ℕ → List ℕ → Type 0
 HasMean k table = 2 * sum table + length table ≡ k * length table

@@ -1,4 +1,5 @@
--- The number of words of m + 1 letters with the image 00, for a rule of k states and width m.
+-- The number of words of m + 1 letters with the image 00, for a rule of k states and width m. A surjective rule has k ^
+-- (m - 1) such words.
 use Rattle.std.specs.Prelude.{ℕ, zero, suc, ◌+◌, ◌*◌, ◌/◌, ◌%◌, List, length, slice_index, Bool, ◌==◌, ◌&&◌}
 use Rattle.std.specs.Int.{from_bool}
 

@@ -1,4 +1,7 @@
--- A word is read from a node if its letters are the labels of successive edges, the first of which begins at this node. A set of nodes is unread if it consists of the nodes from which some word isn't read. The closure of a set is the intersection of the unread sets that contain it.
+-- Unread sets and closures of sets of nodes. A word is read from a node if the labels of some walk from the node spell
+-- the word. For each word, the nodes from which it isn't read are an unread set. The closure of a set is the
+-- intersection of the unread sets that contain it. If a word isn't read from the nodes of a set, it isn't read from the
+-- nodes of the closure of the set either.
 use Rattle.std.specs.Prelude.{◌≡◌, ℕ, ◌^◌, ◌<◌, ◌≤◌, List, length, slice_index, IsBitSet}
 use Rattle.word_image.specs.LocalRules.{LocalRule, node_count}
 use Rattle.word_image.specs.Graphs.{IsNodeSet}
@@ -14,15 +17,15 @@ IsWithin r set other = (u : ℕ) → u < node_count r → IsBitSet set u → IsB
 abbrev pub IsLedInto : LocalRule → ℕ → ℕ → ℕ → Type 0
 IsLedInto r set a u = (v : ℕ) → IsEdge Right r a u v → IsBitSet set v
 
--- the set `before` consists of the nodes from which all edges with label a lead into the given set
+-- `before` consists of the nodes from which all edges with label a lead into `set`
 pub record IsBack (r : LocalRule) (set a before : ℕ) : Type 0 where
   pub of : IsNodeSet r (IsLedInto r set a) before
 
--- the set consists of the nodes from which all edges with the letter a as label lead into the set `rest`
+-- `set` consists of the nodes from which all edges with label a lead into the set `rest`
 abbrev pub StepsInto : LocalRule → ℕ → ℕ → ℕ → Type 0
 StepsInto r set a rest = (a < r.states) × IsBack r rest a set
 
--- the set consists of the nodes from which the word z isn't read
+-- `set` consists of the nodes from which the word z isn't read
 abbrev pub IsUnread : LocalRule → List ℕ → ℕ → Type 0
 IsUnread r z set = Walk (StepsInto r) set z 0
 
@@ -34,17 +37,17 @@ IsUnreadSet r set = (z : List ℕ) × IsUnread r z set
 pub record IsClosure (r : LocalRule) (set closure : ℕ) : Type 0 where
   pub of : IsNodeSet r (λ u. (unread : ℕ) → IsUnreadSet r unread → IsWithin r set unread → IsBitSet unread u) closure
 
--- `after` is the closure of the set that a step on the letter a reaches from the given set
+-- `after` is the closure of the set to which a step on the letter a leads from `set`
 pub record IsClosedStep (r : LocalRule) (set a after : ℕ) : Type 0 where
   pub to : ℕ
   pub step : IsStep r set a to
   pub closure : IsClosure r to after
 
--- for each set whose number is at least n, the list has the closure of the set at the place of this number
+-- for each set whose number is at least n, `closures` has the closure of the set, at the place of this number
 pub record AreClosuresFrom (r : LocalRule) (n : ℕ) (closures : List ℕ) : Type 0 where
   pub long : length closures ≡ 2 ^ node_count r
   pub closure : (set : ℕ) → n ≤ set → set < 2 ^ node_count r → IsClosure r set (slice_index closures set)
 
--- the list has the closure of each set, at the place of the number of the set
+-- `closures` has the closure of each set, at the place of the number of the set
 abbrev pub AreClosures : LocalRule → List ℕ → Type 0
 AreClosures r = AreClosuresFrom r 0

@@ -1,4 +1,5 @@
--- A list of different sets of nodes, and an index, which has the place of each set in the list. A set is a number, in which bit u says whether node u is in the set.
+-- A list of different sets of nodes, and an index, which has the place of each set in the list. A set is a number, in
+-- which bit u says whether node u is in the set.
 use Rattle.std.specs.Prelude.{◌≡◌, ℕ, ◌<◌, ◌↔◌, ◌⊎◌, List, [], ◌∷◌, ◌++◌, length, slice_get, get_or, Option, Some, None, Contains}
 use Rattle.word_image.specs.LocalRules.{most_sets}
 

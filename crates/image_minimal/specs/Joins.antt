@@ -1,8 +1,11 @@
--- Numbers that are joined into classes (Galler and Fischer 1964). Each has as its parent a lesser number of its class, or is the root of its class. Two numbers are in the same class if and only if they have the same colour under every colouring in which each number has the colour of its parent.
+-- Numbers that are joined into classes (Galler and Fischer 1964). A list has the parent of each number: a lesser number
+-- of the same class, or the number itself, if it is the root of its class. A colouring gives each number one of two
+-- colours. Two numbers are in the same class if and only if they have the same colour under every colouring in which
+-- each number has the colour of its parent.
 use Rattle.std.specs.Prelude.{◌≡◌, ℕ, ◌+◌, ◌<◌, ◌≤◌, List, length, slice_index, Bool, false, if◌then◌else◌}
 use Rattle.std.specs.List.{sum_by}
 
--- f is a colouring in which each number has the colour of its parent, so that each class has one colour
+-- f is a colouring in which each number has the colour of its parent. So all numbers of a class have the same colour
 abbrev pub AreColours : List ℕ → (ℕ → Bool) → Type 0
 AreColours parents f = (x : ℕ) → x < length parents → f (slice_index parents x) ≡ f x
 
@@ -14,7 +17,7 @@ IsFalling parents = (x : ℕ) → x < length parents → slice_index parents x �
 abbrev pub total : List ℕ → ℕ
 total = sum_by (λ x. x)
 
--- each number has a new parent in its old class that isn't greater, the old roots are still roots, and the sum of all parents hasn't grown
+-- each number has a parent in its old class that isn't greater than the number, the old roots are still roots, and the sum of all parents hasn't grown
 pub record IsHalved (old new : List ℕ) : Type 0 where
   pub long : length new ≡ length old
   pub falling : IsFalling new
@@ -22,13 +25,13 @@ pub record IsHalved (old new : List ℕ) : Type 0 where
   pub roots : (x : ℕ) → x < length old → slice_index old x ≡ x → slice_index new x ≡ x
   pub no_more : total new ≤ total old
 
--- on the way from `number` to the root of its class, the search has come to the number `at`, which is of the same class and isn't greater; each new parent is in the old class of its number
+-- on the way from `number` to the root of its class, the search has come to the number `at`, which is in the same class and isn't greater than `number`. Each new parent is in the old class of its number
 pub record IsOnWay (old new : List ℕ) (number at : ℕ) : Type 0 where
   pub halved : IsHalved old new
   pub within : at ≤ number
   pub one : (f : ℕ → Bool) → AreColours old f → f number ≡ f at
 
--- x and y are joined: each colouring for the old parents that gives x and y one colour is a colouring for the new parents, and the sum of all parents doesn't grow; if `joined` is true, the sum falls, and if it is false, x and y were in one class before
+-- x and y have been joined: a colouring for the old parents that gives x and y the same colour is a colouring for the new parents. If `joined` is true, the sum of all parents has fallen. If it is false, x and y were in the same class before
 pub record IsJoin (old new : List ℕ) (x y : ℕ) (joined : Bool) : Type 0 where
   pub long : length new ≡ length old
   pub one : (f : ℕ → Bool) → AreColours old f → joined ≡ false → f x ≡ f y

@@ -1,4 +1,8 @@
--- Links for the test whether two rules have the same orphans (Hopcroft and Karp 1971). A link is a pair of sets of nodes that the same word reaches, the first set under the first rule and the second set under the second rule.
+-- Links for the test whether two rules have the same orphans (Hopcroft and Karp 1971). A link is a pair of sets of
+-- nodes that the same word reaches, the first set under the first rule and the second set under the second rule. A
+-- colouring f gives each set one of two colours. The sets of the first rule have the numbers below n, and set s of the
+-- second rule has the number n + s. Links join two sets if the sets have the same colour under every colouring that
+-- gives the two sets of each link the same colour.
 use Rattle.std.specs.Prelude.{◌≡◌, ℕ, ◌+◌, ◌≤◌, ◌^◌, List, length, map, slice_get, Some, Bool, nat_eq}
 use Rattle.std.specs.List.{range_with_len}
 use Rattle.search_laws.specs.SearchQueues.{Place, TreeSpells, IsFilled, filled}
@@ -8,22 +12,22 @@ use Rattle.word_image.specs.Edges.{IsStep}
 use Rattle.image_minimal.specs.Joins.{AreColours, total}
 use Rattle.image_minimal.specs.declared.links.Link.{Link}
 
--- a link as a place of a search through pairs of sets
+-- a link as a place of a breadth-first search through pairs of sets
 abbrev pub link_place : Link → Place (ℕ × ℕ)
 link_place x = record { state = (x.first, x.second); parent = x.parent; letter = x.letter }
 
 abbrev pub link_places : List Link → List (Place (ℕ × ℕ))
 link_places = map link_place
 
--- f gives the same colour to the two sets of each link that was made before the first e edges had been followed; set s of the second rule has the number n + s
+-- f gives the same colour to both sets of each link that the search made while it followed its first e edges
 abbrev pub HaveOneColour : ℕ → ℕ → List Link → ℕ → (ℕ → Bool) → Type 0
 HaveOneColour n k links e f = (i : ℕ) (x : Link) → slice_get links i ≡ Some x → filled k i (link_place x) ≤ e → f x.first ≡ f (n + x.second)
 
--- on the letter a, a step under the rule r leads from the first set of the pair `from` to the first set of the pair `to`, and a step under the rule q leads from the second set of `from` to the second set of `to`
+-- a step on the letter a leads from the pair `from` to the pair `to`: under the rule r from the first set to the first set, and under the rule q from the second set to the second set
 abbrev pub LinkStep : LocalRule → LocalRule → ℕ × ℕ → ℕ → ℕ × ℕ → Type 0
 LinkStep r q from a to = IsStep r from.0 a to.0 × IsStep q from.1 a to.1
 
--- the links made before the first e edges had been followed join the two sets of the pair: both sets have the same colour under every colouring that gives one colour to the two sets of each of these links
+-- the links that the search made while it followed its first e edges join the two sets of the pair
 abbrev pub HasChain : LocalRule → List Link → ℕ × ℕ → ℕ → Type 0
 HasChain r links pair e = (f : ℕ → Bool) → HaveOneColour (2 ^ node_count r) r.states links e f → f pair.0 ≡ f (2 ^ node_count r + pair.1)
 
@@ -31,11 +35,11 @@ HasChain r links pair e = (f : ℕ → Bool) → HaveOneColour (2 ^ node_count r
 abbrev pub set_count : LocalRule → LocalRule → ℕ
 set_count r q = 2 ^ node_count r + 2 ^ node_count q
 
--- a bound on the number of links, since each link makes some parent less
+-- a bound on the number of links: each set has a parent, at first itself, and each new link makes the sum of all parents less
 abbrev pub most_links : LocalRule → LocalRule → ℕ
 most_links r q = total (range_with_len 0 (set_count r q)) + 1
 
--- A breadth-first search through pairs of sets, a set of r and a set of q, that starts with the two sets of all nodes and has followed the first e edges. A pair whose sets earlier links join makes no link. In each link both sets are empty or neither is. The list `parents` joins the sets of both rules into classes, as the links do.
+-- A breadth-first search through pairs of a set of r and a set of q. It starts with the two sets of all nodes and has followed its first e edges. A pair makes no link if earlier links join its two sets. In each link both sets are empty or neither is. `parents` joins the sets of both rules into classes, as the links do.
 pub record IsLinkSearch (r q : LocalRule) (links : List Link) (parents : List ℕ) (e : ℕ) : Type 0 where
   pub fills : IsFilled (LinkStep r q) (HasChain r links) r.states (full_set r, full_set q) (link_places links) e
   pub even : (i : ℕ) (x : Link) → slice_get links i ≡ Some x → nat_eq x.first 0 ≡ nat_eq x.second 0

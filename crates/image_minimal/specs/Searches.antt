@@ -1,4 +1,7 @@
--- Searches through sets of nodes in which some edges have been followed. A set is unread if it consists of the nodes from which some word isn't read. The closure of a set is the intersection of the unread sets that contain it, and a closed step leads to the closure of the set that a step reaches.
+-- Searches for the unread sets of a rule and for the classes of its least automaton. A word is read from a node if the
+-- labels of some walk from the node spell it. A set is unread if it consists of the nodes from which some word isn't
+-- read. The closure of a set is the intersection of the unread sets that contain it. A closed step on a letter leads
+-- from a set to the closure of the set that a step on the letter reaches.
 use Rattle.std.specs.Prelude.{◌≡◌, ℕ, ◌+◌, ◌*◌, ◌^◌, ◌<◌, ◌≤◌, ◌↔◌, List, length, slice_get, slice_index, Some, Contains}
 use Rattle.word_image.specs.LocalRules.{LocalRule, IsRule, node_count}
 use Rattle.word_image.specs.Graphs.{full_set}
@@ -12,11 +15,11 @@ use Rattle.image_minimal.specs.Indexes.{IsPlaceOf}
 abbrev pub AreUnreadSets : LocalRule → List ℕ → Type 0
 AreUnreadSets r sets = (set : ℕ) → Contains sets set ↔ IsUnreadSet r set
 
--- a search through the sets that closed steps reach from the set of all nodes, in which the first e edges have been followed
+-- a breadth-first search by closed steps from the set of all nodes: it has followed its first e edges, and the list has the sets that it has reached
 abbrev pub IsClassSearch : LocalRule → List ℕ → ℕ → Type 0
 IsClassSearch r = IsSearch (IsClosedStep r) r.states (full_set r)
 
--- `closures` has the closure of each set, and `classes` has a set for each class of the least automaton, in the order of the classes; on each letter, a step from the set of a class leads to a set whose closure is the set of the next class; and the class of the orphans has the empty set
+-- `closures` has the closure of each set, and `classes` has one set for each class of the least automaton. A step from the set of a class leads to a set whose closure is the set of the next class. The class of the orphans has the empty set
 pub record HasClasses (r : LocalRule) (closures classes : List ℕ) : Type 0 where
   pub rule : IsRule r
   pub closed : AreClosures r closures

@@ -1,4 +1,7 @@
--- A set of nodes is a number, in which bit u says whether node u is in the set. Rows of 64 bits have a mark for each set. This file defines which sets are marked while the program looks for the sets that contain a set of a list.
+-- Marks on sets of nodes. A set is a number: bit u says whether node u is in the set. Rows are a list of numbers of 64
+-- bits with one bit for each set, its mark: the set x is marked if bit x % 64 of row x / 64 is 1. The program marks the
+-- sets of a list. Then, for each node u in turn, it marks each set that contains u and is marked without u. At the end,
+-- the sets that contain a set of the list are marked.
 use Rattle.std.specs.Prelude.{◌≢◌, AllPairs, ℕ, ◌-◌, ◌*◌, ◌/◌, ◌%◌, ◌^◌, ◌<◌, ◌≤◌, ◌↔◌, ◌⊎◌, List, length, slice_index, Contains, IsBitSet, bit_and}
 use Rattle.word_image.specs.LocalRules.{most_nodes}
 use Rattle.word_image.specs.Graphs.{HasBit}
@@ -19,21 +22,21 @@ set_without x u = bit_and x (65535 - 2 ^ u)
 abbrev pub HoldsWithout : List ℕ → ℕ → ℕ → Type 0
 HoldsWithout rows u x = IsBitSet x u × IsSetMarked rows (set_without x u)
 
--- of the sets with numbers below n, the new rows mark those that the old rows mark, and those that contain node u and are marked in the rows `others` without u; of all other sets, the new rows mark those that the old rows mark
+-- marks were spread along node u to the sets with numbers below n: such a set is marked in `new` if it is marked in `old`, or if it contains u and is marked without u in `others`. All other sets keep their marks
 pub record IsSpreadTo (u n : ℕ) (others old new : List ℕ) : Type 0 where
   pub done : (x : ℕ) → x < n → (IsSetMarked new x ↔ (IsSetMarked old x ⊎ HoldsWithout others u x))
   pub rest : (x : ℕ) → n ≤ x → (IsSetMarked new x ↔ IsSetMarked old x)
 
--- all sets of the list are sets of nodes below n, and of the sets of nodes below n exactly those of the list are marked
+-- all sets of the list are sets of nodes below n, and exactly the sets of the list are marked
 pub record AreListed (sets : List ℕ) (n : ℕ) (rows : List ℕ) : Type 0 where
   pub within : (i : ℕ) → i < length sets → slice_index sets i < 2 ^ n
   pub marked : (x : ℕ) → x < 2 ^ n → (IsSetMarked rows x ↔ Contains sets x)
 
--- of the sets of nodes below n, exactly those are marked that contain a set of the list
+-- a set of nodes below n is marked if and only if it contains some set of the list
 abbrev pub AreAbove : List ℕ → ℕ → List ℕ → Type 0
 AreAbove sets n rows = (x : ℕ) → x < 2 ^ n → (IsSetMarked rows x ↔ ((i : ℕ) × (i < length sets) × IsPart (slice_index sets i) x))
 
--- of the sets of nodes below n, exactly those are marked that contain a set of the list other than themselves
+-- a set of nodes below n is marked if and only if it contains some set of the list other than itself
 abbrev pub AreBeyond : List ℕ → ℕ → List ℕ → Type 0
 AreBeyond sets n rows = (x : ℕ) → x < 2 ^ n → (IsSetMarked rows x ↔ ((i : ℕ) × (i < length sets) × (slice_index sets i ≢ x) × IsPart (slice_index sets i) x))
 
@@ -41,22 +44,22 @@ AreBeyond sets n rows = (x : ℕ) → x < 2 ^ n → (IsSetMarked rows x ↔ ((i 
 abbrev pub HoldsSmaller : List ℕ → ℕ → ℕ → Type 0
 HoldsSmaller rows n set = (u : ℕ) × (u < n) × HoldsWithout rows u set
 
--- x contains some set of the list, and each node of x from node u on is in this set of the list
+-- x contains some set of the list and differs from it only in nodes below u
 pub record ContainsBy (sets : List ℕ) (u x : ℕ) : Type 0 where
   pub place : ℕ
   pub below : place < length sets
   pub part : IsPart (slice_index sets place) x
   pub agree : (i : ℕ) → u ≤ i → IsBitSet x i → IsBitSet (slice_index sets place) i
 
--- of the sets of nodes below n, exactly those are marked that contain some set of the list and differ from it only in nodes below u
+-- a set of nodes below n is marked if and only if it contains some set of the list and differs from it only in nodes below u
 abbrev pub AreMarksTo : List ℕ → ℕ → ℕ → List ℕ → Type 0
 AreMarksTo sets n u rows = (x : ℕ) → x < 2 ^ n → (IsSetMarked rows x ↔ ContainsBy sets u x)
 
--- the set at place i contains no set that is at another place of the list
+-- the set at place i of the list contains no set at another place
 abbrev pub IsMinimal : List ℕ → ℕ → Type 0
 IsMinimal sets i = (j : ℕ) → j < length sets → j ≢ i → ¬ IsPart (slice_index sets j) (slice_index sets i)
 
--- the sets of the list are all different, and of the sets of nodes below `nodes` exactly those are marked that contain a set of the list other than themselves
+-- the sets of the list are all different, and a set of nodes below `nodes` is marked if and only if it contains some set of the list other than itself
 pub record AreCovers (sets rows : List ℕ) : Type 0 where
   pub nodes : ℕ
   pub few : nodes ≤ most_nodes

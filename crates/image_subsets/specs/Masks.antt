@@ -1,9 +1,10 @@
--- A list of different sets of at most 16 nodes, and rows of bits, which mark the sets of the list. A set is a number, in which bit u says whether node u is in the set.
+-- A list of different sets of at most 16 nodes, and rows of bits that mark the sets of the list. A set is a number: bit
+-- u says whether node u is in the set.
 use Rattle.std.specs.Prelude.{◌≡◌, ◌≢◌, ◌↔◌, AllPairs, ℕ, ◌<◌, List, [], ◌∷◌, ◌++◌, length, slice_index, Contains, Bool, true, false}
 use Rattle.word_image.specs.LocalRules.{most_sets}
 use Rattle.image_subsets.specs.Marks.{IsSetMarked}
 
--- if the result is true, the set wasn't in the old list and was appended; if it is false, the set was in the old list and the list is the same
+-- the result of inserting a set into a list: `true` if the set wasn't in the old list and was appended, `false` if it was in the old list and the list is unchanged
 abbrev pub IsInserted : List ℕ → List ℕ → ℕ → Bool → Type 0
 IsInserted old new set true = (¬ Contains old set) × (new ≡ old ++ set ∷ [])
 IsInserted old new set false = Contains old set × (new ≡ old)

@@ -1,15 +1,18 @@
--- A breadth-first search through the sets of nodes that words reach from the set of all nodes. An edge is a step from a set on one letter. The search has followed some of the edges so far.
+-- A breadth-first search through sets of nodes, which begins at the set of all nodes. An edge of the search is a step
+-- on a letter: it leads from a set to the set of all nodes that edges with this label reach from the set. With k
+-- letters, letter a of the set at place i is edge i * k + a. The number e says how many edges the search has followed
+-- so far.
 use Rattle.std.specs.Prelude.{◌≡◌, ℕ, ◌-◌, ◌<◌, List, length, slice_get, Option, Some, MatchOption, Contains, Bool, true, false}
 use Rattle.word_image.specs.LocalRules.{LocalRule}
 use Rattle.word_image.specs.Graphs.{full_set}
 use Rattle.word_image.specs.Edges.{IsStep}
 use Rattle.search_laws.specs.SearchQueues.{Place, IsSearch}
 
--- `way` has the parent and the letter of place i of a tree, or nothing if i is the first place
+-- `way` is the parent of the place i of a tree: the place and the letter from which its set was reached, or None if i is the first place
 abbrev pub IsWay : List (Place ℕ) → ℕ → Option (ℕ × ℕ) → Type 0
 IsWay tree i way = MatchOption way (i ≡ 0) (λ (p, a). (x : Place ℕ) × (0 < i) × (slice_get tree i ≡ Some x) × (x.parent ≡ p) × (x.letter ≡ a))
 
--- The first e edges have been followed: letter a of place i is edge i * k + a. Each set has its parent.
+-- The search has followed its first e edges, and `parents` has the parent of each set.
 pub record IsTreeSearch (r : LocalRule) (sets : List ℕ) (parents : List (Option (ℕ × ℕ))) (e : ℕ) : Type 0 where
   pub search : IsSearch (IsStep r) r.states (full_set r) sets e
   pub one_each : length parents ≡ length sets
@@ -19,7 +22,7 @@ pub record IsTreeSearch (r : LocalRule) (sets : List ℕ) (parents : List (Optio
 abbrev pub EndsEmpty : List ℕ → Type 0
 EndsEmpty sets = slice_get sets (length sets - 1) ≡ Some 0
 
--- if the result is true, the search stopped at the empty set, which is the last set of the list; if it is false, the search has followed the first e edges and has found no empty set
+-- `true`: the search has stopped at the empty set, which is the last set of the list. `false`: the search has followed its first e edges and has found no empty set
 abbrev pub IsExpanded : LocalRule → List ℕ → List (Option (ℕ × ℕ)) → ℕ → Bool → Type 0
 IsExpanded r sets parents e true = ((n : ℕ) × IsTreeSearch r sets parents n) × EndsEmpty sets
 IsExpanded r sets parents e false = IsTreeSearch r sets parents e × ¬ Contains sets 0

@@ -1,4 +1,5 @@
--- The limits of the maps that are computed, and the limits that a map must keep to be a rule.
+-- The limits of inverse maps that the program computes, and the limits that a map must keep to be an accepted rule. An
+-- inverse map of a window (n, c) has a letter for each word of n letters.
 use Rattle.std.specs.Prelude.{◌≡◌, ℕ, ◌^◌, ◌≤◌, length, pos, negsuc, ◌≤ℤ◌, ◌-◌, Option, Some, None, nat_lt, if◌then◌else◌}
 use Rattle.word_image.specs.LocalRules.{IsWord, LocalRule, most_nodes, most_states, most_width}
 use Rattle.word_image.specs.RuleFaults.{reaches_far}
@@ -10,11 +11,11 @@ use Rattle.word_image.specs.declared.local_rule.RuleFault.TheVariants.{Width, No
 abbrev pub most_map_entries : ℕ
 most_map_entries = 65536
 
--- the greatest number of letters of the image in a window whose map can be computed: the least determined windows have at most half as many
+-- the greatest n of a window (n, c) that the program accepts; in a least determined window, n is at most half as great
 abbrev pub longest_window : ℕ
 longest_window = 480
 
--- the map has an accepted number of states, width and offset, and a letter for each of at most 65,536 words
+-- the map is within its limits of states, width and offset, and its table has a letter for each of at most 65,536 words
 pub record IsWindowMap (g : WindowMap) : Type 0 where
   pub least_states : 2 ≤ g.states
   pub most_states : g.states ≤ most_states
@@ -26,7 +27,7 @@ pub record IsWindowMap (g : WindowMap) : Type 0 where
   pub most_entries : g.states ^ g.width ≤ most_map_entries
   pub letters : IsWord g.states g.table
 
--- the first limit of accepted rules that the rule breaks, if there is one
+-- the first limit of accepted rules that the rule breaks by its width, its nodes or its offset, if there is one
 abbrev pub rule_limit_fault : LocalRule → Option RuleFault
 rule_limit_fault r =
     if nat_lt most_width r.width then Some Width

@@ -1,4 +1,7 @@
--- The least determined window among several windows, and pairs of nodes that differ in a letter. The rule has width m. The backward rank of two nodes is the greatest n for which two words of n + m - 1 letters with the same image end with these nodes. Two nodes are endless if there is no greatest n.
+-- The least determined window among several windows. A window (n, c) is determined if n letters of an image determine
+-- the letter at place c of each preimage. Windows are ordered by n, then by c. The rule has width m, and a node is a
+-- word of m - 1 letters. The backward rank of two nodes is the greatest n for which two words of n + m - 1 letters with
+-- the same image end with these nodes. If there is no greatest n, the two nodes are endless.
 use Rattle.std.specs.Prelude.{◌≡◌, ◌≢◌, ℕ, ◌+◌, ◌*◌, ◌<◌, ◌≤◌, ◌⊎◌, List, length, Option, None, slice_index_or, IfSome, IsSomeAnd, MatchOption}
 use Rattle.word_image.specs.LocalRules.{LocalRule, node_count}
 use Rattle.word_image.specs.Graphs.{first_of, second_of, node_letter}
@@ -24,11 +27,11 @@ PairEnds r p n = EndTogether r (first_of r p) (second_of r p) n
 abbrev pub EndsFor : LocalRule → ℕ → ℕ → ℕ → Type 0
 EndsFor r e p n = (n ≤ e) × PairEnds r p n
 
--- each finite backward rank of the node u and a node below `count` is less than e
+-- for each node v below `count`, the backward rank of u and v is less than e, or u and v are endless
 abbrev pub IsPastOf : LocalRule → ℕ → ℕ → ℕ → Type 0
 IsPastOf r u count e = (v n : ℕ) → v < count → e ≤ n → EndTogether r u v n → IsEndless (EndTogether r u v)
 
--- each finite backward rank of a node below `count` and any node is less than e
+-- for each node u below `count` and each node v, the backward rank of u and v is less than e, or u and v are endless
 abbrev pub IsPast : LocalRule → ℕ → ℕ → Type 0
 IsPast r count e = (u : ℕ) → u < count → IsPastOf r u (node_count r) e
 
@@ -36,7 +39,7 @@ IsPast r count e = (u : ℕ) → u < count → IsPastOf r u (node_count r) e
 abbrev pub NoneHolds : ℕ → (ℕ → Type 0) → (ℕ → ℕ → Type 0) → ℕ → Type 0
 NoneHolds count Of P n = (p : ℕ) → p < count → Of p → ¬ P p n
 
--- the greatest number of letters of the image on either side of the letter that a least window determines: one more than the greatest rank
+-- the greatest number of letters of the image that a least determined window has on each side of its letter: one more than the greatest rank
 abbrev pub most_start : ℕ
 most_start = most_rank + 1
 
@@ -44,7 +47,7 @@ most_start = most_rank + 1
 abbrev pub most_window : ℕ
 most_window = 2 * most_start
 
--- for each b from 0 to e, place b of the list has the least n from which on no pair below `count` with different first letters and the backward rank b begins two words of n + m - 1 letters with the same image, or None if there is no such n; a backward rank above e counts as e
+-- entry b of `starts`, for b from 0 to e, is about the pairs below `count` with different first letters and the backward rank b (if b = e: at least e). It is the least n for which no such pair begins two words of n + m - 1 letters with the same image, or None
 pub record AreStarts (r : LocalRule) (e count : ℕ) (starts : List (Option ℕ)) : Type 0 where
   pub long : length starts ≡ most_start + 1
   pub few : e ≤ most_start

@@ -1,7 +1,8 @@
--- The number from which on a property holds.
+-- The start of a property of numbers: the property holds for this number and all greater ones, and for no lesser one. A
+-- start of None means that the property holds for no number.
 use Rattle.std.specs.Prelude.{ℕ, ◌≤◌, ◌↔◌, Option, Some, None, MatchOption, IsSomeAnd, max}
 
--- P holds exactly for the numbers from `start` on, or for no number if `start` is None
+-- P has this start: P holds for n if and only if n is at least `start`, and for no n if `start` is None
 abbrev pub HoldsFrom : Option ℕ → (ℕ → Type 0) → Type 0
 HoldsFrom start P = MatchOption start ((n : ℕ) → ¬ P n) (λ a. (n : ℕ) → P n ↔ (a ≤ n))
 
@@ -9,7 +10,7 @@ HoldsFrom start P = MatchOption start ((n : ℕ) → ¬ P n) (λ a. (n : ℕ) �
 abbrev pub HasBegun : Option ℕ → ℕ → Type 0
 HasBegun start n = IsSomeAnd start (λ a. a ≤ n)
 
--- the number from which on two properties hold, if the first holds from its number on and the second from its number on; it is None if one of the two holds for no number
+-- if two properties have these starts, this is the start of the property that both hold: the greater of the two starts, or None if one of them is None
 abbrev pub later : Option ℕ → Option ℕ → Option ℕ
 later None start = None
 later (Some a) None = None

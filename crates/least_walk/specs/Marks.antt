@@ -1,4 +1,6 @@
--- Sets of marked pairs as rows of bits. A marked pair is a pair of nodes with a mark, which is 1 if the letters that led to the pair differed somewhere, and 0 if not.
+-- Sets of marked pairs as rows of bits. A marked pair is a pair of nodes with a mark, which is 1 if the letters that
+-- led to the pair differed somewhere, and 0 if not. Row u has the nodes v for which the pair (u, v) with mark 0 is in
+-- the set. Row 16 + u has the nodes v for which the pair (u, v) with mark 1 is in the set.
 use Rattle.std.specs.Prelude.{◌≡◌, ℕ, ◌+◌, ◌*◌, ◌/◌, ◌%◌, ◌<◌, ◌↔◌, ◌⊎◌, List, slice_index, IsBitSet}
 use Rattle.word_image.specs.LocalRules.{LocalRule, node_count, most_nodes}
 use Rattle.least_walk.specs.declared.marks.PairParts.{PairParts}
@@ -8,11 +10,11 @@ use Rattle.word_image.specs.Graphs.{first_of, second_of, pair_count}
 abbrev pub pair_part : LocalRule → ℕ → ℕ
 pair_part r t = t % pair_count r
 
--- the number of the row of a marked pair: there is a row for each first node, and the rows of the pairs with mark 1 come after the rows of the pairs with mark 0
+-- the number of the row of a marked pair whose first node is u: u if the mark is 0, and 16 + u if the mark is 1
 abbrev pub row_of : LocalRule → ℕ → ℕ
 row_of r t = most_nodes * (t / pair_count r) + first_of r (pair_part r t)
 
--- the marked pair is in the set that the rows give
+-- the marked pair t is in the set that the rows give
 abbrev pub HasPair : LocalRule → List ℕ → ℕ → Type 0
 HasPair r rows t = IsBitSet (slice_index rows (row_of r t)) (second_of r (pair_part r t))
 
@@ -20,13 +22,13 @@ HasPair r rows t = IsBitSet (slice_index rows (row_of r t)) (second_of r (pair_p
 abbrev pub IsAdded : LocalRule → List ℕ → ℕ → List ℕ → Type 0
 IsAdded r rows t after = (s : ℕ) → s < 2 * pair_count r → (HasPair r after s ↔ ((s ≡ t) ⊎ HasPair r rows s))
 
--- the given parts are the mark, the first node and the second node of the marked pair t
+-- `parts` has the mark, the first node and the second node of the marked pair t
 pub record ArePartsOf (r : LocalRule) (parts : PairParts) (t : ℕ) : Type 0 where
   pub mark : parts.mark ≡ t / pair_count r
   pub first : parts.first ≡ first_of r (pair_part r t)
   pub second : parts.second ≡ second_of r (pair_part r t)
 
--- a marked pair of the rule with its mark and its nodes, which say where its bit is in the rows
+-- `at` is a marked pair of the rule, with its mark and its nodes; its row and its bit are inside the rows
 pub record IsMarkedPair (r : LocalRule) (at : PairParts) : Type 0 where
   pub parts : ArePartsOf r at at.pair
   pub below : at.pair < 2 * pair_count r

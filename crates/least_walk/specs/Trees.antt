@@ -1,11 +1,13 @@
--- The least walks from one marked pair, the start, to all marked pairs. A marked pair is a pair of nodes with a mark, which is 1 if the letters that led to the pair differed somewhere, and 0 if not.
+-- The least walks from one marked pair, the start, to all marked pairs. A marked pair is a pair of nodes with a mark,
+-- which is 1 if the letters that led to the pair differed somewhere, and 0 if not. The queue has the marked pairs in
+-- the order in which a breadth-first search reaches them.
 use Rattle.std.specs.Prelude.{◌≡◌, ℕ, ◌<◌, ◌≤◌, List, length, slice_get, slice_index, Some, None}
 use Rattle.word_image.specs.MarkedPairs.{most_marked_pairs}
 use Rattle.word_image.specs.LocalRules.{LocalRule}
 use Rattle.least_walk.specs.declared.queue.Reached.{Reached}
 use Rattle.least_walk.specs.Queues.{IsEnded}
 
--- the walks that are searched: a rule, the marked pair at which the walks start, and the greatest number of their steps
+-- the walks that are searched: walks of a rule, from the marked pair `start`, of at most `most` steps
 pub record WalkSource : Type 0 where
   pub rule : LocalRule
   pub start : ℕ
@@ -17,7 +19,7 @@ pub record AreApart (queue : List Reached) : Type 0 where
   pub below : (i : ℕ) (x : Reached) → slice_get queue i ≡ Some x → x.pair < most_marked_pairs
   pub apart : (i j : ℕ) (x y : Reached) → slice_get queue i ≡ Some x → slice_get queue j ≡ Some y → x.pair ≡ y.pair → i ≡ j
 
--- for each marked pair of the queue, the list `places` has its place in the queue at the number of the pair
+-- `places` is an index of the queue: at the number of each marked pair of the queue, it has the place of this pair in the queue
 abbrev pub IsPairIndex : List Reached → List ℕ → Type 0
 IsPairIndex queue places = (i : ℕ) (x : Reached) → slice_get queue i ≡ Some x → slice_index places x.pair ≡ i
 

@@ -1,4 +1,5 @@
--- The cover list of a family, worked by hand, which the prover computes.
+-- The cover list of a family, worked by hand, which the prover computes. A family is a list of sets of nodes, given as
+-- numbers. Its covers are the set of all nodes, and each set that contains no other set of the list.
 use Rattle.std.specs.Prelude.{◌≡◌, [], ◌∷◌, refl}
 use Rattle.word_image.specs.Families.{covers_of}
 

@@ -1,4 +1,5 @@
--- Sets of pairs of nodes in two forms, as rows of bits and as lists of truth values, and how to get one form from the other.
+-- A set of pairs of n nodes has two forms: rows of bits, in which bit v of row u says whether the pair (u, v) is in the
+-- set, and a list with a truth value for each pair. This file proves that each form determines the other.
 use Rattle.std.proofs.Common.{◌≡◌, ◌==◌, ℕ, suc, ◌+◌, ◌-◌, ◌*◌, ◌/◌, ◌%◌, ◌^◌, ◌<◌, ◌≤◌, List, [], length, map, replicate, take, drop, Bool, true, false, get_or, slice_index, cond, refl, sym, ap, ap₂, ◌∙◌, subst, arith, ⊎_elim, eq-eqb, mod-lt, take_all}
 use Rattle.std.specs.Int.{bit_at}
 use Rattle.std.specs.List.{range_with_len}
@@ -13,7 +14,7 @@ use Rattle.std.proofs.Math.Nat.{mul-le-mul_right, suc-mul}
 use Rattle.word_image.specs.LocalRules.{most_nodes}
 use Rattle.pair_graph.specs.PairSets.{holds, truths, nodes_of, rows_of, AreRows}
 
--- a pair is in the set of the truth values if and only if its bit in the rows is 1
+-- the truth value of pair p is true if and only if the bit of p in the rows is 1
 pub holds_bit : (n : ℕ) (rows : List ℕ) (p : ℕ) → p < n * n → holds (truths n rows) p ≡ (bit_at (slice_index rows (p / n)) (p % n) == 1)
 holds_bit n rows p inside = get_or-map-range_with_len (λ q. bit_at (slice_index rows (q / n)) (q % n) == 1) 0 (n * n) p p false inside (omega arith)
 
@@ -43,7 +44,7 @@ bit_tested a i = ⊎_elim
     (λ other. let none : bit_at a i ≡ 0 = omega (arith, bit_at-lt a i, other) in ap (λ (b : Bool). cond {A = ℕ} b 1 0) (ne_eqb (bit_at a i) 1 other) ∙ sym none)
     (cases_eq (bit_at a i) 1)
 
--- the truth values of the pairs with the first node u give row u
+-- row u is the number whose bits are the truth values of the pairs with the first node u
 row_of_truths : (n : ℕ) (rows : List ℕ) → AreRows n rows → (u : ℕ) → u < n → mask_l (chunk (u * n) n (truths n rows)) ≡ slice_index rows u
 row_of_truths n rows h u inside =
     let set = truths n rows in
@@ -61,14 +62,14 @@ row_of_truths n rows h u inside =
     ∙ ap₂ (λ (x y : ℕ). bit_at (slice_index rows x) y == 1) at place)
     ∙ bit_tested (slice_index rows u) i)
 
--- from row n on there are no truth values, so that the row made of them is 0, and the given rows are 0 there too
+-- row n and all later rows are 0, and there are no truth values for them
 no_row : (n : ℕ) (rows : List ℕ) → AreRows n rows → (u : ℕ) → n ≤ u → mask_l (chunk (u * n) n (truths n rows)) ≡ slice_index rows u
 no_row n rows h u more =
     let past : n * n ≤ u * n = mul-le-mul_right n more in
     let none : drop (u * n) (truths n rows) ≡ [] = drop_all (u * n) (truths n rows) (omega (arith, length-truths n rows, past)) in
     ap (λ l. mask_l (take n l)) none ∙ ap mask_l (take_all n [] (omega arith)) ∙ sym (h.past u more)
 
--- the truth values of the pairs determine the rows: the rows that they give are the rows from which they come
+-- the rows that the truth values of a set give are the rows of the set
 pub rows_of-truths : (n : ℕ) (rows : List ℕ) → AreRows n rows → rows_of n (truths n rows) ≡ rows
 rows_of-truths n rows h = sym (fill_by_all (λ u. mask_l (chunk (u * n) n (truths n rows))) rows 16 0 h.long
     (λ u inside. ⊎_elim (λ less. sym (row_of_truths n rows h u less)) (λ more. sym (no_row n rows h u more)) (cases_lt u n)))

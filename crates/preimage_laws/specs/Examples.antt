@@ -1,4 +1,5 @@
--- The preimages of two configurations, worked by hand. The prover computes a part of them.
+-- The four preimages of the configuration of zeros under rule 90, worked by hand. The prover computes a part of their
+-- images.
 use Rattle.std.specs.Prelude.{◌≡◌, ℕ, [], ◌∷◌, slice_index, ◌%◌, pos, negsuc, refl}
 use Rattle.word_image.specs.LocalRules.{LocalRule}
 use Rattle.tail_config.specs.Configs.{Config, zeros, run, image_of}
@@ -12,7 +13,7 @@ abbrev in_turn : ℕ → ℕ → Config
 in_turn a b (pos i) = slice_index (a ∷ b ∷ []) (i % 2)
 in_turn a b (negsuc i) = slice_index (b ∷ a ∷ []) (i % 2)
 
--- the words 00, 01, 10 and 11, repeated without end, are four configurations with the image of zeros, and any two of them differ within any two adjacent letters
+-- the words 00, 01, 10 and 11, repeated without end, are four configurations whose image is all zeros; any two of them differ within any two adjacent letters
 
 image_of-zeros : run (image_of rule_90 zeros) (negsuc 1) 5 ≡ 0 ∷ 0 ∷ 0 ∷ 0 ∷ 0 ∷ []
 image_of-zeros = refl

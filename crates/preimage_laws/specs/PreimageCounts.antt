@@ -1,10 +1,11 @@
--- The number of preimages of a configuration under a rule of width m, and separated preimages.
+-- How many preimages a configuration has under a rule of width m, and whether they are separated, which means that any
+-- two of them differ within any m - 1 adjacent letters.
 use Rattle.std.specs.Prelude.{◌≡◌, ℕ, ◌-◌, ◌<◌, ℤ}
 use Rattle.word_image.specs.LocalRules.{LocalRule}
 use Rattle.tail_config.specs.Configs.{Config, IsConfig, run, image_of}
 use Rattle.config_laws.specs.Maps.{Differ}
 
--- the configurations xs 0 to xs (n - 1) are the preimages of y, each once
+-- the configurations xs 0 to xs (n - 1) are the preimages of y, each listed once
 pub record ArePreimages (r : LocalRule) (y : Config) (n : ℕ) (xs : ℕ → Config) : Type 0 where
   pub configs : (i : ℕ) → i < n → IsConfig r.states (xs i)
   pub maps : (i : ℕ) → i < n → image_of r (xs i) ≡ y

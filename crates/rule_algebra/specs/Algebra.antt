@@ -1,18 +1,20 @@
--- Rules that are made of other rules: shifted, composed and widened rules, rules with renamed letters, and trimmed rules, from which ignored cells at the ends of the window are dropped. A list of colours gives each letter a new letter, its colour.
+-- Rules that are made from other rules: shifted, composed and widened rules, rules with renamed letters, and trimmed
+-- rules, from which ignored cells at the ends of the window are dropped. In a renamed rule each letter is replaced by
+-- its colour: `colours` is a list in which place a has the colour of the letter a.
 use Rattle.std.specs.Prelude.{◌≡◌, ℕ, ◌+◌, ◌-◌, ◌^◌, ◌<◌, ◌≤◌, List, length, map, take, drop, slice_index, ℤ, pos, ◌+ℤ◌}
 use Rattle.word_image.specs.LocalRules.{LocalRule, IsWord, local_map}
 use Rattle.word_image.specs.Words.{image}
 use Rattle.tail_config.specs.Tails.{TailConfig, IsTail, image_cell}
 
--- each configuration has the same image under g as under r
+-- g gives the same image as r for each configuration
 abbrev pub KeepsImages : LocalRule → LocalRule → Type 0
 KeepsImages r g = (t : TailConfig) (i : ℤ) → IsTail r.states t → image_cell g t i ≡ image_cell r t i
 
--- the rule r with its window moved to the right by the given number of cells
+-- the rule r with its window moved to the right by `by` cells
 abbrev pub shifted : LocalRule → ℤ → LocalRule
 shifted r by = record { states = r.states; width = r.width; offset = r.offset +ℤ by; table = r.table }
 
--- the list `colours` is a permutation of the k letters
+-- `colours` is a permutation of the k letters
 pub record IsRecolouring (k : ℕ) (colours : List ℕ) : Type 0 where
   pub word : IsWord k colours
   pub long : length colours ≡ k
@@ -22,33 +24,33 @@ pub record IsRecolouring (k : ℕ) (colours : List ℕ) : Type 0 where
 abbrev pub recoloured : List ℕ → List ℕ → List ℕ
 recoloured colours w = map (slice_index colours) w
 
--- g is f with renamed letters: for each window, the letter that g gives for the renamed window is the colour of the letter that f gives for the window
+-- g is f with renamed letters: for a window with renamed letters, g gives the colour of the letter that f gives for the window
 pub record IsRecoloured (colours : List ℕ) (f g : LocalRule) : Type 0 where
   pub states : g.states ≡ f.states
   pub width : g.width ≡ f.width
   pub entries : length g.table ≡ f.states ^ f.width
   pub letters : (w : List ℕ) → IsWord f.states w → length w ≡ f.width → local_map g (recoloured colours w) ≡ slice_index colours (local_map f w)
 
--- g is the composition of two rules: the image of a word under g is the image under the second rule of the word's image under the first rule
+-- g is the composition of two rules: it maps a word to the image under `second` of the image of the word under `first`
 pub record IsComposed (first second g : LocalRule) : Type 0 where
   pub states : g.states ≡ first.states
   pub width : g.width ≡ first.width + second.width - 1
   pub offset : g.offset ≡ first.offset +ℤ second.offset
   pub images : (x : List ℕ) → IsWord first.states x → g.width ≤ length x + 1 → image g x ≡ image second (image first x)
 
--- g is r widened to m cells: it has the offset of r and gives the same images, so it ignores its last cells
+-- g is r widened to m cells: its window begins at the same cell, and it ignores the added cells at the end of the window
 pub record IsWidened (r : LocalRule) (m : ℕ) (g : LocalRule) : Type 0 where
   pub states : g.states ≡ r.states
   pub width : g.width ≡ m
   pub offset : g.offset ≡ r.offset
   pub images : KeepsImages r g
 
--- the first d and the last e letters of a window never change the letter that the rule gives
+-- the first d letters and the last e letters of a window never change the letter that the rule gives
 abbrev pub Ignores : LocalRule → ℕ → ℕ → Type 0
 Ignores r d e = (v w : List ℕ) → IsWord r.states v → IsWord r.states w → length v ≡ r.width → length w ≡ r.width
     → drop d (take (r.width - e) v) ≡ drop d (take (r.width - e) w) → local_map r v ≡ local_map r w
 
--- g is r without ignored cells: all ignored first cells are dropped, and then all ignored last cells, down to a width of 2
+-- g is r without the ignored cells at the ends of its window: first all ignored first cells are dropped, then all ignored last cells, but the width stays at least 2
 pub record IsTrimmed (r g : LocalRule) : Type 0 where
   pub first : ℕ
   pub last : ℕ

@@ -1,15 +1,16 @@
--- The first reason why a rule can't be made of another rule or of two other rules.
+-- Why a rule can't be made from another rule or from two other rules: the first limit of accepted rules that the new
+-- rule would break, or the first condition that the given rules don't meet.
 use Rattle.std.specs.Prelude.{ℕ, ◌+◌, ◌-◌, ◌^◌, Option, Some, None, nat_lt, ◌==◌, not, if◌then◌else◌, ℤ, ◌+ℤ◌}
 use Rattle.word_image.specs.LocalRules.{LocalRule, most_width, most_nodes}
 use Rattle.word_image.specs.RuleFaults.{reaches_far}
 use Rattle.rule_algebra.specs.declared.fault.AlgebraFault.{AlgebraFault}
 use Rattle.rule_algebra.specs.declared.fault.AlgebraFault.TheVariants.{States, Width, Nodes, Offset}
 
--- the fault of a window of m cells at offset o, if it reaches further than 16 cells to the left or to the right
+-- the fault `Offset` if a window of m cells at offset o reaches further than 16 cells to the left or to the right
 abbrev pub offset_fault : ℕ → ℤ → Option AlgebraFault
 offset_fault m o = if reaches_far m o then Some Offset else None
 
--- the first limit of accepted rules that a rule with width m and offset o breaks, if there is one; its number k of states is accepted
+-- the first limit of accepted rules that a rule with k states, width m and offset o breaks, if there is one; k is accepted
 abbrev pub limit_fault : ℕ → ℕ → ℤ → Option AlgebraFault
 limit_fault k m o =
     if nat_lt most_width m then Some Width

@@ -1,4 +1,4 @@
--- Worked examples of rules that are made of rules, which the prover computes.
+-- Worked examples of rules that are made from other rules, which the prover computes.
 use Rattle.std.specs.Prelude.{◌≡◌, refl, Some, None, ◌∷◌, [], pos, negsuc}
 use Rattle.word_image.specs.LocalRules.{LocalRule}
 use Rattle.word_image.specs.Words.{image}
@@ -12,23 +12,23 @@ use Rattle.rule_algebra.specs.declared.fault.AlgebraFault.TheVariants.{Width, No
 abbrev pub rule204 : LocalRule
 rule204 = record { states = 2; width = 3; offset = negsuc 0; table = 0 ∷ 0 ∷ 1 ∷ 1 ∷ 0 ∷ 0 ∷ 1 ∷ 1 ∷ [] }
 
--- shifted by one, rule 204 copies the cell to the right
+-- rule 204 shifted by one cell copies the cell to the right
 shifted-204 : shifted rule204 (pos 1) ≡ record { states = 2; width = 3; offset = pos 0; table = 0 ∷ 0 ∷ 1 ∷ 1 ∷ 0 ∷ 0 ∷ 1 ∷ 1 ∷ [] }
 shifted-204 = refl
 
--- the sum of two products, as the composition of the product of two cells and the sum of two cells
+-- the sum of the products of neighbouring cells: the composition of the product of two cells with the sum of two cells
 sum_of_products : composed both sum_mod_two ≡ record { states = 2; width = 3; offset = pos 0; table = 0 ∷ 0 ∷ 0 ∷ 1 ∷ 0 ∷ 0 ∷ 1 ∷ 0 ∷ [] }
 sum_of_products = refl
 
--- the product of two sums, which isn't the sum of two products
+-- the product of the sums of neighbouring cells, which isn't the sum of the products
 product_of_sums : composed sum_mod_two both ≡ record { states = 2; width = 3; offset = pos 0; table = 0 ∷ 0 ∷ 1 ∷ 0 ∷ 0 ∷ 1 ∷ 0 ∷ 0 ∷ [] }
 product_of_sums = refl
 
--- the image of the word 1101 under the composition is the image under the second rule of its image under the first rule
+-- a composition maps the word 1101 to the image under the second rule of the image of 1101 under the first rule
 sum_of_products-image : image (composed both sum_mod_two) (1 ∷ 1 ∷ 0 ∷ 1 ∷ []) ≡ image sum_mod_two (image both (1 ∷ 1 ∷ 0 ∷ 1 ∷ []))
 sum_of_products-image = refl
 
--- the sum of two cells at width 3, which ignores its third cell
+-- the sum of two cells as a rule of width 3, which ignores the third cell
 widened-sum : widened sum_mod_two 3 ≡ record { states = 2; width = 3; offset = pos 0; table = 0 ∷ 0 ∷ 1 ∷ 1 ∷ 1 ∷ 1 ∷ 0 ∷ 0 ∷ [] }
 widened-sum = refl
 
@@ -40,14 +40,14 @@ without_first-204 = refl
 recoloured-word : recoloured (1 ∷ 2 ∷ 0 ∷ []) (0 ∷ 0 ∷ 2 ∷ 1 ∷ []) ≡ 1 ∷ 1 ∷ 0 ∷ 2 ∷ []
 recoloured-word = refl
 
--- a window of three cells at offset -1 can be shifted by 15, and not by 16
+-- a window of three cells that begins at cell -1 can be shifted by 15 cells, and not by 16
 shift_fault-204 : shift_fault rule204 (pos 15) ≡ None
 shift_fault-204 = refl
 
 shift_fault-204_far : shift_fault rule204 (pos 16) ≡ Some Offset
 shift_fault-204_far = refl
 
--- a rule of three states and width 3 has 9 nodes, the words of two letters, and its composition with itself has 81 nodes, the words of four letters
+-- a rule of three states and width 3 has 9 nodes, which are the words of two letters. Its composition with itself would have 81 nodes, which are the words of four letters
 composed_nodes : compose_fault (record { states = 3; width = 3; offset = pos 0; table = [] }) (record { states = 3; width = 3; offset = pos 0; table = [] }) ≡ Some Nodes
 composed_nodes = refl
 

@@ -1,4 +1,4 @@
--- The words for the faults of rules that are made of other rules.
+-- How the program prints why a rule can't be made from other rules: one word for each fault.
 use Rattle.std.specs.Prelude.{ℕ, List, codes}
 use Rattle.rule_algebra.specs.declared.fault.AlgebraFault.{AlgebraFault}
 use Rattle.rule_algebra.specs.declared.fault.AlgebraFault.TheVariants as algebra

@@ -1,4 +1,5 @@
--- The words for the reasons why a rule has no second-order lift, which is a rule on pairs of letters.
+-- How the program prints why a rule has no second-order lift, which would be a rule on pairs of letters: one word for
+-- each reason.
 use Rattle.std.specs.Prelude.{ℕ, List, codes}
 use Rattle.rule_classes.specs.declared.lifts.LiftFault.{LiftFault}
 use Rattle.rule_classes.specs.declared.lifts.LiftFault.TheVariants as lift

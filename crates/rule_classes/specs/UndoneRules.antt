@@ -1,9 +1,9 @@
--- This file says when the second of two rules undoes the first. The first rule has width m and offset o, and the second rule has the same width and offset.
+-- This file says when a second rule undoes a first rule. Both rules have width m and offset o.
 use Rattle.std.specs.Prelude.{◌≡◌, ℕ, ◌+◌, ◌-◌, ◌*◌, ◌<◌, List, length, slice_index, pos, ◌-ℤ◌}
 use Rattle.word_image.specs.LocalRules.{LocalRule, IsWord}
 use Rattle.word_image.specs.Words.{image}
 
--- if the first rule maps a word of n + 2 (m - 1) letters to its image, and the second rule maps this image to a word, then the last word has n letters, and its letter j is letter j - 2 o of the first word
+-- if the first rule and then the second rule are applied to a word of n + 2 (m - 1) letters, the result has n letters, and its letter j is letter j - 2 o of the word
 abbrev pub IsUndone : LocalRule → LocalRule → Type 0
 IsUndone first second = (n : ℕ) (x : List ℕ) → IsWord first.states x → length x ≡ n + 2 * (first.width - 1)
     → (length (image second (image first x)) ≡ n)

@@ -1,4 +1,6 @@
--- A beginning is the text of a rule in table form that may end after some letters of the table. This file defines its meaning and its first fault.
+-- A beginning is the text of a rule whose table may end early. For example, 2:3:-1:t01 is the beginning of all rules
+-- with two states, width 3 and offset -1 whose table begins with 0 1. This file defines the meaning and the first fault
+-- of a beginning.
 use Rattle.std.specs.Prelude.{◌≡◌, ℕ, ◌-◌, ◌^◌, List, [], ◌++◌, length, replicate, Option, Some, None, Result, Ok, Err}
 use Rattle.std.specs.Option.{option_map, option_or}
 use Rattle.word_image.specs.LocalRules.{LocalRule}
@@ -9,16 +11,16 @@ use Rattle.rule_text.specs.declared.text_fault.TextFault.{TextFault}
 use Rattle.rule_text.specs.declared.text_fault.TextFault.TheVariants as fault
 use Rattle.rule_text.specs.declared.beginnings.Beginning.{Beginning}
 
--- the letters of a beginning, followed by 0 for each other window
+-- a table of `size` letters: the given letters, followed by zeros
 abbrev pub filled : ℕ → List ℕ → List ℕ
 filled size letters = letters ++ replicate (size - length letters) 0
 
--- the given letters of the table, or no letters if a number is given
+-- the letters of the table that the entries give, or no letters if they give a number
 abbrev pub letters_of : Entries → List ℕ
 letters_of (Entries.Table letters) = letters
 letters_of (Entries.Number n) = []
 
--- the fault of the entries for an accepted shape, if there is one: a number is given instead of a table, there are more letters than windows, or a letter isn't below k
+-- the fault of the entries of a beginning whose shape is accepted, or None: they are a number and not a table, there are more letters than windows, or a letter isn't below k
 abbrev pub beginning_entries_fault : Said → Entries → Option TextFault
 beginning_entries_fault s (Entries.Table letters) = option_map (in_text s.place) (table_fault s.states s.width (filled (s.states ^ s.width) letters))
 beginning_entries_fault s (Entries.Number n) = Some fault.Kind
@@ -27,16 +29,16 @@ beginning_entries_fault s (Entries.Number n) = Some fault.Kind
 abbrev pub beginning_fault : Said → Option TextFault
 beginning_fault s = option_or (option_map (in_text s.place) (shape_fault s.states s.width s.offset)) (beginning_entries_fault s s.entries)
 
--- the rule whose table has the given letters, followed by zeros
+-- the rule of a beginning: its table has the given letters, followed by zeros
 abbrev pub beginning_rule : Said → LocalRule
 beginning_rule s = record { states = s.states; width = s.width; offset = s.offset; table = filled (s.states ^ s.width) (letters_of s.entries) }
 
--- the result of reading a beginning is right: its rule and the number of its letters, or its first fault
+-- the result of reading a beginning is right: `Ok` gives its rule and the number of its letters, and `Err` gives its first fault
 abbrev pub IsBeginningOf : Said → Result Beginning TextFault → Type 0
 IsBeginningOf s (Ok b) = (beginning_fault s ≡ None) × (b.rule ≡ beginning_rule s) × (b.given ≡ length (letters_of s.entries))
 IsBeginningOf s (Err f) = beginning_fault s ≡ Some f
 
--- the text is a beginning, which gives this rule and this number of letters
+-- the text is a beginning without a fault, and b has its rule and the number of its letters
 pub record IsBeginning (text : List ℕ) (b : Beginning) : Type 0 where
   pub said : Said
   pub says : Says text said

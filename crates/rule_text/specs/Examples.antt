@@ -1,4 +1,4 @@
--- Texts and their meanings, which the prover computes.
+-- Worked examples, which the prover computes: texts of rules, with their rules and their faults.
 use Rattle.std.specs.Prelude.{◌≡◌, refl, [], ◌∷◌, pos, negsuc, Some, None, map, codes}
 use Rattle.std.specs.Fmt.{digits}
 use Rattle.rule_text.specs.declared.text_fault.TextFault.TheVariants as fault
@@ -28,11 +28,11 @@ accepted_110 = refl
 too_large : fault_of (bare 256) ≡ Some fault.Number
 too_large = refl
 
--- the text 4:3:-1:w with the number 2 ^ 128 has a number that is too great
+-- the text 4:3:-1:wN with N = 2 ^ 128 has a number that is too great
 beyond_128_bits : fault_of (record { states = 4; width = 3; offset = negsuc 0; entries = Number 340282366920938463463374607431768211456; place = 8 }) ≡ Some fault.Number
 beyond_128_bits = refl
 
--- the text 4:3:-1:w with the number 2 ^ 128 - 1 has no fault
+-- the text 4:3:-1:wN with N = 2 ^ 128 - 1 has no fault
 greatest_of_128_bits : fault_of (record { states = 4; width = 3; offset = negsuc 0; entries = Number 340282366920938463463374607431768211455; place = 8 }) ≡ None
 greatest_of_128_bits = refl
 

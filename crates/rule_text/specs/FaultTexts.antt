@@ -1,4 +1,5 @@
--- The words for the faults of a text.
+-- How a fault of the text of a rule is printed: as a word, followed by the place in the text if the fault has a place.
+-- For example, `letter 15`.
 use Rattle.std.specs.Prelude.{ℕ, List, [], ◌++◌, codes, Option, Some, None}
 use Rattle.std.specs.Fmt.{decimal}
 use Rattle.rule_text.specs.declared.text_fault.TextFault.{TextFault}

@@ -1,4 +1,6 @@
--- How the program reads the head of the text of a rule. The head is the part before the entries: the states, the width, the offset and the kind of the entries.
+-- How the program reads the head of the text of a rule, which is the part before the entries. In 2:3:-1:t01110110 the
+-- head is 2:3:-1:t, and the entries are 01110110. `GoesOver...` says what a text has between two places. `Lacks...`
+-- says that something doesn't begin at a place, and at which place the fault is.
 use Rattle.std.specs.Prelude.{◌≡◌, ◌≢◌, ℕ, ◌+◌, ◌<◌, ◌≤◌, ◌⊎◌, Bool, true, false, List, [], ◌++◌, length, map, take, drop, codes, slice_index, All, ℤ, pos, neg_ℤ}
 use Rattle.rule_text.specs.declared.text_fault.TextFault.{TextFault}
 use Rattle.rule_text.specs.declared.text_fault.TextFault.TheVariants as fault
@@ -17,11 +19,11 @@ colon = 58
 abbrev pub minus_sign : ℕ
 minus_sign = 45
 
--- the text has this part between the places `from` and `to`
+-- the text has `part` between the places `from` and `to`
 abbrev pub GoesOver : List ℕ → ℕ → ℕ → List ℕ → Type 0
 GoesOver text from to part = take to text ≡ take from text ++ part
 
--- the text has between the two places a number of two digits, or of one digit if no other digit follows
+-- the text has `number`, written with one or two digits, between the places `from` and `to`; after a single digit no other digit follows
 pub record GoesOverSmall (text : List ℕ) (from to number : ℕ) : Type 0 where
   pub digits : List ℕ
   pub over : GoesOver text from to digits
@@ -29,14 +31,14 @@ pub record GoesOverSmall (text : List ℕ) (from to number : ℕ) : Type 0 where
   pub value : number ≡ decimal_value digits
   pub longest : (length digits ≡ 2) ⊎ ¬ IsDigit (slice_index text to)
 
--- the text has between the two places a number of one or two digits, and a colon
+-- the text has `number`, written with one or two digits, and a colon between the places `from` and `to`
 pub record GoesOverField (text : List ℕ) (from to number : ℕ) : Type 0 where
   pub digits : List ℕ
   pub over : take to text ≡ take from text ++ digits ++ codes ":"
   pub decimal : IsDecimal 1 2 digits
   pub value : number ≡ decimal_value digits
 
--- the text lacks a number of one or two digits and a colon at the place `from`: there are too few digits, or no colon after all of them
+-- no number of one or two digits with a colon begins at the place `from`: there is no digit, or no colon follows the digits; the fault is at `place`
 pub record LacksField (text : List ℕ) (from place : ℕ) : Type 0 where
   pub digits : List ℕ
   pub over : GoesOver text from place digits
@@ -55,7 +57,7 @@ abbrev pub signed : Bool → ℕ → ℤ
 signed true n = neg_ℤ (pos n)
 signed false n = pos n
 
--- the text has between the two places an offset and a colon
+-- the text has the offset and a colon between the places `from` and `to`
 pub record GoesOverOffset (text : List ℕ) (from to : ℕ) (offset : ℤ) : Type 0 where
   pub minus : Bool
   pub digits : List ℕ
@@ -63,7 +65,7 @@ pub record GoesOverOffset (text : List ℕ) (from to : ℕ) (offset : ℤ) : Typ
   pub decimal : IsDecimal 1 2 digits
   pub value : offset ≡ signed minus (decimal_value digits)
 
--- the text lacks an offset and a colon at the place `from`: no number and colon follow the sign, or there is neither a sign nor a number
+-- no offset with a colon begins at the place `from`: no number of one or two digits with a colon follows the minus sign, if there is one; the fault is at `place`
 pub record LacksOffset (text : List ℕ) (from place : ℕ) : Type 0 where
   pub minus : Bool
   pub start : ℕ
@@ -80,20 +82,20 @@ kind_text kind.Number = codes "w"
 abbrev pub IsNoKind : ℕ → Type 0
 IsNoKind b = (b ≢ 116) × (b ≢ 119)
 
--- the fault is a fault of form, and its place in the text has the property P
+-- the fault says that the text isn't in the grammar, and its place in the text has the property P
 abbrev pub IsRuleFormAt : List ℕ → TextFault → (ℕ → Type 0) → Type 0
 IsRuleFormAt text f P = (place : ℕ) × (f ≡ fault.Form place) × (place ≤ length text) × P place
 
--- the fault is a fault of form
+-- the fault says that a text isn't in the grammar
 abbrev pub IsForm : TextFault → Type 0
 IsForm f = (place : ℕ) × (f ≡ fault.Form place)
 
--- the entries that digits of this kind give
+-- the entries that the digits give: the letters of a table, or a number, as the kind says
 abbrev pub entries_of : Kind → List ℕ → Entries
 entries_of kind.Table digits = Table (map letter_at digits)
 entries_of kind.Number digits = Number (decimal_value digits)
 
--- the digits can be the entries of this kind
+-- the digits can be entries of this kind: hexadecimal digits for a table, or 1 to 39 decimal digits for a number
 abbrev pub IsEntries : Kind → List ℕ → Type 0
 IsEntries kind.Table digits = All IsHexDigit digits
 IsEntries kind.Number digits = IsDecimal 1 39 digits
@@ -106,7 +108,7 @@ said_with f entries = record { states = f.k; width = f.m; offset = f.o; entries 
 abbrev pub said_of : Head → List ℕ → Said
 said_of f digits = said_with f (entries_of f.kind digits)
 
--- the digits of a number go wrong at this place: there are no digits at all, or the byte here isn't a digit or is the fortieth
+-- the digits of a number have a fault at this place: there are no digits at all, or the byte here isn't a digit, or it is the fortieth byte
 pub record IsDecimalStop (digits : List ℕ) (place : ℕ) : Type 0 where
   pub before : All IsDigit (take place digits)
   pub within : place ≤ length digits
@@ -119,7 +121,7 @@ pub record IsHexStop (digits : List ℕ) (place : ℕ) : Type 0 where
   pub within : place < length digits
   pub stop : ¬ IsHexDigit (slice_index digits place)
 
--- the text has this head, and the entries begin at its place: the text has the meaning of the head if it has entries of its kind, and otherwise its fault of form is the fault of form of its entries
+-- h is the head of the text, and the entries begin after it. If the entries fit their kind, the text means what the head and the entries say; otherwise its fault is the fault of the entries
 pub record IsHead (text : List ℕ) (h : Head) : Type 0 where
   pub within : h.place ≤ length text
   pub says : IsEntries h.kind (drop h.place text) → Says text (said_of h (drop h.place text))

@@ -1,10 +1,10 @@
--- The printed form of a rule, and its number.
+-- The printed text of a rule, such as 2:3:-1:t01110110, and its Wolfram number.
 use Rattle.std.specs.Prelude.{ℕ, ◌+◌, nat_lt, if◌then◌else◌, List, ◌++◌, map, codes, Option, Some, None, ℤ, pos, negsuc}
 use Rattle.std.specs.Fmt.{decimal}
 use Rattle.word_image.specs.LocalRules.{LocalRule, wolfram_number}
 use Rattle.word_image.specs.Digits.{lower_digit}
 
--- the head of a text, which is the part before its entries: K:M:O: and their kind
+-- the head of the text of a rule, which is the part before the entries: K:M:O: and the kind t or w
 abbrev pub head : List ℕ → List ℕ → List ℕ → List ℕ → List ℕ
 head k m o kind = k ++ codes ":" ++ m ++ codes ":" ++ o ++ codes ":" ++ kind
 

@@ -1,8 +1,9 @@
--- Walks from state to state along a relation, in which each step has a letter.
+-- Walks from state to state along a relation `Step`: `Step s a t` says that a step on the letter a leads from the state
+-- s to the state t.
 use Rattle.std.specs.Prelude.{◌≡◌, ℕ, List, [], ◌∷◌}
 use Rattle.word_image.specs.LocalRules.{IsWord}
 
--- the letters of the word lead from the state s to the state t, step by step
+-- the letters of the list, one step for each letter, lead from the state s to the state t
 abbrev pub Walk : {S L : Type 0} → (S → L → S → Type 0) → S → List L → S → Type 0
 Walk Step s [] t = s ≡ t
 Walk {S} Step s (a ∷ w) t = (u : S) × Step s a u × Walk Step u w t

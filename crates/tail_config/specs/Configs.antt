@@ -1,4 +1,5 @@
--- Configurations as functions from the integers to letters, and their images under a rule.
+-- Configurations as functions from the integers to letters, and their images under a rule. A letter is a number below
+-- k.
 use Rattle.std.specs.Prelude.{◌≡◌, ℕ, ◌<◌, List, map, ℤ, pos, ◌+ℤ◌, neg_ℤ, ◌<ℤ◌, ◌≤ℤ◌}
 use Rattle.std.specs.List.{range_with_len}
 use Rattle.word_image.specs.LocalRules.{LocalRule, local_map}

@@ -1,4 +1,6 @@
--- The places at which two configurations differ.
+-- The first place at which two configurations differ, searched from cell 0 outward. The definitions below split a
+-- configuration into two sequences of cells: the cells to the right, beginning at place 0, and the cells to the left,
+-- beginning at place -1.
 use Rattle.std.specs.Prelude.{◌≡◌, ◌≢◌, ℕ, ◌<◌, ◌≤◌, max, length, ℤ, pos, negsuc, ◌<ℤ◌, neg_ℤ, unsigned_abs}
 use Rattle.tail_config.specs.Tails.{TailConfig, cell}
 
@@ -16,12 +18,12 @@ right_cells t i = cell t (pos i)
 abbrev pub left_cells : TailConfig → ℕ → ℕ
 left_cells t i = cell t (negsuc i)
 
--- i is the first number from `start` on at which the functions f and g differ
+-- i is the first number, at least `start`, at which the functions f and g differ
 pub record IsFirstDifference (f g : ℕ → ℕ) (start i : ℕ) : Type 0 where
   pub from : start ≤ i
   pub other : f i ≢ g i
   pub before : (j : ℕ) → start ≤ j → j < i → f j ≡ g j
 
--- the length of the longer one of the middles of two configurations
+-- the greater of the lengths of the two middles
 abbrev pub most_middle : TailConfig → TailConfig → ℕ
 most_middle x y = max (length x.middle) (length y.middle)

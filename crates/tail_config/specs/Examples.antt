@@ -28,7 +28,7 @@ left_shift = record { states = 2; width = 2; offset = pos 0; table = 0 ∷ 1 ∷
 cells-row : cells (config_of (0 ∷ 1 ∷ 1 ∷ []) (0 ∷ 1 ∷ []) (0 ∷ [])) (negsuc 2) 6 ≡ 0 ∷ 1 ∷ 1 ∷ 0 ∷ 1 ∷ 0 ∷ []
 cells-row = refl
 
--- a configuration with periodic tails is a function from places to letters too: its cells are the letters of this function, and its image cells are the letters of the function's image
+-- a configuration with periodic tails is also a function from places to letters: its cells are the letters of this function, and its image cells are the letters of the image of this function
 
 cells-run : (t : TailConfig) (i : ℤ) (n : ℕ) → cells t i n ≡ run (cell t) i n
 cells-run t i n = refl
@@ -36,7 +36,7 @@ cells-run t i n = refl
 image_cell-image_of : (r : LocalRule) (t : TailConfig) (i : ℤ) → image_cell r t i ≡ image_of r (cell t) i
 image_cell-image_of r t i = refl
 
--- all zeros and one 1 at place 0, as a function: under rule 90 its two neighbours become 1
+-- the configuration of zeros with one 1 at place 0. Under rule 90 the 1 becomes 0 and its two neighbours become 1
 
 abbrev one_in_zeros : Config
 one_in_zeros (pos i) = if i == 0 then 1 else 0
@@ -48,12 +48,12 @@ run-one = refl
 image_of-one : run (image_of rule90 one_in_zeros) (negsuc 1) 5 ≡ 0 ∷ 1 ∷ 0 ∷ 1 ∷ 0 ∷ []
 image_of-one = refl
 
--- the shift to the right by one place undoes the shift to the left: it maps the shifted configuration of all zeros and one 1 back to the configuration itself
+-- the shift to the right undoes the shift to the left. It maps the image of the configuration with one 1 back to this configuration
 
 mapped-one : run (mapped (record { states = 2; width = 1; offset = negsuc 0; table = 0 ∷ 1 ∷ [] }) (image_of left_shift one_in_zeros)) (negsuc 1) 5 ≡ 0 ∷ 0 ∷ 1 ∷ 0 ∷ 0 ∷ []
 mapped-one = refl
 
--- 0|1011|1 and 0|1100|0 are the least normal right split of rule 30: the first place at which their cells differ is 1, and under rule 90 their images differ at place 0
+-- 0|1011|1 and 0|1100|0 are the least normal right split of rule 30: they have the same image, and their cells first differ at place 1. Under rule 90 their images differ at place 0
 
 abbrev a : TailConfig
 a = config_of (0 ∷ []) (1 ∷ 0 ∷ 1 ∷ 1 ∷ []) (1 ∷ [])
@@ -70,7 +70,7 @@ cell-a = refl
 cell-b : cell b (pos 1) ≡ 1
 cell-b = refl
 
--- the image cells of a configuration at the places -6 to 7
+-- the letters of the image of a configuration at the places -6 to 7
 abbrev image_row : LocalRule → TailConfig → List ℕ
 image_row r t = map (λ j. image_cell r t (negsuc 5 +ℤ pos j)) (range_with_len 0 14)
 
@@ -91,7 +91,7 @@ printed-a = refl
 mirror_of-row : mirror_of (config_of (0 ∷ []) (1 ∷ 0 ∷ 0 ∷ []) (1 ∷ [])) ≡ config_of (1 ∷ []) (0 ∷ 0 ∷ 1 ∷ []) (0 ∷ [])
 mirror_of-row = refl
 
--- First faults: |0|1 has an empty period, 0|2|1 has a number that isn't a letter, and the third has a middle of 1,025 letters, which counts before the wrong letter in its left period; a middle of 1,024 letters is no fault
+-- The first fault of a configuration. |0|1 has an empty period, and 0|2|1 has a number that isn't a letter. The third one has a middle of 1,025 letters, and this fault comes before the wrong letter in its left period. The fourth one has a middle of 1,024 letters, which is no fault
 
 tail_fault-empty : tail_fault 2 (config_of [] (0 ∷ []) (1 ∷ [])) ≡ Some fault.LeftEmpty
 tail_fault-empty = refl

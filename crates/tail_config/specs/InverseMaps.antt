@@ -1,4 +1,6 @@
--- The inverse map of a rule over a determined window, n letters of an image that determine a letter of each preimage (Amoroso and Patt 1972), and the configurations that the map gives.
+-- The inverse map of a rule (Amoroso and Patt 1972). In a determined window, n letters of an image determine one letter
+-- of each preimage, the letter at place c. So the map from these n letters to the letter at place c reconstructs a
+-- configuration from its image.
 use Rattle.std.specs.Prelude.{◌≡◌, ℕ, ◌^◌, List, length, slice_index, ℤ, pos, neg_ℤ, ◌+ℤ◌, ◌-ℤ◌}
 use Rattle.word_image.specs.LocalRules.{LocalRule, IsWord, value}
 use Rattle.word_image.specs.Words.{IsPreimage}
@@ -15,11 +17,11 @@ pub record WindowMap : Type 0 where
 abbrev pub map_letter : WindowMap → List ℕ → ℕ
 map_letter g w = slice_index g.table (value g.states w)
 
--- the configuration that the map gives for y: at place i the map's letter for the `width` letters of y that begin at place i + offset
+-- the configuration that the map g gives for the configuration y: the letter at place i is the map's letter for the `width` letters of y that begin at place i + offset
 abbrev pub mapped : WindowMap → Config → Config
 mapped g y i = map_letter g (run y (i +ℤ g.offset) g.width)
 
--- the map is the inverse map of a determined window: it gives the letter at place c of every preimage of a word of n letters, and 0 if the word has no preimage
+-- g is the inverse map of the determined window (n, c): for a word of n letters it gives the letter at place c of every preimage of the word, or 0 if the word has no preimage
 pub record IsInverseMap (r : LocalRule) (n c : ℕ) (g : WindowMap) : Type 0 where
   pub states : g.states ≡ r.states
   pub width : g.width ≡ n

@@ -1,8 +1,8 @@
--- Splits on the left: different configurations with the same image that agree far to the right.
+-- Splits on the left: two different configurations with the same image that agree far to the right.
 use Rattle.word_image.specs.LocalRules.{LocalRule}
 use Rattle.tail_config.specs.Tails.{TailConfig, IsTail, Different, ShareImage, AgreeRight}
 
--- two different configurations that share an image and agree on the right
+-- x and y are a left split: different configurations that have the same image and agree far to the right
 pub record IsLeftSplit (r : LocalRule) (x y : TailConfig) : Type 0 where
   pub first : IsTail r.states x
   pub second : IsTail r.states y

@@ -1,4 +1,5 @@
--- The value that stands for a `Tail` of the source in contracts: a configuration and the number of its states.
+-- A configuration together with the number of its states. Contracts use it for a `Tail`, the type of configurations in
+-- the program.
 use Rattle.std.specs.Prelude.{ℕ, ◌≤◌, List}
 use Rattle.word_image.specs.LocalRules.{most_states}
 use Rattle.tail_config.specs.Tails.{TailConfig}
@@ -15,6 +16,6 @@ pub record IsAcceptedTail (t : TailOver) : Type 0 where
   pub most_states : t.states ≤ most_states
   pub short : IsShortTail t.states t.config
 
--- the configuration of these three parts
+-- the configuration with these three parts
 abbrev pub config_of : List ℕ → List ℕ → List ℕ → TailConfig
 config_of left middle right = record { left = left; middle = middle; right = right }

@@ -1,4 +1,5 @@
--- Rules that are right-closing or left-closing.
+-- Closing on a side. A rule is right-closing if no two different configurations that agree far to the left share an
+-- image. It is left-closing if no two different configurations that agree far to the right share an image.
 use Rattle.word_image.specs.LocalRules.{LocalRule}
 use Rattle.word_image.specs.declared.side.Side.{Side}
 use Rattle.word_image.specs.declared.side.Side.TheVariants.{Right, Left}

@@ -1,4 +1,7 @@
--- Worked examples, done by hand, which the prover computes. A placed configuration is a configuration whose middle begins at a given place. A shape says how many left periods of t the left period and the middle of a preimage have, and how many right periods of t its middle and right period have.
+-- Worked examples, done by hand, which the prover computes. A placed configuration is a configuration whose middle
+-- begins at a given place. A shape has four numbers, which count the periods of a configuration t in a preimage of t:
+-- `back` left periods in its left period, `before` left and `after` right periods in its middle, and `on` right periods
+-- in its right period.
 use Rattle.std.specs.Prelude.{◌≡◌, [], ◌∷◌, refl, negsuc}
 use Rattle.std.specs.declared.cmp.Ordering.TheVariants.{Less, Greater}
 use Rattle.tail_config.specs.Tails.{TailConfig}
@@ -24,10 +27,10 @@ mixed = record { left = 0 ∷ 1 ∷ []; middle = 1 ∷ []; right = 1 ∷ 0 ∷ 0
 stretch-mixed : stretch mixed 2 1 ≡ 0 ∷ 1 ∷ 0 ∷ 1 ∷ 1 ∷ 1 ∷ 0 ∷ 0 ∷ []
 stretch-mixed = refl
 
--- a shape with one left period in its left period and middle together is less than a shape with two
+-- a shape with one left period in total is less than a shape with two
 shape_cmp-spans : shape_cmp (record { before = 0; back = 1; after = 0; on = 3 }) (record { before = 1; back = 1; after = 0; on = 1 }) ≡ Less
 shape_cmp-spans = refl
 
--- if two shapes have as many left periods and as many right periods in all, the shape with fewer left periods in its middle is less
+-- if two shapes have equal totals on both sides, the shape with fewer left periods in its middle is less
 shape_cmp-middles : shape_cmp (record { before = 1; back = 1; after = 0; on = 1 }) (record { before = 0; back = 2; after = 0; on = 1 }) ≡ Greater
 shape_cmp-middles = refl

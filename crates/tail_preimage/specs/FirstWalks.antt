@@ -1,4 +1,8 @@
--- Walks in the de Bruijn graph whose letters form a placed configuration, which is a configuration whose middle begins at a given place. A walk along a word is a preimage of the word, and it leads from its first m - 1 letters to its last m - 1 letters, if the rule has width m.
+-- The three walks from which the program builds a preimage of a configuration t with periodic tails. A walk along a
+-- word is a preimage of the word: it leads from the node of its first m - 1 letters to the node of its last m - 1
+-- letters, if the rule has width m. The first walk is a loop along left periods of t, the second one leads along left
+-- periods, the middle and right periods, and the third one is a loop along right periods. A shape counts the periods of
+-- each walk.
 use Rattle.std.specs.Prelude.{◌≡◌, ℕ, ◌+◌, ◌-◌, ◌*◌, ◌^◌, ◌≤◌, List, length, drop, slice_index, pos, ◌-ℤ◌}
 use Rattle.std.specs.List.{repeat}
 use Rattle.word_image.specs.LocalRules.{LocalRule}
@@ -8,7 +12,7 @@ use Rattle.tail_config.specs.TailValues.{config_of}
 use Rattle.tail_preimage.specs.Walks.{IsWalk, HasWalk, Reaches, IsLeastWalkInto, before_last}
 use Rattle.tail_preimage.specs.Preimages.{PlacedConfig, Shape, stretch}
 
--- the walks x, y and z have the shape s: x is a walk along left periods of t from node v back to v, y is a walk from v to w along left periods, the middle and right periods of t, and z is a walk along right periods of t from w back to w
+-- x, y and z are walks of the shape s: x is a loop at node v along `back` left periods, y leads from v to w along `before` left periods, the middle and `after` right periods, and z is a loop at w along `on` right periods
 pub record AreLoopWalks (r : LocalRule) (t : TailConfig) (s : Shape) (v w : ℕ) (x y z : List ℕ) : Type 0 where
   pub back_some : 1 ≤ s.back
   pub on_some : 1 ≤ s.on
@@ -16,11 +20,11 @@ pub record AreLoopWalks (r : LocalRule) (t : TailConfig) (s : Shape) (v w : ℕ)
   pub middle : IsWalk r (stretch t s.before s.after) v w y
   pub right : IsWalk r (repeat s.on t.right) w w z
 
--- the placed configuration whose left period, middle and right period are the letters of the walks x, y and z without their last nodes
+-- the placed configuration whose left period, middle and right period are x, y and z, each without the m - 1 letters of its last node
 abbrev pub placed_of : LocalRule → TailConfig → ℕ → List ℕ → List ℕ → List ℕ → PlacedConfig
 placed_of r t before x y z = record { at = r.offset -ℤ pos (before * length t.left); config = config_of (before_last r x) (before_last r y) (before_last r z) }
 
--- x, y and z are the first walks of the shape: v is the least node from which walks of this shape lead, and each of the three walks is the first possible one in dictionary order
+-- the first walks of the shape s: v is the least node at which such walks start, x is the first loop at v in dictionary order, y is the first walk from v to a node w that has a loop, and z is the first loop at w
 pub record AreFirstWalks (r : LocalRule) (t : TailConfig) (s : Shape) (v w : ℕ) (x y z : List ℕ) : Type 0 where
   pub back_some : 1 ≤ s.back
   pub on_some : 1 ≤ s.on
@@ -31,7 +35,7 @@ pub record AreFirstWalks (r : LocalRule) (t : TailConfig) (s : Shape) (v w : ℕ
   pub middle : IsLeastWalkInto r (stretch t s.before s.after) v turns w y
   pub right : IsLeastWalkInto r (repeat s.on t.right) w (2 ^ w) w z
 
--- for each j from 0 to n, the set at place j of the list has the nodes from which some walk along the last j letters of the word w leads into the set `goal`
+-- the list has n + 1 sets: set j has the nodes from which some walk along the last j letters of w leads into the set `goal`
 pub record AreOpen (r : LocalRule) (w : List ℕ) (goal n : ℕ) (sets : List ℕ) : Type 0 where
   pub long : length sets ≡ n + 1
   pub each : (j : ℕ) → j ≤ n → IsNodeSet r (Reaches r (drop (length w - j) w) goal) (slice_index sets j)

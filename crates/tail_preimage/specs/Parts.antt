@@ -1,4 +1,8 @@
--- Relations between nodes for the three parts of a configuration: a part relates two nodes if a walk whose labels spell the part leads between them. This file also defines which shapes of walks are possible, and along how many periods no walk leads. A shape has the numbers of left and right periods along which the walks lead.
+-- The relations of the three parts of a configuration t: its left period, its middle and its right period. The relation
+-- of a word relates node u to node v if some walk from u to v has labels that spell the word. A node is a word of m - 1
+-- letters, if the rule has width m. The program looks for a walk along t that begins and ends with a loop. A shape
+-- counts the periods of this walk: a loop of `back` left periods, then `before` left periods, the middle and `after`
+-- right periods, then a loop of `on` right periods.
 use Rattle.std.specs.Prelude.{◌≢◌, ℕ, ◌<◌, ◌≤◌, [], get_or}
 use Rattle.std.specs.declared.cmp.Ordering.TheVariants.{Greater}
 use Rattle.word_image.specs.LocalRules.{LocalRule, IsRule, node_count, most_nodes}
@@ -11,12 +15,12 @@ use Rattle.tail_preimage.specs.declared.periods.Periods.{Periods}
 use Rattle.tail_preimage.specs.declared.shapes.PartRelations.{PartRelations}
 use Rattle.tail_preimage.specs.declared.shapes.Spans.{Spans}
 
--- for each n from 0 to 16, the stored relation of n periods is right: it relates u to v if n steps of the relation of one period lead from u to v
+-- entry n of `powers`, for n from 0 to 16, relates u to v if n steps of the relation `period` lead from u to v
 pub record ArePeriods (r : LocalRule) (periods : Periods) : Type 0 where
   pub period : AreSets r periods.period
   pub powers : (n : ℕ) → n ≤ most_nodes → IsRelation r (Steps (HasBit periods.period) n) (get_or periods.powers n [])
 
--- each part has the right relation: the left period relates the node at its end to the node at its start, and the middle and the right period relate the node at their start to the node at their end
+-- `parts` has the relations of the parts of t; the relation of the left period is reversed and leads from the node at the end of a period to the node at its start
 pub record AreTailParts (r : LocalRule) (t : TailConfig) (parts : PartRelations) : Type 0 where
   pub rule : IsRule r
   pub left_periods : ArePeriods r parts.left
@@ -25,7 +29,7 @@ pub record AreTailParts (r : LocalRule) (t : TailConfig) (parts : PartRelations)
   pub middle : IsRelation r (HasWalk r t.middle) parts.middle
   pub right : IsRelation r (HasWalk r t.right) parts.right.period
 
--- the relations are the relations of the parts of some configuration
+-- `parts` has the relations of the parts of some configuration
 abbrev pub HaveParts : LocalRule → PartRelations → Type 0
 HaveParts r parts = (t : TailConfig) × AreTailParts r t parts
 
@@ -37,18 +41,18 @@ Through r parts Before Behind = (v : ℕ) × (w : ℕ) × (v < node_count r) × 
 abbrev pub PassesThrough : LocalRule → PartRelations → ℕ → ℕ → Type 0
 PassesThrough r parts b a = Through r parts (Open (HasBit parts.left.period) b) (Open (HasBit parts.right.period) a)
 
--- the shape with the numbers of periods that the program has found
+-- a `Spans`, which is the program's type for shapes, as a shape
 abbrev pub shape_of : Spans → Shape
 shape_of s = record { before = s.before; back = s.back; after = s.after; on = s.on }
 
--- walks of this shape start at node v: a walk along `back` left periods leads from v to v, and a walk along `before` left periods, the middle and `after` right periods leads from v to a node with a loop of `on` right periods
+-- walks of this shape start at node v: a loop of `back` left periods at v, and a walk from v along `before` left periods, the middle and `after` right periods to a node with a loop of `on` right periods
 abbrev pub Starts : LocalRule → PartRelations → Shape → ℕ → Type 0
 Starts r parts s v =
     Steps (HasBit parts.left.period) s.back v v
     × ((u : ℕ) × (u < node_count r) × Steps (HasBit parts.left.period) s.before u v
     × ((w : ℕ) × (w < node_count r) × HasBit parts.middle u w × Rounds (HasBit parts.right.period) s.after s.on w))
 
--- the shape is possible: walks of this shape start at some node
+-- the shape is possible: walks of this shape start at some node, and each loop has at least one period
 pub record IsPossible (r : LocalRule) (parts : PartRelations) (s : Shape) : Type 0 where
   pub back_some : 1 ≤ s.back
   pub on_some : 1 ≤ s.on
@@ -56,13 +60,13 @@ pub record IsPossible (r : LocalRule) (parts : PartRelations) (s : Shape) : Type
   pub below : node < node_count r
   pub starts : Starts r parts s node
 
--- the shape is the least of all possible shapes, and it has at most 16 periods on each side
+-- the shape is the least of all possible shapes, and it has at most 16 left and 16 right periods in total
 pub record IsFirstShape (r : LocalRule) (parts : PartRelations) (s : Shape) : Type 0 where
   pub possible : IsPossible r parts s
   pub small : IsSmall s
   pub least : (u : Shape) → IsPossible r parts u → shape_cmp s u ≢ Greater
 
--- no walk leads along b left periods, the middle and a right periods: b is the least number of left periods that no walk leads along before the middle and 16 right periods, a is the least number of right periods that no walk leads along after b left periods and the middle, and b and a are at most 16
+-- no walk leads along b left periods, the middle and a right periods. For each i below b, some walk leads along i left periods, the middle and 16 right periods. For each j below a, some walk leads along b left periods, the middle and j right periods
 pub record IsFirstGap (r : LocalRule) (parts : PartRelations) (b a : ℕ) : Type 0 where
   pub before_few : b ≤ most_nodes
   pub after_few : a ≤ most_nodes

@@ -1,4 +1,5 @@
--- Worked examples: rules, numbers, words, images, rings and pairs done by hand, which the prover computes. Examples that need a proof, such as twins and windows, are in proofs/Examples.antt.
+-- Worked examples: rules, numbers, words, images, rings and pairs done by hand, which the prover computes. Examples
+-- that need a proof, such as twins and windows, are in proofs/Examples.antt.
 use Rattle.std.specs.Prelude.{◌≡◌, true, false, [], ◌∷◌, length, map, sum_by, codes, refl, pos, negsuc, Some, None}
 use Rattle.std.specs.List.{range_with_len, zip}
 use Rattle.std.specs.declared.cmp.Ordering.TheVariants.{Less, Equal, Greater}
@@ -87,7 +88,7 @@ same_rule-table = refl
 same_rule-offset : same_rule stay (record stay { offset = negsuc 0 }) ≡ false
 same_rule-offset = refl
 
--- The mirrored rule: 110 becomes 124, and the offset of a rule that reads the cell and the one to its right becomes -1
+-- The mirrored rule of rule 110 is rule 124. A rule that reads a cell and the cell to its right has offset 0, and its mirrored rule has offset -1
 
 mirrored-table : (mirrored rule110).table ≡ 0 ∷ 0 ∷ 1 ∷ 1 ∷ 1 ∷ 1 ∷ 1 ∷ 0 ∷ []
 mirrored-table = refl
@@ -120,7 +121,7 @@ word_cmp-letters = refl
 word_cmp-same : word_cmp (1 ∷ 0 ∷ []) (1 ∷ 0 ∷ []) ≡ Equal
 word_cmp-same = refl
 
--- Rings: the letters of a ring are counted round it, on both sides of place 0
+-- Rings: the letters of a ring are counted around the ring, on both sides of place 0
 
 ring_letter-before_0 : ring_letter (0 ∷ 1 ∷ 2 ∷ []) (negsuc 0) ≡ 2
 ring_letter-before_0 = refl
@@ -147,7 +148,7 @@ sum-012 = refl
 sum-ring_image-012 : sum_by (λ a. a) (ring_image lossy_at_three (0 ∷ 1 ∷ 2 ∷ [])) ≡ 1
 sum-ring_image-012 = refl
 
--- The order of pairs of words
+-- The order of pairs of words: shorter ones first, then the dictionary order of their pairs of letters
 
 pair_cmp-first : pair_cmp (0, 2) (1, 0) ≡ Less
 pair_cmp-first = refl
@@ -161,7 +162,7 @@ pairs_cmp-length = refl
 pairs_cmp-letters : pairs_cmp (zip (0 ∷ 1 ∷ []) (1 ∷ 0 ∷ [])) (zip (0 ∷ 1 ∷ []) (0 ∷ 1 ∷ [])) ≡ Greater
 pairs_cmp-letters = refl
 
--- The de Bruijn graph of rule 110: from the node 10 the letter 1 leads to the node 01, and the window 101 gives 1
+-- The de Bruijn graph of rule 110: the edge from node 10 on the letter 1 leads to node 01, and its label is 1, since the rule gives 1 for the window 101
 
 node_count-110 : node_count rule110 ≡ 4
 node_count-110 = refl
@@ -196,7 +197,7 @@ follow-equal = refl
 follow-unequal : follow rule110 9 0 0 ≡ None
 follow-unequal = refl
 
--- The marked graph has a second copy of the 16 pairs: two different letters lead into it, and nothing leads back
+-- The marked graph has each of the 16 pairs twice, with mark 0 and with mark 1: two different letters lead to a pair with mark 1, and no step leads back to mark 0
 
 pair_count-110 : pair_count rule110 ≡ 16
 pair_count-110 = refl
@@ -213,7 +214,7 @@ marked-stays = refl
 marked-unequal : marked rule110 9 0 0 ≡ None
 marked-unequal = refl
 
--- How letters and words are written and read
+-- How letters and words are written as texts and read from texts
 
 lower_digit-all : map lower_digit (range_with_len 0 16) ≡ codes "0123456789abcdef"
 lower_digit-all = refl

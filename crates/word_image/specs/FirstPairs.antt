@@ -1,11 +1,13 @@
--- First pairs: the pairs of nodes at which two walks with equal labels have just parted, after one step forward from a common node on the right, or one step backward on the left.
+-- First pairs. Two walks with equal labels begin at the same node, and their first edges have different letters: the
+-- nodes that they reach by these edges are a first pair on the right. A first pair on the left is the same for walks
+-- that are followed backward from the same node.
 use Rattle.std.specs.Prelude.{◌≡◌, ◌≢◌, ℕ, ◌-◌, ◌<◌, drop}
 use Rattle.word_image.specs.LocalRules.{LocalRule, node_count, word_of}
 use Rattle.word_image.specs.Graphs.{next, label, node_letter, pair_count, pair_of, first_of, second_of}
 use Rattle.word_image.specs.declared.side.Side.{Side}
 use Rattle.word_image.specs.declared.side.Side.TheVariants.{Right, Left}
 
--- a pair of nodes that two different letters reach from the same node, along edges with equal labels
+-- p is a first pair on the right: from one node, edges with different letters a and b and equal labels lead to the two nodes of p
 pub record IsFirstOfRight (r : LocalRule) (p : ℕ) : Type 0 where
   pub node : ℕ
   pub a : ℕ
@@ -17,7 +19,7 @@ pub record IsFirstOfRight (r : LocalRule) (p : ℕ) : Type 0 where
   pub one_label : label r node a ≡ label r node b
   pub pair : p ≡ pair_of r (next r node a) (next r node b)
 
--- a pair of nodes that differ only in their first letter, and from which the same letter leads along edges with equal labels
+-- p is a first pair on the left: its nodes differ only in their first letter, and edges with equal labels lead from them on the same letter, so to the same node
 pub record IsFirstOfLeft (r : LocalRule) (p : ℕ) : Type 0 where
   pub letter : ℕ
   pub in_pairs : p < pair_count r

@@ -1,4 +1,5 @@
--- The place at which a text leaves a grammar. A grammar is any property of texts, and a text is a list of bytes.
+-- The place at which a text that isn't in a grammar goes wrong: the length of its longest prefix that can be completed
+-- to a text of the grammar. A grammar is any property of texts, and a text is a list of bytes.
 use Rattle.std.specs.Prelude.{ℕ, ◌<◌, ◌≤◌, List, ◌++◌, length, take}
 
 -- some text of the grammar begins with this text
@@ -6,7 +7,7 @@ pub record Begins (IsText : List ℕ → Type 0) (text : List ℕ) : Type 0 wher
   pub more : List ℕ
   pub whole : IsText (text ++ more)
 
--- the text isn't in the grammar, and place is the length of its longest prefix with which some text of the grammar begins
+-- the text isn't in the grammar. `place` is the length of its longest prefix with which some text of the grammar begins
 pub record IsFormFault (IsText : List ℕ → Type 0) (text : List ℕ) (place : ℕ) : Type 0 where
   pub outside : ¬ IsText text
   pub within : place ≤ length text

@@ -1,9 +1,10 @@
--- The marked graph. Its nodes are marked pairs: pairs of nodes of the de Bruijn graph with a mark, which says whether the two walks to the pair have had different letters so far.
+-- The marked graph of a rule. Its nodes are marked pairs: pairs of nodes of the de Bruijn graph with a mark. The mark
+-- is 1 if the two walks that lead to the pair have had different letters in some step, and 0 if not.
 use Rattle.std.specs.Prelude.{ℕ, ◌+◌, ◌*◌, ◌%◌, Option, Some, None, ◌==◌, ◌||◌, not, if◌then◌else◌, nat_le}
 use Rattle.word_image.specs.LocalRules.{LocalRule}
 use Rattle.word_image.specs.Graphs.{next, label, pair_of, first_of, second_of, pair_count, most_pairs}
 
--- One step in the marked graph: the marked pair that the letters a and b reach from t. The pair p with mark 0 has the number p, and with mark 1 it has p plus the number of pairs. The mark becomes 1 when two letters differ, and stays 1.
+-- One step in the marked graph: the marked pair to which the letters a and b lead from the marked pair t, or None if the labels differ. The pair p with mark 0 has the number p, and with mark 1 it has p plus the number of pairs. The mark becomes 1 when two letters differ, and stays 1.
 abbrev pub marked : LocalRule → ℕ → ℕ → ℕ → Option ℕ
 marked r t a b =
     if label r (first_of r (t % pair_count r)) a == label r (second_of r (t % pair_count r)) b

@@ -1,4 +1,4 @@
--- The test whether two rules are the same.
+-- The test that two rules have the same states, width, offset and table.
 use Rattle.std.specs.Prelude.{Bool, ◌==◌}
 use Rattle.std.specs.Ordering.{eq_of_both, int_eq, on}
 use lib.Pointwise.{pointwise}

@@ -1,4 +1,5 @@
--- The two sides of the line of cells. What holds on the right holds on the left of the mirrored rule. The rule has width m.
+-- The two sides of the line of cells. A definition on the left is the definition on the right for the mirrored rule.
+-- The rule has width m, and a node is a word of m - 1 letters.
 use Rattle.std.specs.Prelude.{ℕ}
 use Rattle.word_image.specs.LocalRules.{LocalRule, mirrored}
 use Rattle.word_image.specs.Graphs.{first_of, second_of}
@@ -22,10 +23,10 @@ abbrev pub Together : Side → LocalRule → ℕ → ℕ → ℕ → Type 0
 Together Right = BeginTogether
 Together Left = EndTogether
 
--- two words of n + m - 1 letters with the same image begin with the two nodes of pair p if the side is the right, and end with these nodes if it is the left
+-- two words of n + m - 1 letters with the same image begin with the nodes of pair p if the side is the right, and end with these nodes if the side is the left
 abbrev pub PairGoes : Side → LocalRule → ℕ → ℕ → Type 0
 PairGoes side r p = Together side r (first_of r p) (second_of r p)
 
--- n letters of the image and the last m - 1 letters of a word determine the letter before these last letters: n is a right look-ahead of the mirrored rule
+-- n is a left look-ahead: the last m - 1 letters of a word and n letters of its image determine the letter before these last letters
 abbrev pub IsLeftAhead : LocalRule → ℕ → Type 0
 IsLeftAhead r n = IsRightAhead (mirrored r) n

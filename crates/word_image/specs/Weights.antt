@@ -1,4 +1,5 @@
--- The weights of letters: a whole number of eight bits for each letter.
+-- The weights of letters: a number from 0 to 255 for each letter. The sum of a word is the sum of the weights of its
+-- letters.
 use Rattle.std.specs.Prelude.{◌≡◌, ℕ, ◌≤◌, List, length, All}
 use Rattle.std.specs.List.{range_with_len}
 

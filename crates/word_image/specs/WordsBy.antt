@@ -1,8 +1,8 @@
--- Words that are given by a relation between places and letters.
+-- Words given by a relation: `gives i a` means that the word has the letter a at place i.
 use Rattle.std.specs.Prelude.{◌≡◌, ℕ, ◌<◌, List, length, slice_index}
 use Rattle.word_image.specs.LocalRules.{IsWord}
 
--- w is a word of n letters below k, and if the relation `gives` relates a place to a letter, w has this letter at the place
+-- w is a word of n letters below k, and it has the letter a at place i if `gives i a` holds
 pub record IsWordBy (k n : ℕ) (gives : ℕ → ℕ → Type 0) (w : List ℕ) : Type 0 where
   pub word : IsWord k w
   pub long : length w ≡ n
