@@ -1,16 +1,15 @@
-//! Laws that the words of a command line have at most one right reply. The words and the bytes that the source has
-//! left determine the reply as a value. So they also determine the status and each byte of the text and of the JSON
-//! of the reply. A source *tells* its bytes if contracts can name the bytes that it has left (crate ca_io). This
-//! crate has no law that there is a reply: [`ca_cli::run`] gives one unless a read, a write or a request for memory
-//! fails.
+//! Laws that the words of a command line have at most one right reply. The words and the bytes that the source has left
+//! determine the reply as a value. So they also determine the status, and each byte of the text and of the JSON of the
+//! reply. A source *tells* its bytes if contracts can name the bytes that it has left (crate ca_io). This crate has no
+//! law that there is a reply: [`ca_cli::run`] gives one unless a read, a write or a request for memory fails.
 //!
-//! A reply is a value (crate ca_questions): a *finding*, which answers the question of the words, a *cause* why
-//! nothing fits the question, the fault of an operand, the result of judging a certificate, or that the words are no
-//! command. A command asks at most one question, about accepted rules. A question has at most one right finding. If
-//! nothing fits the question, it has at most one right cause. The reason is that each finding is one of these: the
-//! least value that meets a condition, a number that the rule determines, a rule that its images determine, or the
-//! list of all values that meet a condition, in their order. If neither of two values is greater than the other in a
-//! total order, they are equal.
+//! A reply is a value (crate ca_questions): a *finding*, which answers the question of the words, a *cause* why the
+//! question has no answer, the fault of an operand, the result of judging a certificate, or that the words are no
+//! command. A command asks at most one question, about accepted rules. A question has at most one right finding. If it
+//! has no right finding, it has at most one right cause. The reason is that each finding is one of these: the least
+//! value that meets a condition, a number that the rule determines, a rule that its images determine, or the list of
+//! all values that meet a condition, in their order. If neither of two values is greater than the other in a total
+//! order, they are equal.
 //!
 //! The functions of this crate do nothing. The contract of each function states a law.
 #![tactic(auto)]
@@ -22,8 +21,8 @@ ghost use Rattle.ca_questions.specs.Replies.{Reply};
 ghost use Rattle.ca_cli.specs.Readings.{ReadsNothing};
 ghost use Rattle.ca_cli.specs.RightAnswers.{IsAnswer, IsReplyTo};
 
-/// Law: words have at most one right reply. If the words are no command, or a command that reads nothing, this holds
-/// for any source. For other words it holds if the source tells its bytes.
+/// Law: the same words and the same input have at most one right reply. If the words are no command, or a command that
+/// reads nothing, this holds for any source. For other words it holds if the source tells its bytes.
 pub fn one_reply()
     ensures unread { (words : List (List ℕ)) (input : Option (List ℕ)) (reply other : Reply)
         → ((c : Command) → IsCommand words c → ReadsNothing c)
@@ -32,8 +31,8 @@ pub fn one_reply()
         → IsReplyTo words (Some left) reply → IsReplyTo words (Some left) other → reply ≡ other }
 {}
 
-/// Law: words have at most one right output for each status. If the words are no command, or a command that reads
-/// nothing, this holds for any source. For other words it holds if the source tells its bytes.
+/// Law: the same words and the same input have at most one right output for each status. If the words are no command,
+/// or a command that reads nothing, this holds for any source. For other words it holds if the source tells its bytes.
 pub fn one_output()
     ensures unread { (words : List (List ℕ)) (input : Option (List ℕ)) (s : Status) (out other : List ℕ)
         → ((c : Command) → IsCommand words c → ReadsNothing c)

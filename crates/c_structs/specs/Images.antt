@@ -12,14 +12,14 @@ pub record HavePeriods (t : TailConfig) : Type 0 where
   pub left : 1 ≤ length t.left
   pub right : 1 ≤ length t.right
 
--- n places, starting at this one, are within reach: the place is from -2^61 to 2^61, and n is at most 2^61
+-- the n places from `first` on are within reach: `first` is from -2^61 to 2^61, and n is at most 2^61
 pub record AreWithinReach (first : ℤ) (n : ℕ) : Type 0 where
   pub place : unsigned_abs first ≤ 2 ^ 61
   pub count : n ≤ 2 ^ 61
 
--- the code and the letters that a call returns if the buffer had the letters `before`: the call asks for as many letters of the image as the buffer has, starting at place `first`, and only one of these cases fits
+-- a call for letters of the image, starting at place `first`: the code and the letters that it returns if the buffer had the letters `before`; only one of these cases fits
 pub data IsImageCall (r : LocalRule) (t : TailConfig) (first : ℤ) (before : List ℕ) : ℕ → List ℕ → Type 0 where
-  -- if the parts make no rule, the call returns the code of the fault and leaves the buffer as it was
+  -- if no rule has these states, width, offset and table, the call returns the code of the fault and leaves the buffer as it was
   NoRule : (f : RuleFault) → rule_fault r.states r.width r.offset r.table ≡ Some f → IsImageCall r t first before (fault_code (Some f)) before
   -- if a period has no letter, the call returns the code 19 and leaves the buffer as it was
   NoPeriod : IsRule r → ¬ HavePeriods t → IsImageCall r t first before 19 before

@@ -1,4 +1,5 @@
--- Rows, which say where words stand in a buffer of letters: a row has the place of the first letter and the number of letters.
+-- The C library puts words into a buffer of letters. A row says where a word is in this buffer: it has the place of
+-- the first letter and the number of letters.
 use Rattle.std.specs.Prelude.{◌≡◌, ℕ, ◌+◌, ◌≤◌, List, ◌++◌, length, take, drop}
 use Rattle.tail_config.specs.Tails.{TailConfig}
 use Rattle.c_structs.specs.declared.letter_rows.LetterRow.{LetterRow}
@@ -6,23 +7,23 @@ use Rattle.c_structs.specs.declared.letter_rows.TailRows.{TailRows}
 use Rattle.c_structs.specs.declared.letter_rows.TwinRows.{TwinRows}
 use Rattle.c_structs.specs.declared.letter_rows.SplitRows.{SplitRows}
 
--- the row says where this word stands among the letters
+-- the row says where the word is among the letters
 pub record IsRow (letters : List ℕ) (row : LetterRow) (word : List ℕ) : Type 0 where
   pub within : row.begin + row.length ≤ length letters
   pub same : take row.length (drop row.begin letters) ≡ word
 
--- the two rows say where the words x and y stand among the letters
+-- the two rows say where the words x and y are among the letters
 pub record AreTwinRows (letters : List ℕ) (rows : TwinRows) (x y : List ℕ) : Type 0 where
   pub first : IsRow letters rows.x x
   pub second : IsRow letters rows.y y
 
--- the rows say where the three parts of this configuration stand among the letters
+-- the three rows say where the parts of the configuration t are among the letters
 pub record AreTailRows (letters : List ℕ) (rows : TailRows) (t : TailConfig) : Type 0 where
   pub left : IsRow letters rows.left t.left
   pub middle : IsRow letters rows.middle t.middle
   pub right : IsRow letters rows.right t.right
 
--- the rows say where the parts of these two configurations stand among the letters
+-- the rows say where the parts of the configurations x and y are among the letters
 pub record AreSplitRows (letters : List ℕ) (rows : SplitRows) (x y : TailConfig) : Type 0 where
   pub first : AreTailRows letters rows.x x
   pub second : AreTailRows letters rows.y y

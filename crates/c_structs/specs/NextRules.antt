@@ -1,4 +1,6 @@
--- What the C library returns to a call about the rules of a shape that have a property: the table of the next such rule, or the order of the windows. The rank of a table is the number whose digits are its letters in the order of the windows.
+-- The C library lists the rules of a shape that have a property. This file defines what it returns to a call for the
+-- next such rule, or for the order of the windows. The rules come by ascending rank: the rank of a table is the number
+-- whose digits are its letters in the order of the windows.
 use Rattle.std.specs.Prelude.{◌≡◌, ◌≢◌, ℕ, ◌^◌, ◌-◌, ◌<◌, ◌≤◌, Bool, true, false, ⊤, List, ◌++◌, length, replicate, Some, None, pos}
 use Rattle.word_image.specs.LocalRules.{LocalRule, IsRule}
 use Rattle.word_image.specs.RuleFaults.{rule_fault, shape_fault}
@@ -11,7 +13,7 @@ use Rattle.rule_lists.specs.declared.properties.Property.TheVariants.{Surjective
 use Rattle.rule_text.specs.RuleTexts.{rule_of_table}
 use Rattle.c_structs.specs.Verdicts.{fault_code}
 
--- the number that stands for a property: what the property adds to the verdict byte of a rule that has it
+-- the number that stands for a property in a call
 abbrev pub property_number : Property → ℕ
 property_number Surjective = 1
 property_number Injective = 2
@@ -24,25 +26,25 @@ property_number Conserving = 32
 abbrev pub IsNoProperty : ℕ → Type 0
 IsNoProperty number = (property : Property) → number ≢ property_number property
 
--- the fixed letters: the letters that tables begin with, followed by 255 up to 256 numbers, since 255 is no letter and fixes nothing
+-- the fixed letters as 256 numbers: the letters with which tables begin, followed by 255, which isn't a letter and fixes nothing
 abbrev pub fixed_letters : List ℕ → List ℕ
 fixed_letters begin = begin ++ replicate (256 - length begin) 255
 
--- the rule q is still to come: if the first argument is false, each rule is; if it is true, only a rule whose table has a greater rank than the given table is
+-- the rule q is still to come: the first argument is false, or the table of q has a greater rank than the given table
 abbrev pub IsToCome : Bool → ℕ → List ℕ → List ℕ → LocalRule → Type 0
 IsToCome false states order table q = ⊤
 IsToCome true states order table q = rank states order table < rank states order q.table
 
--- the arguments are a question: the table makes a rule, the number stands for the property, `order` is an order of all windows, and no more letters are fixed than there are windows
+-- the arguments are right: the table is that of a rule, the number stands for the property, `order` has each window once, and no more letters are fixed than there are windows
 pub record IsQuestion (property : Property) (number states width : ℕ) (order begin table : List ℕ) : Type 0 where
   pub rule : IsRule (rule_of_table states width table)
   pub numbered : number ≡ property_number property
   pub ordered : IsOrder (states ^ width) order
   pub within : length begin ≤ states ^ width
 
--- the code and the table that a call returns if the table was `before`: only one of these cases fits
+-- the code and the table that a call returns; before the call, the table was `before`. Only one of these cases fits
 pub data IsNext (number states width : ℕ) (order begin : List ℕ) (after : Bool) (before : List ℕ) : ℕ → List ℕ → Type 0 where
-  -- if the table `before` makes no rule, the call returns the code of the fault and leaves the table as it was
+  -- if no rule has the table `before`, the call returns the code of the fault and leaves the table as it was
   NoTable : (f : RuleFault) → rule_fault states width (pos 0) before ≡ Some f → IsNext number states width order begin after before (fault_code (Some f)) before
   -- if the number stands for no property, the call returns the code 10 and leaves the table as it was
   NoProperty : IsRule (rule_of_table states width before) → IsNoProperty number → IsNext number states width order begin after before 10 before
@@ -59,7 +61,7 @@ pub data IsNext (number states width : ℕ) (order begin : List ℕ) (after : Bo
   Rule : (property : Property) (r : LocalRule) → IsQuestion property number states width order begin before → IsFirst property states width (fixed_letters begin) order (IsToCome after states order before) r
       → IsNext number states width order begin after before 0 r.table
 
--- the code and the windows that a call returns if the buffer had the bytes `before`: only one of these cases fits
+-- the code and the windows that a call returns; before the call, the buffer had the bytes `before`. Only one of these cases fits
 pub data IsWindowOrder (number states width : ℕ) (before : List ℕ) : ℕ → List ℕ → Type 0 where
   -- if no rule has this shape, the call returns the code of the fault and leaves the buffer as it was
   NoShape : (f : RuleFault) → shape_fault states width (pos 0) ≡ Some f → IsWindowOrder number states width before (fault_code (Some f)) before

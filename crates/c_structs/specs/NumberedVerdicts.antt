@@ -3,7 +3,7 @@ use Rattle.std.specs.Prelude.{ℕ, Option, Some, None}
 use Rattle.rule_text.specs.declared.text_fault.TextFault.{TextFault}
 use Rattle.rule_text.specs.declared.text_fault.TextFault.TheVariants.{Form, States, Width, Nodes, Offset, Length, Letter, Kind, Number}
 
--- the code of a fault, and 0 if there is none; of the faults only 1, 2, 3, 7 and 8 are possible for consecutive numbers
+-- the code of a fault, or 0 if there is no fault; consecutive numbers of rules can only have the faults 1, 2, 3, 7 and 8
 abbrev pub number_code : Option TextFault → ℕ
 number_code None = 0
 number_code (Some States) = 1

@@ -1,4 +1,6 @@
--- The parts of a report in the C library, with one part for each property, and the letters of their words.
+-- A report of the C library has verdicts on properties of a rule, with evidence. A word of the evidence is in a buffer
+-- of letters; its row says where. This file defines the part of a report for each property, and the letters of its
+-- words.
 use Rattle.std.specs.Prelude.{◌≡◌, ℕ, ◌-◌, ◌≤◌, List, [], ◌++◌, length, replicate, Option, Some, None, ℤ, pos, ⊤}
 use Rattle.cert_values.specs.Evidence.{InjectiveEvidence, SideEvidence, SumEvidence, Window, Twins, Ahead, Split, Flux, Ring}
 use Rattle.c_structs.specs.declared.letter_rows.LetterRow.{LetterRow}
@@ -35,22 +37,22 @@ abbrev pub IsShortSum : SumEvidence → Type 0
 IsShortSum (Flux phi) = length phi ≤ 16
 IsShortSum (Ring p) = ⊤
 
--- the part of a report that says whether the rule is surjective: 1 for yes, or 0 for no and the row of the orphan
+-- the part on surjectivity: 1 for yes, or 0 for no and the row of the orphan
 abbrev pub SaysSurjective : List ℕ → ℕ → LetterRow → Option (List ℕ) → Type 0
 SaysSurjective letters holds orphan None = (holds ≡ 1) × (orphan ≡ no_row)
 SaysSurjective letters holds orphan (Some w) = (holds ≡ 0) × IsRow letters orphan w
 
--- the part of a report that says whether the rule is injective: 1 for yes, the window and the place, or 0 for no and the rows of the twins
+-- the part on injectivity: 1 for yes and the window (n, c), or 0 for no and the rows of the twins
 abbrev pub SaysInjective : List ℕ → ℕ → ℕ → ℕ → TwinRows → InjectiveEvidence → Type 0
 SaysInjective letters holds window place twins (Window n c) = (holds ≡ 1) × (window ≡ n) × (place ≡ c) × (twins ≡ no_twins)
 SaysInjective letters holds window place twins (Twins x y) = (holds ≡ 0) × (window ≡ 0) × (place ≡ 0) × AreTwinRows letters twins x y
 
--- the part of a report that says whether the rule is closing on a side: 1 for yes and the look-ahead, or 0 for no and the rows of the split
+-- the part on closing on a side: 1 for yes and the look-ahead, or 0 for no and the rows of the split
 abbrev pub SaysSide : List ℕ → ℕ → ℕ → SplitRows → SideEvidence → Type 0
 SaysSide letters holds ahead split (Ahead n) = (holds ≡ 1) × (ahead ≡ n) × (split ≡ no_split)
 SaysSide letters holds ahead split (Split x y) = (holds ≡ 0) × (ahead ≡ 0) × AreSplitRows letters split x y
 
--- the part of a report that says whether the rule is conserving: 1 for yes and the numbers of the flux, or 0 for no and the row of the ring
+-- the part on conservation: 1 for yes and the numbers of the flux, or 0 for no and the row of the ring
 abbrev pub SaysConserving : List ℕ → ℕ → ℕ → List ℤ → LetterRow → SumEvidence → Type 0
 SaysConserving letters holds nodes flux ring (Flux phi) = (holds ≡ 1) × (nodes ≡ length phi) × (flux ≡ flux_row phi) × (ring ≡ no_row)
 SaysConserving letters holds nodes flux ring (Ring p) = (holds ≡ 0) × (nodes ≡ 0) × (flux ≡ replicate 16 (pos 0)) × IsRow letters ring p

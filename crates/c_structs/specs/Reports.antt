@@ -1,4 +1,5 @@
--- What the C library returns to a call that asks for a report: the verdicts of a rule with their evidence.
+-- What the C library returns to a call for a report on a rule. A report has verdicts with their evidence. The words of
+-- the evidence are in a buffer of letters.
 use Rattle.std.specs.Prelude.{◌≡◌, ℕ, ◌<◌, ◌≤◌, min, List, [], ◌∷◌, ◌++◌, length, drop, replicate, Option, Some, None, ℤ, pos}
 use Rattle.word_image.specs.LocalRules.{LocalRule, IsRule}
 use Rattle.word_image.specs.RuleFaults.{rule_fault}
@@ -15,7 +16,7 @@ use Rattle.c_structs.specs.ReportParts.{SaysSurjective, SaysInjective, SaysSide,
 abbrev pub rule_with : ℕ → ℕ → ℤ → List ℕ → LocalRule
 rule_with states width offset table = record { states = states; width = width; offset = offset; table = table }
 
--- the weights that a list names; the empty list names none
+-- the weights in a list; the empty list means that no weights are named
 abbrev pub named_weights : List ℕ → Option (List ℕ)
 named_weights [] = None
 named_weights (weight ∷ weights) = Some (weight ∷ weights)
@@ -24,7 +25,7 @@ named_weights (weight ∷ weights) = Some (weight ∷ weights)
 abbrev pub letters_in : Evidence → List ℕ
 letters_in e = orphan_letters e.orphan ++ injective_letters e.injective ++ side_letters e.right ++ side_letters e.left ++ sum_letters e.conserving
 
--- the report gives exactly this evidence, and the letters of its words are in this list
+-- the report v gives exactly the evidence e, and the letters of the words are in the list `letters`
 pub record IsReportOf (letters : List ℕ) (e : Evidence) (v : RuleReport) : Type 0 where
   pub fault : v.fault ≡ 0
   pub surjective : SaysSurjective letters v.surjective v.orphan e.orphan
@@ -35,7 +36,7 @@ pub record IsReportOf (letters : List ℕ) (e : Evidence) (v : RuleReport) : Typ
   pub conserving : SaysConserving letters v.conserving v.nodes v.flux v.ring e.conserving
   pub reserved : v.reserved ≡ replicate 8 0
 
--- the struct that has the number of a fault and no report
+-- the report that has only the number of a fault
 abbrev pub no_report : ℕ → RuleReport
 no_report fault = record {
   fault = fault;
@@ -59,17 +60,17 @@ no_report fault = record {
   reserved = replicate 8 0;
 }
 
--- the struct and the letters that a rule and weights give: a report and the letters of its words, or a fault and no letters
+-- the report and the letters that belong to a rule and weights: the right report and the letters of its words, or a fault and no letters
 pub data IsReported (r : LocalRule) (weights : Option (List ℕ)) : RuleReport → List ℕ → Type 0 where
-  -- if the parts make no rule, the struct has the fault of the rule, and there are no letters
+  -- if no rule has these states, width, offset and table, the report has the code of the fault, and there are no letters
   NoRule : (f : RuleFault) → rule_fault r.states r.width r.offset r.table ≡ Some f → IsReported r weights (no_report (fault_code (Some f))) []
-  -- if there isn't one weight for each letter, the struct has the fault 18, and there are no letters
+  -- if there isn't one weight for each letter, the report has the fault 18, and there are no letters
   NoWeights : IsRule r → ¬ AreFor weights r → IsReported r weights (no_report 18) []
-  -- if there is no fault, the struct has the report of the right finding, and the letters are the letters of its words
+  -- if there is no fault, the report is the right answer, and the letters are the letters of its words
   Found : (e : Evidence) (v : RuleReport) → IsRule r → IsFinding (Question.Report r weights) (Finding.Report e) → IsReportOf (letters_in e) e v
       → IsReported r weights v (letters_in e)
 
--- the code, the length, the report and the buffer that a call returns if the report was `was` and the buffer had the letters `before`
+-- the code, the length, the report and the buffer that a call returns; before the call, the report was `was` and the buffer had the letters `before`
 pub data IsReportCall (r : LocalRule) (weights : Option (List ℕ)) (was : RuleReport) (before : List ℕ) : ℕ → ℕ → RuleReport → List ℕ → Type 0 where
   -- if the buffer has room for all letters, the call returns the code 0, the number of letters, the report, and the letters at the beginning of the buffer
   Whole : (v : RuleReport) (letters : List ℕ) → IsReported r weights v letters → length letters ≤ length before

@@ -1,4 +1,5 @@
--- What the C library returns to a call that asks which sums of weights a rule keeps, or for the flux of such a sum.
+-- What the C library returns to a call for the sums of weights of words that a rule keeps, or for the flux of such a
+-- sum.
 use Rattle.std.specs.Prelude.{◌≡◌, ℕ, List, Option, Some, None, ℤ, pos}
 use Rattle.word_image.specs.RuleFaults.{rule_fault}
 use Rattle.word_image.specs.declared.local_rule.RuleFault.{RuleFault}
@@ -11,26 +12,26 @@ use Rattle.kept_sums.specs.Fluxes.{IsFluxList}
 use Rattle.rule_text.specs.RuleTexts.{rule_of_table}
 use Rattle.c_structs.specs.Verdicts.{fault_code}
 
--- the code of a fault in the number of letters of the words, and 0 if there is none
+-- the code of a fault in the length of the words, or 0 if there is no fault
 abbrev pub range_code : Option RangeFault → ℕ
 range_code None = 0
 range_code (Some Zero) = 14
 range_code (Some Words) = 15
 
--- the code of the rule's fault, or else the code of the fault in the number of letters of the words
+-- the code of the rule's fault; if the rule has none, the code of the fault in the length of the words
 abbrev pub first_code : Option RuleFault → Option RangeFault → ℕ
 first_code None range = range_code range
 first_code (Some fault) range = fault_code (Some fault)
 
--- the code of the first fault of a rule at offset 0 and of the number of letters of the words, and 0 if there is none
+-- the code of the first fault of the rule at offset 0 or of the length `range` of the words, or 0 if there is no fault
 abbrev pub sums_code : ℕ → ℕ → List ℕ → ℕ → ℕ
 sums_code states width table range = first_code (rule_fault states width (pos 0) table) (range_fault states range)
 
--- the code and the numbers that a call for the flux of weights returns if the numbers were `before`: only one of these cases fits
+-- the code and the numbers that a call for the flux of weights returns; before the call, the numbers were `before`. Only one of these cases fits
 pub data IsFluxCall (states width : ℕ) (table : List ℕ) (range : ℕ) (weights before : List ℤ) : ℕ → List ℤ → Type 0 where
-  -- if the parts make no rule, the call returns the code of the fault and leaves the numbers as they were
+  -- if no rule has these states, this width and this table, the call returns the code of the fault and leaves the numbers as they were
   NoRule : (f : RuleFault) → rule_fault states width (pos 0) table ≡ Some f → IsFluxCall states width table range weights before (fault_code (Some f)) before
-  -- if words of `range` letters have no letter or are too many, the call returns the code of this fault and leaves the numbers as they were
+  -- if `range` is 0, or there are more than 16 words of `range` letters, the call returns the code of this fault and leaves the numbers as they were
   NoRange : (f : RangeFault) → rule_fault states width (pos 0) table ≡ None → range_fault states range ≡ Some f
       → IsFluxCall states width table range weights before (range_code (Some f)) before
   -- if a weight isn't from -2^56 to 2^56, the call returns the code 16 and leaves the numbers as they were

@@ -1,4 +1,4 @@
-//! The letters of the image of a configuration, as C asks for them.
+//! Writes letters of the image of a configuration, for a call from C.
 ghost use Rattle.std.specs.Prelude.{◌≡◌, ◌^◌, ◌+◌, ◌-◌, ◌≤◌, ◌<◌, ◌↔◌, IsTrue, List, [], ℕ, length, unsigned_abs, pos, neg_ℤ, ◌+ℤ◌, ◌<ℤ◌};
 ghost use Rattle.word_image.specs.LocalRules.{LocalRule, IsRule, IsWord};
 ghost use Rattle.word_image.specs.Rings.{ring_image};
@@ -17,11 +17,11 @@ const NO_PERIOD: u8 = 19;
 /// The number of the fault that a letter of the configuration isn't below the number of states of the rule.
 const NO_LETTER: u8 = 20;
 
-/// The number of the fault that the first place is more than 2^61 away from place 0, or that more than 2^61 letters
-/// are asked for.
+/// The number of the fault that the first place is more than 2^61 away from place 0, or that the call asks for more
+/// than 2^61 letters.
 const FAR: u8 = 21;
 
-/// The greatest distance of the first letter from place 0, and the greatest number of letters.
+/// The greatest distance of the first place from place 0, and the greatest number of letters.
 const REACH: u64 = 1 << 61;
 
 /// The three parts of a configuration, each of any length.
@@ -52,7 +52,7 @@ impl<'a> TailParts<'a> {
         !self.left.is_empty() && !self.right.is_empty()
     }
 
-    /// Returns whether all letters of the configuration are below k.
+    /// Returns whether each letter of the configuration is below k.
     fn are_over(&self, k: u8) -> bool
         requires { HavePeriods self.now }
         ensures { IsTrue result ↔ IsTail k self.now }
@@ -76,7 +76,7 @@ impl<'a> TailParts<'a> {
         }
     }
 
-    /// Writes letters of the configuration to `row`, beginning with the letter at place `start`.
+    /// Fills `row` with letters of the configuration, starting with the letter at place `start`.
     fn write_cells(&self, start: i64, row: &mut [u8])
         requires periods { HavePeriods self.now }
         requires places { (start +ℤ pos (length row.old)) <ℤ pos (2 ^ 63) }
@@ -99,7 +99,7 @@ impl<'a> TailParts<'a> {
         rule.apply(window)
     }
 
-    /// Writes letters of the image of the configuration to `letters`, beginning with the letter at place `first`.
+    /// Fills `letters` with letters of the image of the configuration, starting with the letter at place `first`.
     fn write_letters(&self, rule: &Rule, first: i64, letters: &mut [u8])
         requires config { IsTail rule.now.states self.now }
         requires place { unsigned_abs first ≤ 2 ^ 61 }
@@ -119,16 +119,16 @@ fn are_letters(k: u8, word: &[u8]) -> bool
     word.iter().all(|letter| *letter < k)
 }
 
-/// Returns whether the first place is at most 2^61 away from place 0, and whether there are at most 2^61 letters.
+/// Returns whether the first place is at most 2^61 away from place 0, and the number of letters is at most 2^61.
 fn are_within_reach(first: i64, count: usize) -> bool
     ensures { IsTrue result ↔ AreWithinReach first count }
 {
     first.unsigned_abs() <= REACH && count as u64 <= REACH
 }
 
-/// Writes letters of the image of a configuration, beginning with the letter at place `first`, and returns 0. If a
-/// part of the configuration or a place is faulty, it returns the number of the first fault and leaves the letters as
-/// they were. It takes no memory.
+/// Fills `letters` with letters of the image of a configuration, starting with the letter at place `first`, and returns
+/// 0. If a part of the configuration or a place has a fault, returns the number of the first fault and leaves the
+/// letters as they were. Needs no memory.
 pub fn write_image(rule: &Rule, parts: &TailParts, first: i64, letters: &mut [u8]) -> u8
     ensures { IsImageCall rule.now parts.now first letters.old result letters.new }
 {
@@ -146,15 +146,15 @@ pub fn write_image(rule: &Rule, parts: &TailParts, first: i64, letters: &mut [u8
     0
 }
 
-/// Law: the image of a ring is a part of the image of the configuration that repeats the ring on both sides. This
+/// Law: the image of a ring is a part of the image of the configuration that repeats the ring in both directions. This
 /// part begins at place 0 and has as many letters as the ring.
 pub fn image_of_ring()
     ensures { (r : LocalRule) (p : List ℕ)
         → run (image_cell r (config_of p [] p)) (pos 0) (length p) ≡ ring_image r p }
 {}
 
-/// Law: the image of a word is a part of the image of each configuration whose middle is the word: the letters at the
-/// places whose windows lie in the middle.
+/// Law: the image of a word is a part of the image of each configuration whose middle is the word. It has the letters
+/// at those places whose windows lie in the middle.
 pub fn image_of_word()
     ensures { (r : LocalRule) (left w right : List ℕ) → IsRule r → r.width ≤ length w + 1
         → run (image_cell r (config_of left w right)) (neg_ℤ r.offset) (length w - (r.width - 1)) ≡ image r w }

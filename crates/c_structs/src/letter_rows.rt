@@ -1,4 +1,4 @@
-//! The place and the length of each word in a buffer of letters.
+//! Rows: the place and the length of each word in a buffer of letters.
 ghost use Rattle.std.specs.Prelude.{◌≡◌, ◌++◌, IfOk, OnOk};
 ghost use Rattle.c_structs.specs.LetterRows.{IsRow, AreTwinRows, AreTailRows, AreSplitRows, tail_letters, split_letters};
 
@@ -6,7 +6,7 @@ use std::alloc::AllocError;
 use tail_config::Tail;
 use word_image::Word;
 
-/// The row of a word: where the word stands in a buffer.
+/// The row of a word: where the word is in a buffer of letters.
 #[repr(C)]
 #[derive(Clone, Copy, Debug)]
 pub struct LetterRow {
@@ -41,7 +41,7 @@ pub struct SplitRows {
     pub y: TailRows,
 }
 
-/// The row that a report has in place of a word that doesn't exist. It has no letters.
+/// The row that a report has for a word that doesn't exist. It has no letters.
 pub const NO_ROW: LetterRow = LetterRow {
     begin: 0,
     length: 0,

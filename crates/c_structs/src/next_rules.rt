@@ -1,4 +1,4 @@
-//! The search for the rules of a shape that have a property, as C asks for it.
+//! Finds the rules of a shape that have a property, one after another, for calls from C.
 ghost use Rattle.std.specs.Prelude.{◌≡◌, ◌^◌, ◌≤◌, IsNone, IfSome, MatchOption, length, pos};
 ghost use Rattle.word_image.specs.LocalRules.{IsShape};
 ghost use Rattle.rule_lists.specs.Ranks.{IsOrder};
@@ -8,8 +8,8 @@ ghost use Rattle.c_structs.specs.NextRules.{IsNoProperty, IsToCome, fixed_letter
 use rule_lists::{Asked, Letters, Property, Search};
 use word_image::{MOST_ENTRIES, Rule};
 
-/// Returns the property whose bit in a byte of verdicts is this number: 1, 2, 4, 8, 16 or 32. Returns None for other
-/// numbers.
+/// Returns the property that this number stands for: 1, 2, 4, 8, 16 or 32. A byte of verdicts is the sum of these
+/// numbers. Returns None for other numbers.
 pub fn property_of(number: u8) -> Option<Property>
     ensures some { IfSome result (λ property. number ≡ property_number property) }
     ensures none { IsNone result → IsNoProperty number }
@@ -35,7 +35,7 @@ pub fn shape_rule(states: u8, width: u8) -> Rule
     Rule::from_fn(states, width, 0, |_| 0)
 }
 
-/// Returns the fixed letters of a search for tables that begin with these letters. All later letters are free.
+/// Returns the fixed letters of a search for tables that begin with these letters. The letters after them aren't fixed.
 pub fn letters_of(begin: &[u8]) -> Letters
     requires { length begin.now ≤ 256 }
     ensures { result ≡ fixed_letters begin.now }
@@ -45,9 +45,9 @@ pub fn letters_of(begin: &[u8]) -> Letters
     letters
 }
 
-/// Returns the rule of least rank that has the property, the fixed letters and the shape of this rule. If `after` is
-/// true, the rank must also be greater than the rank of this rule. The rank of a rule is the number whose digits are
-/// its letters in this order of windows. Returns None if there is no such rule.
+/// Returns the rule of least rank that has the property, the fixed letters and the shape of the given rule. If `after`
+/// is true, the rank must also be greater than the rank of the given rule. The rank of a rule is the number whose
+/// digits are its letters in this order of windows. Returns None if there is no such rule.
 pub fn next_rule(
     property: Property,
     letters: &Letters,

@@ -1,4 +1,4 @@
-//! Numbers of 128 bits and numbers of faults, for the verdicts of rules with consecutive numbers.
+//! Numbers of 128 bits and numbers of faults, for calls from C about rules with consecutive numbers.
 ghost use Rattle.std.specs.Prelude.{◌≡◌, ◌+◌, ◌*◌, ◌^◌, Some};
 ghost use Rattle.c_structs.specs.NumberedVerdicts.{number_code};
 
@@ -11,7 +11,7 @@ pub fn joined(high: u64, low: u64) -> u128
     u128::from(high) * 0x1_0000_0000_0000_0000 + u128::from(low)
 }
 
-/// Returns the number of a fault, from 1 to 9.
+/// Returns the number, from 1 to 9, by which C knows this fault.
 pub fn number_of(fault: TextFault) -> u8
     ensures { result ≡ number_code (Some fault) }
 {

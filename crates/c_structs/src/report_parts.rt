@@ -1,5 +1,5 @@
-//! The parts of a report: each part has a verdict and the least evidence for it. The words of the evidence are
-//! appended to the letters of the report.
+//! The parts of a report, one for each property: a verdict and the least evidence for it. The words of the evidence are
+//! in a buffer of letters, and a row says where a word is.
 ghost use Rattle.std.specs.Prelude.{◌≡◌, ◌≤◌, ◌++◌, length, IfOk, OnOk};
 ghost use Rattle.cert_values.specs.Parts.{injective_of, side_of, sum_of};
 ghost use Rattle.c_structs.specs.ReportParts.{IsShortSum, SaysSurjective, SaysInjective, SaysSide, SaysConserving, orphan_letters, injective_letters, side_letters, sum_letters, flux_row};
@@ -11,18 +11,18 @@ use cert_values::{InjectivePart, SidePart, SumPart};
 use std::alloc::AllocError;
 use word_image::{FluxRow, Word};
 
-/// The greatest number of nodes of a rule, and so the greatest number of entries of a flux.
+/// The greatest number of nodes of a rule. A flux has one entry for each node.
 pub const MOST_NODES: usize = 16;
 
-/// Whether a rule is surjective. If it isn't, the struct has the row of its orphan.
+/// Whether a rule is surjective. If it isn't, `orphan` is the row of its orphan.
 #[derive(Clone, Copy)]
 pub struct Surjective {
     pub holds: u8,
     pub orphan: LetterRow,
 }
 
-/// Whether a rule is injective. If it is, the struct has the number of letters and the place of its window. Otherwise
-/// it has the rows of its twins.
+/// Whether a rule is injective. If it is, `window` letters of an image determine the letter at `place` of each
+/// preimage. If it isn't, `twins` has the rows of its twins.
 #[derive(Clone, Copy)]
 pub struct Injective {
     pub holds: u8,
@@ -31,7 +31,7 @@ pub struct Injective {
     pub twins: TwinRows,
 }
 
-/// Whether a rule closes on a side. If it does, the struct has its look-ahead. Otherwise it has the rows of its
+/// Whether a rule closes on a side. If it does, `ahead` is its look-ahead. If it doesn't, `split` has the rows of its
 /// split.
 #[derive(Clone, Copy)]
 pub struct Side {
@@ -40,7 +40,8 @@ pub struct Side {
     pub split: SplitRows,
 }
 
-/// Whether a rule is conserving. If it is, the struct has its flux. Otherwise it has the row of its ring.
+/// Whether a rule is conserving. If it is, `flux` has the entries of its flux, one for each of its `nodes` nodes. If it
+/// isn't, `ring` is the row of its ring.
 #[derive(Clone, Copy)]
 pub struct Conserving {
     pub holds: u8,
@@ -135,7 +136,7 @@ pub fn add_conserving(letters: &mut Vec<u8>, part: &SumPart) -> Result<Conservin
     }
 }
 
-/// Returns the entries of a flux, followed by zeros.
+/// Returns the entries of a flux. The entries after them are 0.
 fn numbers(flux: &FluxRow) -> [i32; MOST_NODES]
     requires { length flux.now ≤ 16 }
     ensures { result ≡ flux_row flux.now }

@@ -15,7 +15,7 @@ use rule_verdicts::Evidence;
 use std::alloc::{AllocError, Global};
 use word_image::Rule;
 
-/// The number of the fault that the list of weights has more or fewer weights than the rule has letters.
+/// The number of the fault that there are more or fewer weights than the rule has letters.
 const NO_WEIGHTS: u8 = 18;
 
 /// The verdicts of a rule, each with its least evidence. A verdict is 1 if it holds, and 0 if it doesn't. The words
@@ -48,24 +48,24 @@ pub struct RuleReport {
     /// The least look-ahead on the left, if the rule is left-closing. It is the right look-ahead of the mirrored
     /// rule.
     pub left_ahead: u32,
-    /// The flux if the rule is conserving, followed by zeros.
+    /// The flux, if the rule is conserving. The entries after it are 0.
     pub flux: [i32; MOST_NODES],
-    /// The least orphan, if the rule isn't surjective.
+    /// The row of the least orphan, if the rule isn't surjective.
     pub orphan: LetterRow,
-    /// The least twins, if the rule isn't injective.
+    /// The rows of the least twins, if the rule isn't injective.
     pub twins: TwinRows,
-    /// The least ring whose image has another sum, if the rule isn't conserving.
+    /// The row of the least ring whose image has another sum, if the rule isn't conserving.
     pub ring: LetterRow,
-    /// The least right split, if the rule isn't right-closing.
+    /// The rows of the least right split, if the rule isn't right-closing.
     pub right_split: SplitRows,
-    /// The least left split, if the rule isn't left-closing.
+    /// The rows of the least left split, if the rule isn't left-closing.
     pub left_split: SplitRows,
     /// Reserved numbers, which are all 0.
     pub reserved: [u32; 8],
 }
 
 impl RuleReport {
-    /// Returns the report that has only this fault.
+    /// Returns the report that has only the number of this fault.
     fn none(fault: u8) -> RuleReport
         ensures { result ≡ no_report fault }
     {
@@ -100,9 +100,9 @@ pub struct Reported {
     pub letters: Vec<u8>,
 }
 
-/// Returns the report of the rule with these states, width, offset and table. The list of weights has one weight for
-/// each letter. If it is empty, each letter weighs its own value. If the rule or the list has a fault, the report has
-/// the number of the first fault.
+/// Returns the report on the rule with these states, width, offset and table. The list of weights has one weight for
+/// each letter. If the list is empty, each letter weighs its own value. If the rule or the list has a fault, the report
+/// has the number of the first fault.
 pub fn report_of_table(
     alloc: Global,
     states: u8,
@@ -119,7 +119,7 @@ pub fn report_of_table(
     }
 }
 
-/// Returns the report that has only this fault, without letters.
+/// Returns the report that has only the number of this fault, without letters.
 fn fault_reported(alloc: Global, fault: u8) -> Reported
     ensures report { result.report ≡ no_report fault }
     ensures letters { result.letters.items ≡ [] }
@@ -130,7 +130,7 @@ fn fault_reported(alloc: Global, fault: u8) -> Reported
     }
 }
 
-/// Returns the report of a rule and of weights. If the list of weights is empty, each letter weighs its own value.
+/// Returns the report on a rule with these weights. If the list of weights is empty, each letter weighs its own value.
 fn report_of_rule(alloc: Global, rule: &Rule, weights: &[u8]) -> Result<Reported, AllocError>
     requires { IsRule rule.now }
     ensures { IfOk result (λ made. IsReported rule.now (named_weights weights.now) made.report made.letters.items) }
@@ -155,7 +155,7 @@ fn named(weights: &[u8]) -> Option<&[u8]>
     }
 }
 
-/// Returns the report with the layout of C, and the letters of its words.
+/// Returns a report in the layout of C, and the letters of its words.
 fn written(alloc: Global, found: &Report) -> Result<Reported, AllocError>
     requires { IsShortSum (sum_of found.now.conserving) }
     ensures letters { IfOk result (λ made. made.letters.items ≡ letters_in (evidence_of found.now)) }

@@ -1,4 +1,4 @@
-//! Numbers of the faults of calls about the sums that a rule keeps.
+//! The numbers by which C knows the faults of a call about the sums that a rule keeps.
 ghost use Rattle.std.specs.Prelude.{◌≡◌, Some};
 ghost use Rattle.c_structs.specs.RuleSums.{range_code};
 

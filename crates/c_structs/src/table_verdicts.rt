@@ -6,7 +6,7 @@ ghost use Rattle.c_structs.specs.Verdicts.{AreNone, fault_code, truths_in};
 use rule_verdicts::Truths;
 use word_image::{Rule, RuleFault};
 
-/// The verdicts of a rule, or the number of the fault because of which there is no rule.
+/// The verdicts on a rule, or the number of a fault if there is no rule.
 #[repr(C)]
 #[derive(Clone, Copy, Debug, PartialEq, Eq)]
 pub struct RuleVerdicts {
@@ -27,7 +27,7 @@ pub struct RuleVerdicts {
 }
 
 impl RuleVerdicts {
-    /// Returns the verdicts of a rule. It takes no memory.
+    /// Returns the verdicts on a rule. Needs no memory.
     pub fn of(rule: &Rule) -> RuleVerdicts
         ensures fault { result.fault ≡ 0 }
         ensures are_true { AreTruths rule.now (truths_in result) }
@@ -45,7 +45,7 @@ impl RuleVerdicts {
         }
     }
 
-    /// Returns the struct with this fault, in which all verdicts are `false`.
+    /// Returns the struct that has the number of this fault, and in which all verdicts are `false`.
     pub fn none(fault: RuleFault) -> RuleVerdicts
         ensures fault { result.fault ≡ fault_code (Some fault) }
         ensures none { AreNone result }
@@ -62,7 +62,7 @@ impl RuleVerdicts {
     }
 }
 
-/// Returns the number of a fault of a rule, from 1 to 6.
+/// Returns the number, from 1 to 6, by which C knows this fault of a rule.
 pub fn fault_number(fault: RuleFault) -> u8
     ensures { result ≡ fault_code (Some fault) }
 {

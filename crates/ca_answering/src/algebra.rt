@@ -1,4 +1,4 @@
-//! Answers to questions about rules that are made of other rules.
+//! Answers to questions for a rule that is made from one or two rules.
 ghost use Rattle.std.specs.Prelude.{◌≡◌};
 ghost use Rattle.word_image.specs.LocalRules.{IsRule};
 ghost use Rattle.ca_questions.specs.Questions.{Question};
@@ -8,14 +8,14 @@ ghost use Rattle.ca_questions.specs.Values.{Settles, finding_of};
 use ca_questions::{Cause, Found};
 use word_image::Rule;
 
-/// Returns the mirrored rule as a finding.
+/// Returns the answer to the question for the mirrored rule.
 pub fn reflect(rule: &Rule) -> Found
     ensures { IsFinding (Question.Reflect rule.now) (finding_of result) }
 {
     found(rule.reflect())
 }
 
-/// Returns the rule without the cells at its ends that it ignores, down to a width of 2.
+/// Returns the rule without the cells at both ends of its window that it ignores. The width stays at least 2.
 pub fn trim(rule: &Rule) -> Found
     ensures { IsFinding (Question.Trim rule.now) (finding_of result) }
 {
@@ -32,7 +32,8 @@ pub fn shift(rule: &Rule, by: i8) -> Result<Found, Cause>
     }
 }
 
-/// Returns the rule at this width, with ignored cells on the right, or the cause why there is no such rule.
+/// Returns the same map as a rule of this width, which ignores the cells that were added on the right. Returns the
+/// cause if there is no such rule.
 pub fn widen(rule: &Rule, width: u8) -> Result<Found, Cause>
     ensures { Settles (Question.Widen rule.now width) result }
 {
@@ -63,7 +64,7 @@ pub fn compose(first: &Rule, second: &Rule) -> Result<Found, Cause>
     }
 }
 
-/// Makes the finding that is this rule.
+/// Makes an answer of this rule.
 pub fn found(rule: Rule) -> Found
     ensures made { result ≡ Found.Rule rule }
     ensures accepted { IsRule rule }

@@ -1,4 +1,4 @@
-//! The function `answer`, which calls the function for each kind of question.
+//! The function `answer`, which answers questions of all kinds. It calls the function for the kind of the question.
 ghost use Rattle.std.specs.Prelude.{◌≡◌, option_copied};
 ghost use Rattle.ca_questions.specs.QuestionValues.{IsWhole, question_of};
 ghost use Rattle.ca_questions.specs.Questions as questions;
@@ -14,7 +14,7 @@ use crate::summaries::{classes, sample, survey};
 use ca_questions::{Cause, Found, Question, ShortList, Stop};
 use std::alloc::Global;
 
-/// Returns the finding for a question, or the reason why there is none: a cause why nothing fits, or lack of memory.
+/// Returns the answer to a question, or the reason why there is none: a cause, or lack of memory.
 pub fn answer(alloc: Global, question: &Question) -> Result<Found, Stop>
     requires { IsWhole question.now }
     ensures { Answers (question_of question.now) result }
@@ -46,7 +46,7 @@ pub fn answer(alloc: Global, question: &Question) -> Result<Found, Stop>
     }
 }
 
-/// Turns an answer that can't fail for lack of memory into an answer that can.
+/// Turns the result of a function that needs no memory into the result of `answer`.
 fn settled(found: Result<Found, Cause>) -> Result<Found, Stop>
     ensures { (q : questions.Question) → Settles q found → Answers q result }
 {

@@ -1,4 +1,5 @@
-//! Counts of rules with each property, and of the classes of these rules. Each class is decided only once.
+//! Counts rules with each property, and the classes of these rules. The class of a rule has the rules that differ from
+//! it by a mirror and by the names of the letters. Each class is decided only once.
 ghost use Rattle.std.specs.Prelude.{◌≡◌, ◌<◌, ◌≤◌, ◌+◌, ℕ, List, [], ◌∷◌, ◌++◌, length, nat_eq, None, All, IfOk, OnOk, pos};
 ghost use Rattle.indexmap.specs.IndexMap.{get};
 ghost use Rattle.word_image.specs.LocalRules.{LocalRule, IsRule};
@@ -18,7 +19,7 @@ use rule_verdicts::{Truths, keeps_sums};
 use std::alloc::{AllocError, Global};
 use word_image::Rule;
 
-/// The counts of some rules so far, and the verdicts of the least rules of their classes.
+/// The counts of the rules so far, and the verdicts on the least rule of each of their classes.
 #[derive(Drop)]
 pub struct ClassTally {
     counts: Counts,
@@ -60,8 +61,8 @@ impl ClassTally {
     }
 }
 
-/// Returns the verdicts of this rule, which is the least rule of a class. If `known` has no verdicts for the Wolfram
-/// number of the rule yet, decides the verdicts and stores them in `known` under this number.
+/// Returns the verdicts on this rule, which is the least rule of a class. If `known` has no verdicts for the Wolfram
+/// number of the rule, decides them and stores them in `known` under this number.
 fn decided(known: &mut IndexMap<u128, Truths>, rule: &Rule) -> Result<Truths, AllocError>
     requires states { rule.now.states ≤ 6 }
     requires offset { rule.now.offset ≡ pos 0 }
@@ -89,8 +90,8 @@ fn keep(known: &mut IndexMap<u128, Truths>, number: u128, truths: &Truths) -> Re
     Ok(())
 }
 
-/// Returns the verdicts of a rule, from the verdicts of the least rule of its class. It decides anew whether rings
-/// keep their sums, since new names for the letters change the sums.
+/// Returns the verdicts on a rule, given the verdicts on the least rule of its class. Decides again whether rings keep
+/// their sums, since new names for the letters change the sums.
 fn member_truths(rule: &Rule, mirrored: bool, least: &Truths) -> Truths
     ensures rule { IsRule rule.now }
     ensures truths { (g : LocalRule) → HaveOneVerdict rule.now mirrored g → AreTruths g least.now → AreTruths rule.now result }

@@ -9,8 +9,8 @@ const MULTIPLIER: u64 = 6364136223846793005;
 
 const INCREMENT: u64 = 1442695040888963407;
 
-/// A linear congruential generator modulo 2^64 (Knuth 1969). Each draw gives a letter, by the upper 31 bits of the
-/// state. In contracts the generator is its state.
+/// A linear congruential generator modulo 2^64 (Knuth 1969). It draws a letter from the upper 31 bits of its state. In
+/// contracts the generator is its state.
 #[derive(Debug, Drop)]
 pub struct Generator {
     state: u64,

@@ -14,8 +14,8 @@ use rule_verdicts::injectivity;
 use std::alloc::Global;
 use word_image::Rule;
 
-/// Returns the inverse map of a rule over its least determined window. Returns the cause if the rule isn't injective,
-/// or if its inverse reads too many letters.
+/// Returns the inverse map of a rule, which reads as few letters of an image as possible. Returns the cause if the rule
+/// isn't injective, or if its inverse reads too many letters.
 pub fn inverse(alloc: Global, rule: &Rule) -> Result<Found, Stop>
     ensures { Answers (Question.Inverse rule.now) result }
 {
@@ -26,8 +26,8 @@ pub fn inverse(alloc: Global, rule: &Rule) -> Result<Found, Stop>
     }
 }
 
-/// Returns the inverse map of an injective rule over its least determined window, or the cause if the map reads too
-/// many letters.
+/// Returns the inverse map of an injective rule. `at` is its least determined window (n, c): n letters of an image
+/// determine the letter at place c of each preimage. Returns the cause if the map reads too many letters.
 fn inverse_over(alloc: Global, rule: &Rule, at: WindowAt) -> Result<Found, Stop>
     requires injective { IsInjective rule.now }
     requires least { IsLeastDetermined rule.now at.n at.c }

@@ -1,4 +1,4 @@
-//! Answers about the words that have a preimage.
+//! Answers to questions about the words that have a preimage.
 ghost use Rattle.std.specs.Prelude.{◌≤◌, IfOk, ◌≡◌};
 ghost use Rattle.image_minimal.specs.ImageLanguages.{IsLeastAutomaton};
 ghost use Rattle.ca_questions.specs.Questions.{Question};
@@ -13,7 +13,7 @@ use least_walk::Walker;
 use std::alloc::{AllocError, Global};
 use word_image::Rule;
 
-/// Returns the finding with the least automaton of the words that have a preimage.
+/// Returns the answer with the least automaton of the words that have a preimage.
 pub fn language(alloc: Global, rule: &Rule) -> Result<Found, Stop>
     ensures { Answers (Question.Language rule.now) result }
 {
@@ -24,7 +24,7 @@ pub fn language(alloc: Global, rule: &Rule) -> Result<Found, Stop>
     Ok(Found::Language(automaton(alloc, &minimal)?))
 }
 
-/// Returns the automaton of a surjective rule of k states. It has only one class.
+/// Returns the automaton of a surjective rule of k states. It has one class, since each word has a preimage.
 fn one_class(alloc: Global, k: u8) -> Result<Automaton, AllocError>
     ensures { IfOk result (λ m. automaton_of m ≡ one.one_class k) }
 {
@@ -36,7 +36,7 @@ fn one_class(alloc: Global, k: u8) -> Result<Automaton, AllocError>
     })
 }
 
-/// Returns the least automaton of a rule as a value, with all its rows.
+/// Returns the least automaton in the form that answers have, with the next classes of each class.
 fn automaton(alloc: Global, minimal: &Minimal) -> Result<Automaton, AllocError>
     ensures { IfOk result (λ m. IsLeastAutomaton minimal.now (automaton_of m)) }
 {
@@ -48,8 +48,8 @@ fn automaton(alloc: Global, minimal: &Minimal) -> Result<Automaton, AllocError>
     })
 }
 
-/// Returns the finding with the least word that is an orphan of exactly one of the two rules, or with None if they
-/// have the same orphans. Returns the cause `States` if the rules have different numbers of states.
+/// Returns the least word that is an orphan of exactly one of the two rules, or an answer without a word if they have
+/// the same orphans. Returns the cause `States` if the rules have different numbers of states.
 pub fn same(alloc: Global, first: &Rule, second: &Rule) -> Result<Found, Stop>
     ensures { Answers (Question.Same first.now second.now) result }
 {
@@ -60,7 +60,8 @@ pub fn same(alloc: Global, first: &Rule, second: &Rule) -> Result<Found, Stop>
     }
 }
 
-/// Returns the finding with the least erasable pair, or with None if the rule is surjective.
+/// Returns the least erasable pair: two words that can replace each other in any configuration without a change of the
+/// image. The answer has no pair if the rule is surjective.
 pub fn erase(alloc: Global, rule: &Rule) -> Result<Found, Stop>
     ensures { Answers (Question.Erase rule.now) result }
 {

@@ -1,8 +1,8 @@
 //! The answers to questions about rules. No text is read or written here.
 //!
-//! [`answer`] takes a question as a value, and calls the function that answers it. It returns a *finding*, which is
-//! the answer as a value, or a cause why nothing fits the question, or that there was no memory. Its contract is
-//! `Answers` of ca_questions: by the definitions `IsFinding` and `IsUnfitFor` the finding or the cause is right.
+//! [`answer`] takes a question as a value, and calls the function that answers it. It returns a *finding*, which is the
+//! answer as a value, or a *cause* why the question has no answer, or that there was no memory. Its contract is
+//! `Answers` of ca_questions: the finding or the cause is right, by the definitions `IsFinding` and `IsUnfitFor`.
 //!
 //! Each other function takes the parts of one question. Functions that need no memory can't return a
 //! [`Stop`](ca_questions::Stop), but only a cause. Functions that always have a finding return a
@@ -25,9 +25,9 @@
 //! of the mirrored rule, by new names for the letters. The *second-order lift* of a rule is a reversible rule whose
 //! letters are pairs of its letters (crate rule_classes).
 //!
-//! [`survey`] and [`classes`] count the rules with consecutive numbers. [`sample`] counts rules that a seed
-//! determines: a linear congruential generator draws the letters of their tables, by the upper 31 bits of its states
-//! (Knuth 1969).
+//! [`survey`] and [`classes`] count the rules with consecutive numbers. [`sample`] counts rules that are drawn from a
+//! seed: a linear congruential generator draws the letters of their tables from the upper 31 bits of its states (Knuth
+//! 1969).
 //!
 //! The functions that decide are in other crates. Each function here takes the time and the memory of the function
 //! that it calls.

@@ -8,8 +8,8 @@ use std::alloc::Global;
 use tail_config::Tail;
 use word_image::Rule;
 
-/// Returns the finding with the first placed configuration that the rule maps to this one, or with the first stretch
-/// of this configuration that is an orphan.
+/// Returns the first preimage of this configuration, among those with periodic tails. If there is none, returns the
+/// first part of this configuration that is an orphan.
 pub fn preimage(alloc: Global, rule: &Rule, tail: &Tail) -> Result<Found, Stop>
     requires { rule.now.states ≡ tail.now.states }
     ensures { Answers (Question.Preimage rule.now tail.now.config) result }

@@ -1,4 +1,4 @@
-//! Answers to questions about the verdicts of a rule.
+//! Answers to questions about the verdicts on a rule.
 ghost use Rattle.std.specs.Prelude.{◌≡◌, length, true, option_copied, IfNone, IfOk, IfSome};
 ghost use Rattle.cert_values.specs.Versions.{names_weights};
 ghost use Rattle.ca_questions.specs.Questions.{Question};
@@ -11,7 +11,7 @@ use rule_verdicts::{Evidence, least_orphan};
 use std::alloc::{AllocError, Global};
 use word_image::{Rule, Weights};
 
-/// Returns the verdicts of a rule, each with the least evidence, under these weights. Without weights, each letter
+/// Returns the verdicts on a rule under these weights, each with the least evidence. Without weights, each letter
 /// weighs its own value. Returns the cause `Weights` if there isn't one weight for each letter.
 pub fn report(alloc: Global, rule: &Rule, weights: Option<&[u8]>) -> Result<Found, Stop>
     ensures { Answers (Question.Report rule.now (option_copied weights.entry)) result }
@@ -23,8 +23,8 @@ pub fn report(alloc: Global, rule: &Rule, weights: Option<&[u8]>) -> Result<Foun
     }
 }
 
-/// Returns the named weights if there is one for each letter of the rule, and otherwise None. If no weights are
-/// named, returns the weights by which each letter weighs its own value.
+/// Returns the given weights if there is one for each letter of the rule, and None if not. If no weights are given,
+/// returns the weights by which each letter weighs its own value.
 pub fn weights_for(rule: &Rule, weights: Option<&[u8]>) -> Option<Weights>
     ensures each { IfSome result (λ each. AreFor (option_copied weights.entry) rule.now) }
     ensures weights { IfSome result (λ each. each ≡ weights_by (option_copied weights.entry) rule.now) }
@@ -60,14 +60,14 @@ pub fn certificate(
     }
 }
 
-/// Returns the finding with the least orphan, or with None if the rule is surjective.
+/// Returns the answer with the least orphan, or without an orphan if the rule is surjective.
 pub fn orphan(alloc: Global, rule: &Rule) -> Result<Found, Stop>
     ensures { Answers (Question.Orphan rule.now) result }
 {
     Ok(Found::Orphan(least_orphan(alloc, rule)?))
 }
 
-/// Returns the finding with the Wolfram number of a rule, or with None if the rule has 7 states or more.
+/// Returns the answer with the Wolfram number of a rule, or without a number if the rule has 7 states or more.
 pub fn number(rule: &Rule) -> Found
     ensures { IsFinding (Question.Number rule.now) (finding_of result) }
 {

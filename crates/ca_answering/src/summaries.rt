@@ -1,4 +1,4 @@
-//! Answers to questions that count the rules with each property.
+//! Answers to questions that count, for each property, the rules that have it.
 ghost use Rattle.std.specs.Prelude.{◌≡◌, ℕ, List, ◌+◌, ◌^◌, ◌<◌, ◌≤◌, None, length, reverse, IfOk, pos};
 ghost use Rattle.word_image.specs.LocalRules.{LocalRule, IsRule, IsShape, value};
 ghost use Rattle.rule_verdicts.specs.Numbers.{numbered_rule, numbers_fault, AreVerdictBytes};
@@ -32,7 +32,7 @@ pub fn survey(rules: Numbered) -> Found
     summary(counts_of_numbers(rules.states, rules.width, rules.first, rules.count))
 }
 
-/// Counts for each property how many of the first rules that a seed determines have it. It needs no memory.
+/// Counts for each property how many of the rules that a generator draws from a seed have it. It needs no memory.
 pub fn sample(rules: Drawn) -> Found
     requires { AreDrawn rules }
     ensures { IsFinding (Question.Summary (sample_rules rules.states rules.width rules.seed rules.count)) (finding_of result) }
@@ -40,7 +40,7 @@ pub fn sample(rules: Drawn) -> Found
     summary(counts_of_draws(rules.states, rules.width, rules.seed, rules.count))
 }
 
-/// Makes the finding that has these counts.
+/// Makes the answer that has these counts.
 fn summary(counts: Counts) -> Found
     ensures { (rules : List LocalRule) → AreCounts rules (counts_of counts) → IsFinding (Question.Summary rules) (finding_of result) }
 {
@@ -70,8 +70,8 @@ fn counts_of_numbers(k: u8, m: u8, first: u128, count: u16) -> Counts
     counts_of_bytes(k, m, first, bytes)
 }
 
-/// Returns the counts for the rules with consecutive numbers, starting at `first`. `bytes` has the byte of verdicts
-/// of each rule.
+/// Returns the counts for the rules with consecutive numbers, starting at `first`. `bytes` has one byte for each rule,
+/// with its verdicts.
 fn counts_of_bytes(k: u8, m: u8, first: u128, bytes: &[u8]) -> Counts
     requires accepted { numbers_fault k m first (length bytes.now) ≡ None }
     requires bytes { AreVerdictBytes k m first bytes.now }
@@ -105,7 +105,7 @@ fn classes_of_numbers(
     classes_from(alloc, k, m, table, count)
 }
 
-/// Returns the rule with the number `first`. It is the first one of `count` rules that have consecutive numbers.
+/// Returns the rule with the number `first`. `count` rules have consecutive numbers, and this is the first of them.
 fn first_rule(k: u8, m: u8, first: u128, count: u16) -> Rule
     requires accepted { numbers_fault k m first count ≡ None }
     requires some { 1 ≤ count }
@@ -117,8 +117,8 @@ fn first_rule(k: u8, m: u8, first: u128, count: u16) -> Rule
     }
 }
 
-/// Returns the counts and the classes for `count` rules with consecutive numbers, starting with the number of this
-/// table. It changes the table to the tables of these rules, one after another.
+/// Returns the counts and the classes for `count` rules with consecutive numbers. `table` is the table of the first
+/// rule. The function changes it to the tables of the other rules, one after another.
 fn classes_from(
     alloc: Global,
     k: u8,
@@ -141,7 +141,7 @@ fn classes_from(
     Ok(tally)
 }
 
-/// Returns the counts for the first `count` rules that a seed determines.
+/// Returns the counts for the first `count` rules that a generator draws from the seed.
 fn counts_of_draws(k: u8, m: u8, seed: u64, count: u16) -> Counts
     requires shape { IsShape k m (pos 0) }
     requires few { count ≤ 4096 }
@@ -152,7 +152,7 @@ fn counts_of_draws(k: u8, m: u8, seed: u64, count: u16) -> Counts
     counts_in(k, m, seed, count, &mut table[..size])
 }
 
-/// Returns the same counts as `counts_of_draws`. Each table is drawn into `table`, over the table before.
+/// Returns the same counts as `counts_of_draws`. Draws each table into `table`, in place of the table before.
 fn counts_in(k: u8, m: u8, seed: u64, count: u16, table: &mut [u8]) -> Counts
     requires shape { IsShape k m (pos 0) }
     requires few { count ≤ 4096 }

@@ -1,4 +1,4 @@
-//! Counts of rules with each verdict, and how one more rule is added to them.
+//! Counts, for each property, the rules that have it, one rule after another.
 ghost use Rattle.std.specs.Prelude.{◌<◌, List, [], ◌∷◌, ◌++◌, length};
 ghost use Rattle.word_image.specs.LocalRules.{LocalRule, IsRule};
 ghost use Rattle.rule_verdicts.specs.Truths.{AreTruths};

@@ -1,4 +1,4 @@
--- What the C interface returns to a call: a code, a length, and the output in the caller's buffer.
+-- What the C library returns to a call that runs a command: a code, a length, and the output in the caller's buffer.
 use Rattle.std.specs.Prelude.{◌≡◌, ℕ, ◌<◌, ◌≤◌, List, ◌++◌, length, drop, Some}
 use Rattle.ca_questions.specs.Replies.{Reply}
 use Rattle.ca_text.specs.Replies.{reply_text}
@@ -10,12 +10,12 @@ use Rattle.ca_c.specs.Blocks.{AreWords}
 use Rattle.ca_c.specs.declared.calls.Form.{Form}
 use Rattle.ca_c.specs.declared.calls.Form.TheVariants as form
 
--- the bytes of a reply in the form that a call asks for: what the program prints, or JSON
+-- the bytes of a reply in the form that a call asks for: the text that the program prints, or JSON
 abbrev pub bytes_in : Form → Reply → List ℕ
 bytes_in form.Text = reply_text
 bytes_in form.Json = json_text
 
--- the status and the output belong to a right reply to the words of the block and to the input
+-- the block has words, and some right reply to these words and this input has this status and this output
 pub record IsAnswerIn (bytes_of : Reply → List ℕ) (block input : List ℕ) (status : Status) (output : List ℕ) : Type 0 where
   pub words : List (List ℕ)
   pub in_block : AreWords block words
@@ -24,7 +24,7 @@ pub record IsAnswerIn (bytes_of : Reply → List ℕ) (block input : List ℕ) (
   pub status_is : status ≡ reply_status reply
   pub output_is : output ≡ bytes_of reply
 
--- the code, the length and the buffer that a call returns if the buffer had the bytes `before`
+-- the code, the length and the buffer that a call returns; before the call, the buffer had the bytes `before`
 pub data IsHandedBack (bytes_of : Reply → List ℕ) (block input before : List ℕ) : ℕ → ℕ → List ℕ → Type 0 where
   -- if the buffer has room for the output, the call returns the code of the status, the length of the output, and the output at the beginning of the buffer
   Whole : (status : Status) (output : List ℕ) → IsAnswerIn bytes_of block input status output → length output ≤ length before

@@ -1,4 +1,4 @@
--- Worked examples of a block of words, which the prover computes.
+-- Worked examples of words in one block, each followed by a 0 byte. The prover computes them.
 use Rattle.std.specs.Prelude.{◌≡◌, refl, [], ◌∷◌, codes}
 use Rattle.ca_c.specs.Blocks.{block_of}
 

@@ -1,6 +1,6 @@
--- The weights of words that a call of the C interface gives.
+-- A call of the C library gives weights of words as 16 numbers and says how many of them count.
 use Rattle.std.specs.Prelude.{ℕ, ◌-◌, List, ◌++◌, take, replicate, ℤ, pos}
 
--- the first `count` of 16 weights, followed by zeros up to 16 numbers
+-- the first `count` of the 16 weights, and 0 for all others
 abbrev pub first_weights : ℕ → List ℤ → List ℤ
 first_weights count weights = take count weights ++ replicate (16 - count) (pos 0)

@@ -1,4 +1,4 @@
-//! Calls of the program over bytes in memory: from a block of words and an input to a code and bytes.
+//! Runs a command over bytes in memory. The words of the command line are in one block, each followed by a 0 byte.
 ghost use Rattle.std.specs.Prelude.{◌≡◌, ◌≢◌, ℕ, List, ◌++◌, ◌↔◌, ◌≤◌, length, drop, IfOk, IsTrue, IsFalse};
 ghost use Rattle.ca_questions.specs.Values.{reply_of};
 ghost use Rattle.ca_questions.specs.Writable.{IsWritableReply};
@@ -19,7 +19,7 @@ const NO_WORDS: u8 = 9;
 /// The code if the buffer of the caller is too short for the output.
 pub const SHORT: u8 = 10;
 
-/// The form of the bytes of a reply: printed lines or JSON.
+/// The form in which a call gets a reply: printed lines or JSON.
 #[derive(Clone, Copy, Debug, PartialEq, Eq)]
 pub enum Form {
     /// The lines that the program prints.
@@ -57,9 +57,8 @@ pub struct FormedReply {
     pub output: Output,
 }
 
-/// Runs the command in a block of words over an input, and returns its reply as printed lines or as JSON, as `form`
-/// says. It fails only if the block isn't a list of words or if memory runs out, since bytes in memory can always be
-/// read.
+/// Runs the command in a block of words over an input, and returns its reply in this form. Fails only if the block
+/// isn't a list of words or if memory runs out, since bytes in memory can always be read.
 pub fn call(alloc: Global, form: Form, block: &[u8], input: &[u8]) -> Result<FormedReply, CallFault>
     ensures answer { IfOk result (λ answer. IsAnswerIn (bytes_in form) block.now input.now answer.status answer.output) }
     ensures none { result ≡ Err CallFault.NoWords → (words : List (List ℕ)) → ¬ AreWords block.now words }
@@ -76,7 +75,7 @@ pub fn call(alloc: Global, form: Form, block: &[u8], input: &[u8]) -> Result<For
     })
 }
 
-/// Returns the bytes of a reply, as printed lines or as JSON, as `form` says.
+/// Returns the bytes of a reply in this form.
 fn output_in(alloc: Global, form: Form, reply: &Reply) -> Result<Output, AllocError>
     requires { IsWritableReply (reply_of reply.now) }
     ensures { IfOk result (λ output. output ≡ bytes_in form (reply_of reply.now)) }
@@ -88,7 +87,7 @@ fn output_in(alloc: Global, form: Form, reply: &Reply) -> Result<Output, AllocEr
 }
 
 /// Runs the command in a block of words over an input, and returns its code. Writes the length of the reply to
-/// `output_length`. Writes the bytes of the reply to the buffer if it has room for all of them.
+/// `output_length`. If the buffer `output` has room for the reply, writes the reply to its beginning.
 pub fn hand_back(
     alloc: Global,
     form: Form,
@@ -120,7 +119,7 @@ pub fn hand_back(
     }
 }
 
-/// Writes bytes to the beginning of a buffer, and returns whether the buffer has room for all of them. If it hasn't,
+/// Writes bytes to the beginning of a buffer, and returns whether the buffer has room for all of them. If it doesn't,
 /// the buffer stays as it was.
 pub fn put(bytes: &[u8], buffer: &mut [u8]) -> bool
     ensures room { IsTrue result ↔ (length bytes.now ≤ length buffer.old) }

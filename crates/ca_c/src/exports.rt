@@ -34,22 +34,22 @@ const VERSION: u32 = 2;
 /// The code if memory runs out.
 const MEMORY: u8 = 8;
 
-/// The code if the call wrote what it was asked for: a report, a rule, an order of windows, or a flux.
+/// The code if the call wrote its result: a report, a rule, an order of windows, or a flux.
 const FOUND: u8 = 0;
 
-/// The code if no property has this number.
+/// The code if the number in a call doesn't stand for a property.
 const NO_PROPERTY: u8 = 10;
 
-/// The code if the given order doesn't list each window exactly once.
+/// The code if the order in a call doesn't list each window exactly once.
 const NO_ORDER: u8 = 11;
 
 /// The code if the caller fixes more letters of a table than there are windows.
 const NO_BEGINNING: u8 = 12;
 
-/// The code if no more rule has the property.
+/// The code if no more rule with the property is left.
 const NO_RULE: u8 = 13;
 
-/// The code if a weight lies outside -2^56 to 2^56.
+/// The code if a weight isn't from -2^56 to 2^56.
 const GREAT_WEIGHT: u8 = 16;
 
 /// The code if the rule doesn't keep the sum of these weights.
@@ -63,12 +63,15 @@ pub extern "C" fn ca_version() -> u32
     VERSION
 }
 
-/// Runs the command in a block of words over these bytes of input, as the program does. It writes the length of the
-/// output to `output_length` and the output to the beginning of the buffer, and returns a code.
+/// Runs the command in a block of words over these bytes of input, as the program does. Writes the output to the
+/// beginning of the buffer `output` and its length to `output_length`. Returns one of these codes:
 ///
-/// Codes 0 to 5 are the exit codes of the program. It returns 8 if memory runs out. It returns 9 if a word of the
-/// block isn't UTF-8, or if the last word has no 0 byte after it. With 8 and 9 the length is 0. It returns 10 with
-/// the length of the output if the buffer is too short. With 8, 9 and 10 the buffer stays as it was.
+/// - 0 to 5: the exit code of the program.
+/// - 8: memory runs out. The length is 0.
+/// - 9: a word of the block isn't UTF-8, or the last word has no 0 byte after it. The length is 0.
+/// - 10: the buffer is too short. The length is that of the output.
+///
+/// With 8, 9 and 10 the buffer stays as it was.
 #[unsafe(no_mangle)]
 pub extern "C" fn ca_run(
     alloc: Global,
@@ -83,8 +86,8 @@ pub extern "C" fn ca_run(
     hand_back(alloc, Form::Text, words, input, output, output_length)
 }
 
-/// Runs the command as [`ca_run`] does, but writes the whole reply as one JSON object. Refused certificates and
-/// refused operands have such an object, too. The codes and the lengths have the same meaning as those of [`ca_run`].
+/// Runs the command as [`ca_run`] does, but writes the whole reply as one JSON object. A refused certificate and an
+/// operand with a fault have such an object too. The codes and the lengths are those of [`ca_run`].
 #[unsafe(no_mangle)]
 pub extern "C" fn ca_run_json(
     alloc: Global,
@@ -99,8 +102,8 @@ pub extern "C" fn ca_run_json(
     hand_back(alloc, Form::Json, words, input, output, output_length)
 }
 
-/// Returns the verdicts of the rule with these states, this width, offset 0 and this table. If there is no such rule,
-/// the result has the number of the first fault and no verdicts. It takes no memory.
+/// Returns the verdicts on the rule with these states, this width, offset 0 and this table. If there is no such rule,
+/// the result has the number of the first fault and no verdicts. Needs no memory.
 #[unsafe(no_mangle)]
 pub extern "C" fn ca_verdicts(states: u8, width: u8, table: &[u8]) -> RuleVerdicts
     ensures fault { result.fault ≡ fault_code (rule_fault states width (pos 0) table.now) }
@@ -115,14 +118,16 @@ pub extern "C" fn ca_verdicts(states: u8, width: u8, table: &[u8]) -> RuleVerdic
     }
 }
 
-/// Reports on the rule with these states, this width, this offset and this table: its verdicts, each with the least
-/// evidence. The list of weights has one weight for each letter. If it is empty, each letter weighs its own value.
-/// The function returns 0, writes the report, and writes the letters of the words in the report to the beginning of
-/// the buffer. If the rule has a fault, it also returns 0. Then the report has the number of the first fault and no
-/// letters. The number is 18 if the list has more or fewer weights than the rule has letters.
+/// Writes a report on the rule with these states, this width, this offset and this table: its verdicts, each with the
+/// least evidence. Writes the letters of the words in the report to the beginning of the buffer `letters`, and their
+/// number to `length`. The list of weights has one weight for each letter. If the list is empty, each letter weighs its
+/// own value.
 ///
-/// It returns 10 and the length of the letters if the buffer is too short, and 8 and length 0 if memory runs out. In
-/// both cases, the report and the buffer stay as they were.
+/// If the rule or the list has a fault, the report has only the number of the first fault, without letters. The number
+/// is 18 if the list has more or fewer weights than the rule has letters.
+///
+/// Returns 0 if it wrote the report. Returns 10 and the number of letters if the buffer is too short, and 8 and the
+/// number 0 if memory runs out. With 10 and 8 the report and the buffer stay as they were.
 #[unsafe(no_mangle)]
 pub extern "C" fn ca_report(
     alloc: Global,
@@ -155,11 +160,15 @@ pub extern "C" fn ca_report(
 }
 
 /// Writes letters of the image of a configuration under the rule with these states, this width, this offset and this
-/// table. It writes as many letters as the buffer has room for, and begins with the letter at place `first`. The
-/// middle of the configuration begins at place 0. It returns 0, or the number of the first fault. After a fault the
-/// buffer stays as it was. The number is that of a fault of the rule, 19 if a period is empty, 20 if a letter isn't
-/// below the number of states, or 21 if `first` is more than 2^61 away from place 0 or the buffer has room for more
-/// than 2^61 letters. It takes no memory.
+/// table. Fills the buffer, starting with the letter at place `first`. The middle of the configuration begins at place
+/// 0. Needs no memory.
+///
+/// Returns 0, or the number of the first of these faults. After a fault the buffer stays as it was.
+///
+/// - 1 to 6: the rule has this fault.
+/// - 19: a period is empty.
+/// - 20: a letter isn't below the number of states.
+/// - 21: `first` is more than 2^61 away from place 0, or the buffer has room for more than 2^61 letters.
 #[unsafe(no_mangle)]
 pub extern "C" fn ca_image(
     states: u8,
@@ -185,10 +194,10 @@ pub extern "C" fn ca_image(
     }
 }
 
-/// Writes the verdicts of rules with consecutive numbers, one byte for each rule. The rules have these states, this
-/// width and offset 0. The number of the first rule is `first_high` times 2^64 plus `first_low`. A byte is the sum of
-/// 1 for surjective, 2 for injective, 4 for right-closing, 8 for left-closing, 16 for open and 32 for conserving. It
-/// returns 0, or the number of the first fault. After a fault the bytes stay as they were. It takes no memory.
+/// Writes the verdicts on rules with consecutive numbers, one byte for each rule. The rules have these states, this
+/// width and offset 0. The number of the first rule is `first_high` times 2^64 plus `first_low`. A byte is the sum of 1
+/// for surjective, 2 for injective, 4 for right-closing, 8 for left-closing, 16 for open and 32 for conserving. Returns
+/// 0, or the number of the first fault. After a fault the bytes stay as they were. Needs no memory.
 #[unsafe(no_mangle)]
 pub extern "C" fn ca_verdict_bytes(
     states: u8,
@@ -210,9 +219,9 @@ pub extern "C" fn ca_verdict_bytes(
     }
 }
 
-/// Writes an order of the windows of a shape in which a search soon finds the rules with a property. A property has
-/// the number of its bit in a byte of [`ca_verdict_bytes`]. It returns 0, or the number of the first fault. After a
-/// fault the bytes stay as they were. It takes no memory.
+/// Writes an order of the windows of a shape, in which a search soon finds the rules with a property. The number of a
+/// property is what it adds to a byte of [`ca_verdict_bytes`]. Returns 0, or the number of the first fault. After a
+/// fault the bytes stay as they were. Needs no memory.
 #[unsafe(no_mangle)]
 pub extern "C" fn ca_window_order(property: u8, states: u8, width: u8, order: &mut [u8]) -> u8
     ensures { IsWindowOrder property states width order.old result order.new }
@@ -231,12 +240,15 @@ pub extern "C" fn ca_window_order(property: u8, states: u8, width: u8, order: &m
     FOUND
 }
 
-/// Finds the next rule of a shape that has a property, and writes its table. The rank of a table is the number whose
-/// digits are its letters in this order of windows. Among the tables with the property whose first letters are the
-/// letters of `begin`, the function takes the table of least rank. A letter of `begin` that isn't below the number of
-/// states stands for any letter. If `after` isn't 0, the rank must also be greater than the rank of the table in
-/// `table`. It returns 0, or 13 if no rule is left, or the number of the first fault. Unless it returns 0, the table
-/// stays as it was. It takes no memory.
+/// Finds the next rule of a shape that has a property, and writes its table to `table`. The rank of a table is the
+/// number whose digits are its letters in this order of windows.
+///
+/// The new table has the least rank of all tables that have the property and begin with the letters of `begin`. A
+/// letter of `begin` that isn't below the number of states stands for any letter. If `after` isn't 0, the rank must
+/// also be greater than the rank of the old table.
+///
+/// Returns 0, or 13 if no rule is left, or the number of the first fault. Unless it returns 0, the table stays as it
+/// was. Needs no memory.
 #[unsafe(no_mangle)]
 pub extern "C" fn ca_next_rule(
     property: u8,
@@ -271,9 +283,9 @@ pub extern "C" fn ca_next_rule(
     }
 }
 
-/// Finds all sums of weights of words of length `range` that the rule with these states, this width, offset 0 and
-/// this table keeps, and writes a basis of them. It returns 0, or the number of the first fault. After a fault `sums`
-/// stays as it was. It takes no memory.
+/// Finds all sums of weights of words of length `range` that the rule with these states, this width, offset 0 and this
+/// table keeps, and writes a basis of them to `sums`. Returns 0, or the number of the first fault. After a fault `sums`
+/// stays as it was. Needs no memory.
 #[unsafe(no_mangle)]
 pub extern "C" fn ca_kept_sums(
     states: u8,
@@ -298,12 +310,18 @@ pub extern "C" fn ca_kept_sums(
     0
 }
 
-/// Writes the flux of weights of words of length `range`, for the rule with these states, this width, offset 0 and
-/// this table. The flux has a number for each word of width + range - 2 letters, in the order of their values, and
-/// zeros after these numbers. The number for the word of zeros is 0. The function reads only as many numbers of
-/// `weights` as there are words of this length. It returns 0, or the number of the first fault. After a fault
-/// `numbers` stays as it was. The number is that of a fault of the rule or of the range, 16 if a weight lies outside
-/// -2^56 to 2^56, or 17 if the rule doesn't keep the sum. It takes no memory.
+/// Writes the flux of weights of words of length `range`, for the rule with these states, this width, offset 0 and this
+/// table. The flux has a number for each word of width + range - 2 letters, in the order of their values. The number
+/// for the word of zeros is 0, and so are the numbers after the last word. Reads only as many numbers of `weights` as
+/// there are words of length `range`. Needs no memory.
+///
+/// Returns 0, or the number of the first of these faults. After a fault `numbers` stays as it was.
+///
+/// - 1 to 6: the rule has this fault.
+/// - 14: `range` is 0.
+/// - 15: there are more than 16 words of this length.
+/// - 16: a weight isn't from -2^56 to 2^56.
+/// - 17: the rule doesn't keep the sum.
 #[unsafe(no_mangle)]
 pub extern "C" fn ca_flux(
     states: u8,
@@ -336,7 +354,7 @@ pub extern "C" fn ca_flux(
     }
 }
 
-/// Returns the weights of the words of length `range`, followed by zeros.
+/// Returns the weights of the words of length `range`. The numbers after them are 0.
 fn first_weights(states: u8, range: u8, weights: &Row) -> Row
     requires { states ^ range ≤ 16 }
     ensures { result ≡ first_weights (states ^ range) weights.now }

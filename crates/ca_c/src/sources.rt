@@ -24,7 +24,7 @@ impl Source for SliceSource<'_> {
 
     ghost faults = { λ _. 0 };
 
-    /// Reads as many bytes as `buf` has places and as are left, and returns how many they are.
+    /// Reads as many bytes as `buf` has room for and as are left, and returns how many it read.
     fn read(&mut self, buf: &mut [u8]) -> Result<usize, Failed> {
         let n = buf.len().min(self.rest.len());
         buf[..n].copy_from_slice(&self.rest[..n]);

@@ -1,10 +1,10 @@
--- The statuses with which the program ends.
+-- The program ends with a status, which has an exit code. This file defines the codes, and the status of each reply.
 use Rattle.std.specs.Prelude.{ℕ, ⊤}
 use Rattle.ca_questions.specs.Replies.{Reply}
 use Rattle.ca_cli.specs.declared.status.Status.{Status}
 use Rattle.ca_cli.specs.declared.status.Status.TheVariants.{Done, Refused, Usage, RuleFault, NotFit, TooLong, ReadFault, WriteFault, Memory}
 
--- the number with which the program exits for a status
+-- the exit code of the program for a status
 abbrev pub code_of : Status → ℕ
 code_of Done = 0
 code_of Refused = 1

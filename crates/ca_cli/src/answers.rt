@@ -1,4 +1,4 @@
-//! The status and the output with which the program answers its words. Both are in memory as a whole before the first
+//! The answer of the program to its words: a status and an output. The whole output is in memory before the first
 //! write.
 ghost use Rattle.std.specs.Prelude.{◌≡◌, IfOk, map, string_bytes};
 ghost use Rattle.ca_commands.specs.Commands.{IsCommand, check_command};
@@ -19,8 +19,8 @@ pub struct Answer {
     pub output: Output,
 }
 
-/// Returns the answer to these words and to the bytes that the source has left. Returns an error if a read fails, or
-/// if there is no memory.
+/// Returns the answer to these words and to the bytes that the source has left, which only `check` reads. Returns an
+/// error if a read fails, or if there is no memory.
 pub fn answer_to<S: Source>(
     alloc: Global,
     words: &[String],

@@ -14,7 +14,7 @@ use cert_check::judge;
 use cert_conditions::Refusal;
 use std::alloc::Global;
 
-/// The greatest number of bytes of an input that is judged.
+/// The greatest number of bytes that the judge accepts as an input.
 const LONGEST_INPUT: usize = 4_194_304;
 
 /// Returns the reply of the command `check`: the verdicts of the certificate in the input, the reason why the judge
@@ -36,7 +36,7 @@ pub fn check<S: Source>(alloc: Global, source: &mut S) -> Result<Reply, InputFau
     }
 }
 
-/// Returns the reply for an input that the judge refuses. If the refusal is lack of memory, returns it as the error.
+/// Returns the reply for an input that the judge refuses. If the refusal is lack of memory, returns this as the error.
 fn refused(refusal: Refusal) -> Result<Reply, InputFault>
     ensures { MatchResult result
         (λ reply. (reply ≡ said.Refused refusal) × (refusal ≢ Refusal.Memory alloc_error))

@@ -9,13 +9,13 @@
 //!
 //! 1. `question` of ca_commands reads the words into a question. It fails if the words are no command, if an operand
 //!   isn't the text of a rule, or if the parts of a configuration don't fit.
-//! 2. `answer` of ca_answering finds the answer to the question, or the cause why nothing fits. The command `check`
-//!   asks no question: it reads the whole input from the source, or one byte more than the judge accepts, and passes
-//!   it to the judge. No other command reads the source.
+//! 2. `answer` of ca_answering finds the answer to the question, or the cause why it has none. The command `check` asks
+//!   no question: it reads the whole input from the source, or one byte more than the judge accepts, and passes it to
+//!   the judge. No other command reads the source.
 //! 3. [`reply`] returns the result as a value, for callers who want another form than the text.
 //! 4. The text of the reply is written into memory as a whole.
-//! 5. The text goes to the sink. If a write fails, a sink that tells its bytes has taken a part of the text, but not
-//!   all of it.
+//! 5. The text goes to the sink. If a write fails, a sink that tells its bytes (crate ca_io) has taken a part of the
+//!   text, but not all of it.
 //!
 //! The definition `IsAnswer` of specs/RightAnswers.antt says which status and which output are right for the words
 //! and for the bytes that the source has left. The contract of [`run`] is about this definition. These laws follow
@@ -57,8 +57,8 @@
 //! has four lines. The automaton of a language has two lines, and one more for each class. A certificate is a text
 //! without a line end. Every other output has one line.
 //!
-//! A call takes the time and the memory of its deciders. For n bytes of words, input and output it takes **O(n)**
-//! more time and memory.
+//! A call takes the time and the memory of the functions that decide its question. For n bytes of words, input and
+//! output it takes **O(n)** more time and memory.
 #![tactic(auto)]
 
 mod answers;

@@ -1,4 +1,4 @@
-//! The function `reply`, which returns the reply to words as a value.
+//! The function `reply`, which returns the reply to the words of a command line, as a value and not as text.
 ghost use Rattle.std.specs.Prelude.{◌≡◌, ℕ, List, Option, IfOk, MatchResult, map, string_bytes};
 ghost use Rattle.ca_commands.specs.Asking.{NeedMemory};
 ghost use Rattle.ca_commands.specs.Commands.{IsCommand, check_command};
@@ -43,8 +43,8 @@ pub fn reply<S: Source>(
     Ok(said(found)?)
 }
 
-/// Returns the reply for a finding, or for the reason why nothing was found. If this reason is lack of memory,
-/// returns it as the error.
+/// Returns the reply for an answer to a question, or for the reason why there is none. If this reason is lack of
+/// memory, returns it as the error.
 fn said(found: Result<Found, Stop>) -> Result<Reply, AllocError>
     ensures { (words : List (List ℕ)) (input : Option (List ℕ)) → IsOutcome words found →
         MatchResult result (λ reply. IsReplyTo words input (reply_of reply)) (λ _. NeedMemory words) }

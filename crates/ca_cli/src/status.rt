@@ -8,7 +8,7 @@ use ca_questions::Reply;
 /// The status with which the program ends.
 #[derive(Clone, Copy, Debug, PartialEq, Eq)]
 pub enum Status {
-    /// The command was carried out, and the sink took its whole output.
+    /// The command was carried out, and its whole output was written.
     Done,
     /// The judge refuses the input of `check`.
     Refused,
@@ -16,7 +16,7 @@ pub enum Status {
     Usage,
     /// An operand isn't the text of a rule.
     RuleFault,
-    /// Nothing fits the question that the words ask.
+    /// The words ask a question that has no answer.
     NotFit,
     /// The input of `check` is longer than the judge accepts.
     TooLong,
@@ -29,7 +29,7 @@ pub enum Status {
 }
 
 impl Status {
-    /// Returns the status of the answer that has this reply.
+    /// Returns the status that belongs to this reply.
     pub fn of(reply: &Reply) -> Status
         ensures { result ≡ reply_status (reply_of reply.now) }
     {

@@ -1,5 +1,5 @@
-//! Laws about words, statuses and outputs, for all commands together. Each law is the contract of a function that
-//! does nothing.
+//! Laws about words, statuses and outputs, for all commands together. Each law is the contract of a function that does
+//! nothing. A source tells its bytes if contracts can name the bytes that it has left.
 ghost use Rattle.std.specs.Prelude.{◌≡◌, ◌↔◌, ◌+◌, ◌≤◌, ◌⊎◌, ℕ, List, Option, Some, length};
 ghost use Rattle.word_image.specs.LocalRules.{LocalRule};
 ghost use Rattle.cert_conditions.specs.Accepted.{AreTrue, IsAccepted};
@@ -22,8 +22,8 @@ ghost use Rattle.ca_cli.specs.RightAnswers.{IsAnswer, IsReplyOf, IsReplyTo};
 use crate::status::Status;
 use ca_questions::{found_or_unfit, right_findings_are_writable};
 
-/// Law: words have at most one right status. If the words are no command, or a command that reads nothing, this holds
-/// for any source. For other words it holds if the source tells its bytes.
+/// Law: the same words and the same input have at most one right status. If the words are no command, or a command that
+/// reads nothing, this holds for any source. For other words it holds if the source tells its bytes.
 pub fn one_status()
     ensures unread { (words : List (List ℕ)) (input : Option (List ℕ)) (s t : Status) (out other : List ℕ)
         → ((c : Command) → IsCommand words c → ReadsNothing c)
@@ -41,8 +41,8 @@ pub fn usage_exactly()
         ↔ (((c : Command) → ¬ IsCommand words c) × (out ≡ usage_line)) }
 {}
 
-/// Law: the status RuleFault is right if and only if the words are a command with a refused operand. Its output is
-/// the line with the number of the first such operand and its first fault.
+/// Law: the status RuleFault is right if and only if the words are a command, and one of its operands has a fault. The
+/// output is the line with the number of the first such operand and its first fault.
 pub fn rule_fault_exactly()
     ensures { (words : List (List ℕ)) (input : Option (List ℕ)) (out : List ℕ)
         → IsAnswer words input Status.RuleFault out
@@ -50,16 +50,16 @@ pub fn rule_fault_exactly()
         × IsOperandFault c operand f × (out ≡ operand_fault_line operand f)) }
 {}
 
-/// Law: if words are a command, an answer is right if and only if it is an answer to this command. Then its output is
-/// the text of the finding for the question, of the cause why nothing fits, of the fault of an operand, or of the
-/// judgement about the input.
+/// Law: if the words are a command, an answer is right if and only if it is a right answer to this command. Its output
+/// is the text of the answer to the question, of the cause why there is none, of the fault of an operand, or of the
+/// result of judging the input.
 pub fn right_exactly()
     ensures { (words : List (List ℕ)) (input : Option (List ℕ)) (c : Command) (s : Status) (out : List ℕ)
         → IsCommand words c → IsAnswer words input s out ↔ IsReplyOf input c s out }
 {}
 
-/// Law: let a command read nothing and have no refused operand. If nothing fits its question, only the status NotFit
-/// is right. If something fits, only the status Done is right.
+/// Law: suppose that a command reads nothing and that no operand has a fault. If its question has no answer, only the
+/// status NotFit is right. If its question has an answer, only the status Done is right.
 pub fn done_or_not_fit()
     ensures done { (words : List (List ℕ)) (input : Option (List ℕ)) (c : Command) (s : Status) (out : List ℕ)
         → IsCommand words c → ReadsNothing c → ((operand : ℕ) (f : TextFault) → ¬ IsOperandFault c operand f)
@@ -71,9 +71,9 @@ pub fn done_or_not_fit()
     found_or_unfit();
 }
 
-/// Law: if the source tells its bytes, `check` has exactly one right answer. It is Done with the verdicts if the
-/// input is accepted. It is Refused with the reason if the input is refused. It is TooLong if there are more bytes
-/// than the judge accepts. For any source, no other status is right.
+/// Law: if the source tells its bytes, `check` has exactly one right answer. It is Done with the verdicts if the judge
+/// accepts the input. It is Refused with the reason if the judge refuses the input. It is TooLong if there are more
+/// bytes than the judge accepts. For any source, no other status is right.
 pub fn check_exactly()
     ensures done { (words : List (List ℕ)) (left : List ℕ) (v : Verdicts) (s : Status) (out : List ℕ)
         → IsCommand words check_command → length left ≤ most_input → IsAccepted left v
@@ -89,9 +89,9 @@ pub fn check_exactly()
         → (s ≡ Status.Done) ⊎ ((s ≡ Status.Refused) ⊎ (s ≡ Status.TooLong)) }
 {}
 
-/// Law: `check` accepts the certificate that the program writes for a rule, with or without weights. If the source
-/// tells exactly the bytes of this certificate, only Done is right. The output has the lines of true verdicts about
-/// this rule and these weights.
+/// Law: `check` accepts the certificate that the program writes for a rule, with or without weights. If the input has
+/// exactly the bytes of this certificate, only the status Done is right, and the output has the true verdicts on this
+/// rule with these weights.
 pub fn certified_is_accepted()
     ensures { (input : Option (List ℕ)) (c : Command) (version : CertVersion) (r : LocalRule) (weights : Option (List ℕ)) (out : List ℕ)
         → IsAsked c (Question.Certify version r weights) → IsReplyOf input c Status.Done out
@@ -100,8 +100,8 @@ pub fn certified_is_accepted()
         ↔ ((s ≡ Status.Done) × (lines ≡ accepted_lines v))) }
 {}
 
-/// Law: each right reply to words has a text: each letter in the reply has a digit, and an automaton has all its
-/// rows.
+/// Law: each right reply to words can be written: its letters are below 16, so they have hexadecimal digits, and an
+/// automaton has all its rows.
 pub fn right_replies_are_writable()
     ensures { (words : List (List ℕ)) (input : Option (List ℕ)) (reply : Reply) → IsReplyTo words input reply → IsWritableReply reply }
 {

@@ -1,4 +1,5 @@
--- Which question a command asks about its rules, and which of its operands is refused.
+-- A command has a name, the texts of rules and other operands. This file defines which question a command asks about
+-- its rules, and which of its operands is the first with a fault.
 use Rattle.std.specs.Prelude.{◌≡◌, ℕ, ◌+◌, List, [], ◌∷◌, map, Option, Some, None, ℤ}
 use Rattle.word_image.specs.Digits.{letter_at}
 use Rattle.word_image.specs.LocalRules.{LocalRule}
@@ -15,9 +16,9 @@ use Rattle.ca_commands.specs.WeightTexts.{weights_said}
 use Rattle.ca_questions.specs.Questions.{Question}
 use Rattle.ca_questions.specs.Samples.{survey_rules, sample_rules, sample_fault}
 
--- The question
+-- The question of a command
 
--- the texts in the first list are texts of the rules in the second list, in order
+-- the texts are texts of these rules, in the same order
 pub data AreRuleTexts : List (List ℕ) → List LocalRule → Type 0 where
   NoText : AreRuleTexts [] []
   More : (text : List ℕ) (texts : List (List ℕ)) (r : LocalRule) (rules : List LocalRule) → IsRuleText text r → AreRuleTexts texts rules
@@ -56,13 +57,13 @@ pub data Asks : Name → List LocalRule → List (List ℕ) → Question → Typ
   Classes : (k m from count : List ℕ) → numbers_fault (decimal_value k) (decimal_value m) (decimal_value from) (decimal_value count) ≡ None
       → Asks name.Classes [] (k ∷ m ∷ from ∷ count ∷ []) (Question.Classes (survey_rules (decimal_value k) (decimal_value m) (decimal_value from) (decimal_value count)))
 
--- the command asks the question about the rules whose texts it has
+-- the command asks the question q about the rules whose texts it has
 pub record IsAsked (c : Command) (q : Question) : Type 0 where
   pub rules : List LocalRule
   pub texts : AreRuleTexts c.rules rules
   pub asks : Asks c.name rules c.operands q
 
--- Operands that are refused
+-- Operands with faults
 
 -- i is the number of the first text with a fault, counting from 1, and f is the first fault of this text
 pub data IsFirstFault : List (List ℕ) → ℕ → TextFault → Type 0 where
@@ -70,13 +71,13 @@ pub data IsFirstFault : List (List ℕ) → ℕ → TextFault → Type 0 where
   Later : (text : List ℕ) (texts : List (List ℕ)) (r : LocalRule) (i : ℕ) (f : TextFault) → IsRuleText text r → IsFirstFault texts i f
       → IsFirstFault (text ∷ texts) (i + 1) f
 
--- no rules have the shape and the numbers that the operands give, and the given fault is the first fault of these operands
+-- the operands give the shape and the numbers of many rules, but not all these rules exist; f is the first fault
 pub data IsShapeFault : Form → List (List ℕ) → TextFault → Type 0 where
   Numbers : (k m from count : List ℕ) (f : TextFault) → numbers_fault (decimal_value k) (decimal_value m) (decimal_value from) (decimal_value count) ≡ Some f
       → IsShapeFault Form.Numbers (k ∷ m ∷ from ∷ count ∷ []) f
   Seed : (k m seed count : List ℕ) (f : TextFault) → sample_fault (decimal_value k) (decimal_value m) ≡ Some f → IsShapeFault Form.Seed (k ∷ m ∷ seed ∷ count ∷ []) f
 
--- the operand with this number is the first with a fault, and the given fault is its first fault; the shape of many rules counts as operand 1
+-- operand i is the first operand with a fault, and f is its first fault; operands that give the shape of many rules count as operand 1
 pub data IsOperandFault : Command → ℕ → TextFault → Type 0 where
   OfRule : (c : Command) (i : ℕ) (f : TextFault) → IsFirstFault c.rules i f → IsOperandFault c i f
   OfShape : (c : Command) (f : TextFault) → IsShapeFault (form_of c.name) c.operands f → IsOperandFault c 1 f

@@ -1,4 +1,5 @@
--- What the words of a command line ask, or why nothing is found for them.
+-- The words of a command line may be a command, which asks a question. This file defines the question of the words,
+-- and the reasons why nothing is found for them.
 use Rattle.std.specs.Prelude.{◌≡◌, ℕ, List, [], ◌∷◌, None}
 use Rattle.word_image.specs.LocalRules.{LocalRule}
 use Rattle.rule_text.specs.declared.text_fault.TextFault.{TextFault}
@@ -22,7 +23,7 @@ use Rattle.ca_commands.specs.Asked.{AreRuleTexts, IsAsked, IsOperandFault}
 abbrev pub command_of : Name → List (List ℕ) → List (List ℕ) → Command
 command_of n rules operands = record { name = n; rules = rules; operands = operands }
 
--- the words are a command of this name, with the texts of these rules and with these operands
+-- the words are a command of the name n, with the texts of these rules and with these operands
 pub record IsCall (words : List (List ℕ)) (n : Name) (rules : List LocalRule) (operands : List (List ℕ)) : Type 0 where
   pub texts : List (List ℕ)
   pub is : IsCommand words (command_of n texts operands)
@@ -34,7 +35,7 @@ pub record Ask (words : List (List ℕ)) (q : Question) : Type 0 where
   pub is : IsCommand words command
   pub asked : IsAsked command q
 
--- the words ask this question, whose parts fit together
+-- the words ask the question that the value q of the code represents, and the parts of q fit together
 abbrev pub IsAskedBy : List (List ℕ) → code.Question → Type 0
 IsAskedBy words q = Ask words (question_of q) × IsWhole q
 
@@ -42,14 +43,14 @@ IsAskedBy words q = Ask words (question_of q) × IsWhole q
 abbrev pub NeedMemory : List (List ℕ) → Type 0
 NeedMemory words = (c : Command) × IsCommand words c × CommandNeedsMemory c.name
 
--- the reason why nothing is found for the words: they are no command, or an operand of their command is refused, or nothing fits the question of their command, or there is no memory, which their command may need
+-- why nothing is found for the words: they are no command, or an operand has a fault, or the question has no finding, or there is no memory, which their command may need
 abbrev pub IsStop : List (List ℕ) → Stop → Type 0
 IsStop words stop.Usage = (c : Command) → ¬ IsCommand words c
 IsStop words (stop.RuleFault operand f) = (c : Command) × IsCommand words c × IsOperandFault c operand f
 IsStop words (stop.Unfit u) = (q : Question) × Ask words q × IsUnfitFor q (unfit_of u)
 IsStop words (stop.Memory _) = NeedMemory words
 
--- the operands of a command of this name give the shape, the first number and the count of these rules
+-- the operands of the command n give the shape, the first number and the count of these rules
 pub record AreNumberedBy (n : Name) (operands : List (List ℕ)) (rules : Numbered) : Type 0 where
   pub k : List ℕ
   pub m : List ℕ
@@ -59,7 +60,7 @@ pub record AreNumberedBy (n : Name) (operands : List (List ℕ)) (rules : Number
   pub are : AreNumbered rules
   pub rules_are : rules ≡ record { states = decimal_value k; width = decimal_value m; first = decimal_value first; count = decimal_value count }
 
--- the operands of `sample` give the shape, the seed and the count of these rules
+-- the operands of the command `sample` give the shape, the seed and the count of these rules
 pub record AreDrawnBy (operands : List (List ℕ)) (rules : Drawn) : Type 0 where
   pub k : List ℕ
   pub m : List ℕ
@@ -70,7 +71,7 @@ pub record AreDrawnBy (operands : List (List ℕ)) (rules : Drawn) : Type 0 wher
   pub accepted : sample_fault (decimal_value k) (decimal_value m) ≡ None
   pub rules_are : rules ≡ record { states = decimal_value k; width = decimal_value m; seed = decimal_value seed; count = decimal_value count }
 
--- the operand with this number isn't the text of a rule, and the reason names its first fault
+-- the operand with this number isn't the text of a rule; the reason s names the first fault of the text
 pub record IsRuleFault (operand : ℕ) (text : List ℕ) (s : Stop) : Type 0 where
   pub fault : TextFault
   pub is : s ≡ stop.RuleFault operand fault

@@ -1,4 +1,5 @@
--- The commands of the program: a name, the texts of rules, and other operands.
+-- The commands of the program. A command has a name, the texts of rules, and other operands, whose form depends on the
+-- name.
 use Rattle.std.specs.Prelude.{◌≡◌, ℕ, List, [], ◌∷◌, ◌++◌, length, codes, ℤ, ⊤, ⊥}
 use Rattle.tail_config.specs.TailFaults.{HasForm}
 use Rattle.rule_text.specs.RuleTexts.{IsDecimal, IsOffset}
@@ -59,7 +60,7 @@ CommandNeedsMemory name.Survey = ⊥
 CommandNeedsMemory name.Sample = ⊥
 CommandNeedsMemory _ = ⊤
 
--- what follows the rules of a command: nothing, weights or nothing, an offset, a width of one digit, new letters, a configuration, or numbers or a seed of many rules
+-- the forms of operands after the rules: none, optional weights, an offset, a width of one digit, new letters, a configuration, or the shape with numbers or a seed of many rules
 pub data Form : Type 0 where
   Nothing : Form
   Weights : Form
@@ -84,13 +85,13 @@ form_of name.Classes = Form.Numbers
 form_of name.Sample = Form.Seed
 form_of _ = Form.Nothing
 
--- a command with operands of this form may have none
+-- operands of this form may be missing
 abbrev pub MayBeNone : Form → Type 0
 MayBeNone Form.Nothing = ⊤
 MayBeNone Form.Weights = ⊤
 MayBeNone _ = ⊥
 
--- the text is the one operand of a command with operands of this form
+-- a command with operands of this form can have this text as its only operand
 abbrev pub IsOperand : Form → List ℕ → Type 0
 IsOperand Form.Weights text = AreWeightTexts text
 IsOperand Form.Offset text = (o : ℤ) × IsOffset text o
@@ -99,13 +100,13 @@ IsOperand Form.Colours text = AreColours text
 IsOperand Form.Tail text = HasForm text
 IsOperand _ text = ⊥
 
--- the text says at which number or with which seed many rules begin: it is a number of up to 39 digits, or a seed
+-- the text says where many rules begin, as the form asks: it is their first number, of up to 39 digits, or their seed
 abbrev pub IsBeginning : Form → List ℕ → Type 0
 IsBeginning Form.Numbers text = IsDecimal 1 39 text
 IsBeginning Form.Seed text = IsSeed text
 IsBeginning _ text = ⊥
 
--- the operands that follow the rules have this form: there are none, or one, or four, which are the states, the width, the first number or the seed, and how many rules there are
+-- the operands have this form: there are none, or there is one, or there are four (the states, the width, the first number or the seed, and how many rules)
 abbrev pub AreOperands : Form → List (List ℕ) → Type 0
 AreOperands f [] = MayBeNone f
 AreOperands f (text ∷ []) = IsOperand f text
@@ -126,7 +127,7 @@ check_command = record { name = name.Check; rules = []; operands = [] }
 abbrev pub words_of : Command → List (List ℕ)
 words_of c = word_of c.name ∷ c.rules ++ c.operands
 
--- the words are the words of the command, the command has as many rules as its name needs, and its operands are well formed
+-- the words are those of the command c, which has as many rules as its name needs and operands of the right form
 pub record IsCommand (words : List (List ℕ)) (c : Command) : Type 0 where
   pub words_are : words ≡ words_of c
   pub rules : length c.rules ≡ rule_count c.name

@@ -1,4 +1,4 @@
--- The forms of the texts that commands have as operands.
+-- The forms of the texts that can be operands of commands.
 use Rattle.std.specs.Prelude.{ℕ, ◌^◌, ◌<◌, ◌≤◌, List, length, All}
 use Rattle.word_image.specs.Digits.{IsHexDigit}
 use Rattle.rule_text.specs.RuleTexts.{IsDecimal, decimal_value}

@@ -27,8 +27,8 @@ pub fn is_check(words: &[String]) -> bool
     }
 }
 
-/// Returns the question that words other than `check` ask. Returns `Usage` if they are no command. Otherwise returns
-/// `RuleFault` for the first rule whose text has a fault. Otherwise returns `Unfit` if the parts of a configuration
+/// Returns the question that the words ask. The words must not be the command `check`. Returns `Usage` if they are no
+/// command, or else `RuleFault` for the first operand with a fault, or else `Unfit` if the parts of a configuration
 /// don't fit the rule. The only other error is lack of memory, for a configuration.
 pub fn question(alloc: Global, words: &[String]) -> Result<Question, Stop>
     requires { ¬ IsCommand (map string_bytes words.now) check_command }
@@ -43,7 +43,7 @@ pub fn question(alloc: Global, words: &[String]) -> Result<Question, Stop>
     }
 }
 
-/// Returns the question that the words after this name ask, or the reason why they ask none.
+/// Returns the question that a command with this name and these further words asks, or the reason why it asks none.
 #[tactic(auto, using(crate::proofs::laws::Asking::asking))]
 fn named_question(alloc: Global, name: Name, rest: &[String]) -> Result<Question, Stop>
     requires { name ≡ names.Check → rest.now ≢ [] }
@@ -122,7 +122,7 @@ fn two_rules(name: Name, rest: &[String]) -> Result<(Rule, Rule), Stop>
     Ok((first, second))
 }
 
-/// Reads the first word after a name as the text of a rule, and the second word, if any, as weights.
+/// Reads the first word after a name as the text of a rule, and the second word, if there is one, as weights.
 fn rule_and_weights(name: Name, rest: &[String]) -> Result<(Rule, Option<ShortList>), Stop>
     requires one { rule_count name ≡ 1 }
     requires weights { form_of name ≡ Form.Weights }
@@ -204,8 +204,8 @@ fn preimage(alloc: Global, rest: &[String]) -> Result<Question, Stop>
     }
 }
 
-/// Reads the words of a command about rules with consecutive numbers: states, width, first number and count. A fault
-/// of the states, of the width or of the last number is reported as the fault of operand 1.
+/// Reads the words of a command about rules with consecutive numbers: states, width, first number and count. Returns a
+/// fault of the states, of the width or of the last number as a fault of operand 1.
 fn numbered(rest: &[String]) -> Result<Numbered, Stop>
     ensures { (n : Name) → rule_count n ≡ 0 → form_of n ≡ Form.Numbers → MatchResult result
         (AreNumberedBy n (map string_bytes rest.now))
@@ -228,8 +228,8 @@ fn numbered(rest: &[String]) -> Result<Numbered, Stop>
     }
 }
 
-/// Reads the words after `sample`: states, width, seed and count. A fault of the states or of the width is reported
-/// as the fault of operand 1.
+/// Reads the words after `sample`: states, width, seed and count. Returns a fault of the states or of the width as a
+/// fault of operand 1.
 fn drawn(rest: &[String]) -> Result<Drawn, Stop>
     ensures { MatchResult result
         (AreDrawnBy (map string_bytes rest.now))
@@ -252,7 +252,8 @@ fn drawn(rest: &[String]) -> Result<Drawn, Stop>
     }
 }
 
-/// Reads the rule with this text, which is the operand with this number.
+/// Reads the text of the rule that is the operand with this number. Returns the first fault of the text, with this
+/// number.
 fn rule_operand(number: u8, text: &[u8]) -> Result<Rule, Stop>
     ensures { MatchResult result (IsRuleText text.now) (IsRuleFault number text.now) }
 {

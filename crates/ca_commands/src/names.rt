@@ -2,7 +2,7 @@
 ghost use Rattle.std.specs.Prelude.{◌≡◌, MatchOption};
 ghost use Rattle.ca_commands.specs.Commands.{word_of};
 
-/// The name of a command. In the descriptions of its values, R is the text of a rule.
+/// The name of a command. In the comments on the names, R is the text of a rule.
 #[derive(Clone, Copy, Debug)]
 pub enum Name {
     /// `decide R`, `decide R WEIGHTS`: the report of the rule, which has its verdicts and the evidence for them.
@@ -17,11 +17,11 @@ pub enum Name {
     Brief,
     /// `reflect R`: the mirrored rule.
     Reflect,
-    /// `trim R`: the rule without the cells at its ends that it ignores.
+    /// `trim R`: the rule without the cells at both ends of its window that it ignores.
     Trim,
     /// `shift R N`: the rule that reads N cells further to the right.
     Shift,
-    /// `widen R M`: the rule at width M.
+    /// `widen R M`: the same map as a rule of width M.
     Widen,
     /// `permute R DIGITS`: the rule with new names for its letters.
     Permute,
@@ -39,7 +39,8 @@ pub enum Name {
     Language,
     /// `same R R`: whether the same words have a preimage under both rules.
     Same,
-    /// `erase R`: the least erasable pair of the rule.
+    /// `erase R`: the least erasable pair of the rule. These are two words that can replace each other in any
+    /// configuration.
     Erase,
     /// `preimage R TAIL`: a configuration that the rule maps to the given configuration.
     Preimage,

@@ -1,4 +1,4 @@
-//! Numbers as operands, which are read from their decimal digits.
+//! Functions that read operands which are numbers in decimal digits.
 ghost use Rattle.std.specs.Prelude.{◌≡◌, ◌≤◌, MatchOption};
 ghost use Rattle.rule_text.specs.RuleTexts.{IsDecimal, decimal_value};
 ghost use Rattle.ca_commands.specs.Operands.{IsCount, IsSeed};

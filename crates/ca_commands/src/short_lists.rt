@@ -1,4 +1,4 @@
-//! Operands with an item for each letter: the weights of the letters, or their new names.
+//! Functions that read operands with an item for each letter: the weights of the letters, or their new names.
 ghost use Rattle.std.specs.Prelude.{◌≡◌, [], ◌∷◌, position, ◌==◌, map, MatchOption};
 ghost use Rattle.word_image.specs.Digits.{letter_at};
 ghost use Rattle.ca_commands.specs.Operands.{AreColours};

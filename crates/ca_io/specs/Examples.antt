@@ -1,4 +1,4 @@
--- Worked examples of a sink and a source in memory, which the prover computes.
+-- Worked examples of a sink and a source in memory. The prover computes each of them.
 use Rattle.std.specs.Prelude.{◌≡◌, refl, true, false, [], ◌∷◌, codes}
 use Rattle.ca_io.specs.Faults.{count_up}
 use Rattle.ca_io.specs.Trays.{Tray, empty_tray, after_taking, after_fault}
@@ -14,7 +14,7 @@ count_up-small = refl
 count_up-greatest : count_up 18446744073709551615 ≡ 18446744073709551615
 count_up-greatest = refl
 
--- A sink that has room for three bytes and takes one byte in a call, and whose call 1 fails
+-- A sink that has room for three bytes and takes one byte in a call; call 1, counted from 0, fails
 
 abbrev pub small_tray : Tray
 small_tray = empty_tray 3 1 (1 ∷ [])
@@ -31,7 +31,7 @@ third_write = refl
 full_tray : tray.next_write_fails (after_taking small_tray (codes "aeg")) ≡ true
 full_tray = refl
 
--- A source that has three bytes and gives two bytes in a call, and whose call 1 fails
+-- A source that has three bytes and gives two bytes in a call; call 1, counted from 0, fails
 
 abbrev pub small_feed : Feed
 small_feed = whole_feed (codes "abc") 2 (1 ∷ [])

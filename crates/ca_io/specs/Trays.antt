@@ -1,9 +1,10 @@
--- A tray is the state of a sink of bytes in memory. This file defines the tray after each call.
+-- A tray is the state of a sink of bytes in memory. It takes bytes in pieces until its room is used up, and some of
+-- its calls fail. This file defines the tray after each call.
 use Rattle.std.specs.Prelude.{ℕ, ◌-◌, ◌==◌, nat_le, min, Bool, ◌||◌, List, [], ◌++◌, length}
 use Rattle.std.specs.List.{list_any}
 use Rattle.ca_io.specs.Faults.{count_up}
 
--- the parts of a sink in memory, and the results of its calls so far
+-- the state of a sink in memory: its settings, what its calls have done so far, and the bytes taken
 pub record Tray : Type 0 where
   -- how many bytes the sink takes in all
   pub room : ℕ
@@ -18,16 +19,16 @@ pub record Tray : Type 0 where
   -- the bytes taken so far
   pub taken : List ℕ
 
--- the tray with this room and nothing in it, before its first call
+-- the tray with this room that has taken nothing, before its first call
 abbrev pub empty_tray : ℕ → ℕ → List ℕ → Tray
 empty_tray room piece failing =
     record { room = room; piece = piece; failing = failing; calls = 0; faults = 0; taken = [] }
 
--- the next call fails, since its number is listed or the room is used up
+-- whether the next call fails: the number of the call is in the list `failing`, or the room is used up
 abbrev pub next_write_fails : Tray → Bool
 next_write_fails t = list_any (λ n. n == t.calls) t.failing || nat_le t.room (length t.taken)
 
--- the number of bytes that the next call takes from a piece of this length if the call doesn't fail: at most the greatest length of a piece and the rest of the room
+-- how many of `len` bytes the next call takes if it doesn't fail: the least of `len`, the greatest length of a piece and the rest of the room
 abbrev pub count_to_take : Tray → ℕ → ℕ
 count_to_take t len = min len (min t.piece (t.room - length t.taken))
 

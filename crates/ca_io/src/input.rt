@@ -6,7 +6,7 @@ ghost use Rattle.ca_io.specs.Faults.{Rose};
 use crate::sources::{Failed, Source};
 use std::alloc::{AllocError, Global};
 
-/// The greatest number of bytes that a read asks for at once.
+/// The greatest number of bytes that one read asks for.
 const LONGEST_PIECE: usize = 4096;
 
 /// Why an input couldn't be read.

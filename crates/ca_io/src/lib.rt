@@ -2,8 +2,8 @@
 //!
 //! A source *tells* its bytes if contracts can name the bytes that the source has left. A sink *tells* its bytes if
 //! contracts can name the bytes that the sink has taken. A [`PlainSource`], a [`MemSource`] and a [`MemSink`] tell
-//! their bytes. A [`StdSource`] reads from a reader of std, and a [`StdSink`] writes to a writer of std. These two
-//! tell no bytes. A [`NullSink`] drops its bytes and tells none.
+//! their bytes. A [`StdSource`] reads from a reader of the standard library, and a [`StdSink`] writes to a writer of
+//! this library. These two don't tell their bytes. Nor does a [`NullSink`], which drops them.
 //!
 //! Each source and each sink counts its *faults*, which are the calls that failed. A call returns [`Failed`] only if
 //! it has raised this count, or if the count is at its greatest value, `2^64 - 1`. So a caller with both a source and

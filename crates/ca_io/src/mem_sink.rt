@@ -51,7 +51,7 @@ impl Model for MemSink {
 pub struct RoomRefusal {
     /// The error of the allocation that failed.
     pub fault: AllocError,
-    /// The list of failing calls, as it was given to `with_room`.
+    /// The list of failing calls that was passed to `with_room`.
     pub failing: Vec<u64>,
 }
 

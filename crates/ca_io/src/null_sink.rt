@@ -4,7 +4,8 @@ ghost use Rattle.std.specs.Prelude.{◌≡◌, ◌<◌, None, Ok, length};
 use crate::sinks::Sink;
 use crate::sources::Failed;
 
-/// A sink that takes each piece as a whole, drops it, and never fails. It tells no bytes.
+/// A sink that takes each piece as a whole, drops it, and never fails. Contracts can't name the bytes that it has
+/// taken.
 #[derive(Clone, Copy, Debug, Default)]
 pub struct NullSink;
 

@@ -14,8 +14,9 @@ pub trait Sink {
     // How many writes have failed. The count stops at 2^64 - 1.
     ghost faults: { Self → ℕ };
 
-    /// Takes some of the first bytes of `piece`, which isn't empty, and returns how many it took. Returns `Failed`
-    /// only if it has counted this call as a fault. Then a sink that tells its bytes has taken none.
+    /// Takes some of the first bytes of `piece`, which isn't empty, and returns how many it took. Returns `Failed` only
+    /// if it has counted this call as a fault. If contracts can name the bytes that the sink has taken, a failed call
+    /// has taken none.
     fn write(&mut self, piece: &[u8]) -> Result<usize, Failed>
         requires { 0 < length piece.now }
         ensures bound { WritesAtMost result piece.now }
@@ -25,8 +26,8 @@ pub trait Sink {
         ensures counted { CountsFaults (faults self.old) (faults self.new) result };
 }
 
-/// Writes all of `bytes` in as many calls of the sink as are needed. For an empty output it makes no call. If it
-/// returns `Failed`, the sink has counted the fault, and has taken a part of `bytes`, but not all of them.
+/// Writes all of `bytes` in as many calls of the sink as are needed. Makes no call for an empty output. If it returns
+/// `Failed`, the sink has counted the fault, and has taken a part of `bytes`, but not all of them.
 #[tactic(auto, using(crate::proofs::laws::Pieces::piece_steps))]
 pub fn write_all<T: Sink>(sink: &mut T, bytes: &[u8]) -> Result<(), Failed>
     ensures written { OnOk result (Appends (T.taken sink.old) (T.taken sink.new) bytes.now) }

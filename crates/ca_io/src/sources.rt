@@ -4,8 +4,8 @@ ghost use Rattle.std.specs.Io.{ReadsAtMost};
 ghost use Rattle.std.specs.Io.KnownBytes.{ReadConsumes};
 ghost use Rattle.ca_io.specs.Faults.{CountsFaults};
 
-/// The error of a call that failed and was counted as a fault. If a source or a sink tells its bytes, it has moved no
-/// byte in this call.
+/// The error of a call that failed. The source or the sink has counted this fault. If contracts can name its bytes, it
+/// has moved no byte in this call.
 #[derive(Clone, Copy, Debug, PartialEq, Eq)]
 pub struct Failed;
 
@@ -18,8 +18,8 @@ pub trait Source {
     ghost faults: { Self → ℕ };
 
     /// Reads the next bytes into the first places of `buf`, which isn't empty, and returns how many bytes it read. At
-    /// the end of the input this is 0. Returns `Failed` only if it has counted this call as a fault. Then a source
-    /// that tells its bytes has lost none.
+    /// the end of the input this is 0. Returns `Failed` only if it has counted this call as a fault. If contracts can
+    /// name the bytes that the source has left, a failed call has lost none.
     fn read(&mut self, buf: &mut [u8]) -> Result<usize, Failed>
         requires { 0 < length buf.old }
         ensures bound { ReadsAtMost result buf.new }

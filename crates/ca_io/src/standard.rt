@@ -1,5 +1,6 @@
-//! The source `StdSource` over a reader of std, and the sink `StdSink` over a writer of std. Both tell no bytes,
-//! since no contract can say which bytes came from outside and which bytes arrived there.
+//! The source `StdSource` over a reader of Rust's standard library, and the sink `StdSink` over a writer of this
+//! library. Contracts can't name the bytes of either, since no contract can say which bytes came from outside or
+//! arrived there.
 ghost use Rattle.std.specs.Prelude.{◌≡◌, ℕ, ◌≤◌, None, length, take, IfOk, OnErr};
 ghost use Rattle.std.specs.Io.{ReadsAtMost, WritesAtMost};
 ghost use Rattle.std.specs.Io.KnownBytes.{Appends, ReadConsumes, WriteAppends};
@@ -10,7 +11,7 @@ use crate::sources::{Failed, Source};
 use std::io;
 use std::io::{ErrorKind, Read, Write};
 
-/// A source over a reader of std. It counts each error of the reader as a fault.
+/// A source over a reader of the standard library. It counts each error of the reader as a fault.
 #[derive(Drop)]
 pub struct StdSource<R> {
     inner: R,
@@ -21,7 +22,7 @@ pub struct StdSource<R> {
 impl<R: Read> StdSource<R> {
     ghost use Rattle.ca_io.specs.StdStreams.{source_reader, source_faults};
 
-    /// Makes a source over this reader, with no fault so far.
+    /// Makes a source over this reader. No fault is counted yet.
     pub fn new(inner: R) -> StdSource<R>
         ensures reader { source_reader result ≡ inner }
         ensures faultless { source_faults result ≡ 0 }
@@ -57,8 +58,9 @@ impl<R: Read> Source for StdSource<R> {
     }
 }
 
-/// A sink over a writer of std. It flushes the writer after each piece. It counts each error of the writer as a
-/// fault, and also a write that takes no byte. If the flush fails, a part of the piece has reached the writer.
+/// A sink over a writer of the standard library. It flushes the writer after each piece. It counts each error of the
+/// writer as a fault, and also a write that takes no byte. If the flush fails, a part of the piece has reached the
+/// writer.
 #[derive(Drop)]
 pub struct StdSink<W> {
     inner: W,
@@ -69,7 +71,7 @@ pub struct StdSink<W> {
 impl<W: Write> StdSink<W> {
     ghost use Rattle.ca_io.specs.StdStreams.{sink_writer, sink_faults};
 
-    /// Makes a sink over this writer, with no fault so far.
+    /// Makes a sink over this writer. No fault is counted yet.
     pub fn new(inner: W) -> StdSink<W>
         ensures writer { sink_writer result ≡ inner }
         ensures faultless { sink_faults result ≡ 0 }

@@ -1,4 +1,5 @@
--- The JSON of a cause why nothing fits, of the fault of an operand, and of a refusal.
+-- The JSON of replies without a finding: a cause why a question has no answer, the fault of an operand, and a refusal
+-- of a certificate.
 use Rattle.std.specs.Prelude.{ℕ, List, [], ◌∷◌, ◌++◌, codes, Option, Some, None}
 use Rattle.serde_json.specs.Data.{Data, null, string, Members, put}
 use Rattle.tail_config.specs.TailFaults.{tail_fault_text}
@@ -11,7 +12,7 @@ use Rattle.cert_conditions.specs.declared.refusal_parts.RefusalNumbers.TheVarian
 use Rattle.cert_conditions.specs.RefusalParts.{SaidParts}
 use Rattle.ca_json.specs.Values.{object_of, tagged, status, numbers_json, two}
 
--- the JSON of a cause why nothing fits, under a key for the kind of the cause
+-- the JSON of a cause why a question has no answer, under a key for the kind of the cause
 abbrev pub unfit_json : Unfit → Data
 unfit_json (Unfit.Twins x y) = tagged (codes "twins") (two (word_value x) (word_value y))
 unfit_json (Unfit.Wide n) = tagged (codes "wide") (whole_value n)
@@ -48,7 +49,7 @@ parts_json p = object_of (
     (codes "at", places_json p.numbers) ∷ (named (codes "because") p.because ++ ((codes "cause", string p.cause) ∷ (named (codes "fault") p.fault
     ++ (named (codes "key") p.key ++ (named (codes "side") p.side ++ (status (codes "refused") ∷ [])))))))
 
--- the given members and one more member, which has the given key and the given word, or only the given members if there is no word
+-- the members `ms` and the member of this key and word, or only `ms` if there is no word
 abbrev pub put_named : List ℕ → Option (List ℕ) → Members → Members
 put_named key None ms = ms
 put_named key (Some word) ms = put key (string word) ms

@@ -1,4 +1,4 @@
--- Worked examples: the JSON of replies done by hand, which the prover computes.
+-- Worked examples: the JSON of replies, written by hand. The prover computes the same texts.
 use Rattle.std.specs.Prelude.{◌≡◌, [], ◌∷◌, codes, refl, Some}
 use Rattle.std.specs.Fmt.{digits}
 use Rattle.serde_json.proofs.OnLiterals.{serde_json_on_literals}

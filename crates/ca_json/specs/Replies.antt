@@ -1,4 +1,4 @@
--- The JSON of a reply, and its text.
+-- A reply is the answer to the words of a command line. This file defines the JSON value of a reply and its text.
 use Rattle.std.specs.Prelude.{ℕ, List, [], ◌∷◌, codes}
 use Rattle.serde_json.specs.Data.{Data, boolean, string}
 use Rattle.serde_json.specs.Written.{compact_text}
@@ -18,7 +18,7 @@ verdicts_json v = object_of (
     (codes "conserving", boolean v.conserving) ∷ (codes "injective", boolean v.injective) ∷ (codes "left", boolean v.left) ∷ (codes "open", boolean (is_open v))
     ∷ (codes "right", boolean v.right) ∷ (codes "rule", string (printed_rule v.rule)) ∷ (codes "surjective", boolean v.surjective) ∷ (codes "weights", numbers_json v.weights) ∷ [])
 
--- the JSON object of a reply, with the status of the reply
+-- the JSON object of a reply, which has a key for the status of the reply
 abbrev pub json_of : Reply → Data
 json_of (Reply.Found f) = object_of ((codes "finding", finding_json f) ∷ status (codes "done") ∷ [])
 json_of (Reply.NoFit u) = object_of ((codes "cause", unfit_json u) ∷ status (codes "notfit") ∷ [])

@@ -47,22 +47,22 @@ tail_json t = object_of ((codes "left", word_value t.left) ∷ (codes "middle", 
 
 -- The JSON of verdicts with their evidence
 
--- the JSON that says whether a rule is surjective, and that has the orphan if the rule isn't surjective
+-- the JSON for the question whether a rule is surjective: yes, or no with an orphan
 abbrev pub surjective_json : Option (List ℕ) → Data
 surjective_json None = object_of ((codes "holds", boolean true) ∷ [])
 surjective_json (Some w) = object_of ((codes "holds", boolean false) ∷ (codes "orphan", word_value w) ∷ [])
 
--- the JSON that says whether a rule is injective: it is and there is a window, or it isn't and there are twins
+-- the JSON for the question whether a rule is injective: yes with a window, or no with twins
 abbrev pub injective_json : InjectiveEvidence → Data
 injective_json (Window n c) = object_of ((codes "holds", boolean true) ∷ (codes "window", two (whole_value n) (whole_value c)) ∷ [])
 injective_json (Twins x y) = object_of ((codes "holds", boolean false) ∷ (codes "twins", two (word_value x) (word_value y)) ∷ [])
 
--- the JSON that says whether a rule is closing on a side: it is and there is a look-ahead, or it isn't and there is a split
+-- the JSON for the question whether a rule is closing on a side: yes with a look-ahead, or no with a split
 abbrev pub side_json : SideEvidence → Data
 side_json (Ahead n) = object_of ((codes "ahead", whole_value n) ∷ (codes "holds", boolean true) ∷ [])
 side_json (Split x y) = object_of ((codes "holds", boolean false) ∷ (codes "split", two (tail_json x) (tail_json y)) ∷ [])
 
--- the JSON that says whether a rule is conserving: it is and there is a flux, or it isn't and there is a ring
+-- the JSON for the question whether a rule is conserving: yes with a flux, or no with a ring
 abbrev pub conserving_json : SumEvidence → Data
 conserving_json (Flux phi) = object_of ((codes "flux", array_from (map signed_value phi)) ∷ (codes "holds", boolean true) ∷ [])
 conserving_json (Ring p) = object_of ((codes "holds", boolean false) ∷ (codes "ring", word_value p) ∷ [])

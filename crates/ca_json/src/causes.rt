@@ -1,4 +1,4 @@
-//! The JSON of a cause why nothing fits, and of the fault of an operand.
+//! The JSON of a cause why a question has no answer, and of the fault of an operand.
 ghost use Rattle.std.specs.Prelude.{◌≡◌, IfOk};
 ghost use Rattle.serde_json.specs.View.{view};
 ghost use Rattle.ca_questions.specs.Values.{unfit_of};
@@ -15,7 +15,7 @@ use serde_json::{Value, json};
 use std::alloc::{AllocError, Global};
 use tail_config::tail_name;
 
-/// Returns an object with one key, which names the kind of the cause why nothing fits. For example, it is
+/// Returns an object for a cause why a question has no answer. Its only key names the kind of the cause, for example
 /// `{"twins":["0","1"]}`.
 pub fn unfit_value(alloc: Global, cause: &Cause) -> Result<Value, AllocError>
     requires { IsWritableUnfit (unfit_of cause.now) }

@@ -1,4 +1,4 @@
-//! The JSON of a finding.
+//! The JSON of a finding: the answer to a question about rules.
 ghost use Rattle.std.specs.Prelude.{◌≡◌, codes, IfOk};
 ghost use Rattle.serde_json.specs.View.{view};
 ghost use Rattle.tail_preimage.specs.Answers.{placed_config};
@@ -43,8 +43,8 @@ pub fn finding_value(alloc: Global, found: &Found) -> Result<Value, AllocError>
     }
 }
 
-/// Returns the object of an inverse map: its window, its offset, its letters, and the map as a rule, or null if it
-/// isn't a rule.
+/// Returns the object of an inverse map: its window (n, c), its offset, its letters, and the map as a rule. Instead of
+/// the rule it has null if the map breaks a limit of rules.
 fn inverse_value(alloc: Global, inverse: &Inverse) -> Result<Value, AllocError>
     ensures { IfOk result (λ v. view v ≡ inverse_json inverse.now.n inverse.now.c inverse.now.map inverse.now.rule) }
 {
@@ -68,7 +68,7 @@ fn rule_or_null(alloc: Global, rule: &Option<Rule>) -> Result<Value, AllocError>
     }
 }
 
-/// Returns the array of two words, or null if there is no pair.
+/// Returns the array of the two words of a pair, or null if there is no pair.
 fn pair_or_null(alloc: Global, pair: &Option<Pair>) -> Result<Value, AllocError>
     requires { HavePairDigits (pair_of pair.now) }
     ensures { IfOk result (λ v. view v ≡ pair_or_null (pair_of pair.now)) }
@@ -79,8 +79,7 @@ fn pair_or_null(alloc: Global, pair: &Option<Pair>) -> Result<Value, AllocError>
     }
 }
 
-/// Returns the object for a preimage of a configuration, or for the first stretch of the configuration that is an
-/// orphan.
+/// Returns the object for a preimage of a configuration, or for the first part of the configuration that is an orphan.
 fn preimage_value(alloc: Global, answer: &Pre) -> Result<Value, AllocError>
     requires { IsWritable (preimage_of answer.now) }
     ensures { IfOk result (λ v. view v ≡ finding_json (preimage_of answer.now)) }
@@ -98,7 +97,8 @@ fn preimage_value(alloc: Global, answer: &Pre) -> Result<Value, AllocError>
     }
 }
 
-/// Returns the object of a placed configuration: the place at which its middle begins, and its three parts.
+/// Returns the object of a configuration whose middle begins at a given place: this place, and the three parts of the
+/// configuration.
 fn placed_value(alloc: Global, placed: &Placed) -> Result<Value, AllocError>
     requires { HasTailDigits (placed_config placed.now).config }
     ensures { IfOk result (λ v. view v ≡ placed_json (placed_config placed.now)) }

@@ -1,4 +1,4 @@
-//! The JSON of an automaton.
+//! The JSON of an automaton. Its states are called classes, and it reads words of letters below k.
 ghost use Rattle.std.specs.Prelude.{◌≡◌, ◌<◌, IfOk, map};
 ghost use Rattle.std.specs.List.{range_with_len};
 ghost use Rattle.serde_json.specs.View.{view};
@@ -12,7 +12,7 @@ use ca_questions::Automaton;
 use serde_json::{Value, json};
 use std::alloc::{AllocError, Global};
 
-/// Returns the object of an automaton: its number of states, its number of classes, the class of the orphans, and a
+/// Returns the object of an automaton: its number k of letters, its number of classes, the class of the orphans, and a
 /// row for each class.
 pub fn automaton_value(alloc: Global, automaton: &Automaton) -> Result<Value, AllocError>
     requires { HasRows (automaton_of automaton.now) }
@@ -27,7 +27,7 @@ pub fn automaton_value(alloc: Global, automaton: &Automaton) -> Result<Value, Al
     })
 }
 
-/// Returns the array with the rows of all classes.
+/// Returns the array of the rows of all classes.
 fn rows_value(alloc: Global, automaton: &Automaton) -> Result<Value, AllocError>
     requires { HasRows (automaton_of automaton.now) }
     ensures { IfOk result (λ v. view v
@@ -40,7 +40,7 @@ fn rows_value(alloc: Global, automaton: &Automaton) -> Result<Value, AllocError>
     Ok(Value::from(rows))
 }
 
-/// Returns the row of a class: the array of the classes that follow it, one for each letter.
+/// Returns the row of a class: the array with its next class for each letter.
 fn row_value(alloc: Global, automaton: &Automaton, class: u32) -> Result<Value, AllocError>
     requires rows { HasRows (automaton_of automaton.now) }
     requires class { class < automaton.now.classes }
@@ -51,7 +51,7 @@ fn row_value(alloc: Global, automaton: &Automaton, class: u32) -> Result<Value, 
     classes_value(alloc, &automaton.next[first..first + k])
 }
 
-/// Returns numbers of classes as an array of numbers.
+/// Returns the numbers of classes as a JSON array.
 fn classes_value(alloc: Global, classes: &[u16]) -> Result<Value, AllocError>
     ensures { IfOk result (λ v. view v ≡ numbers_json classes.now) }
 {

@@ -7,8 +7,8 @@
 //! | `status` | Other keys |
 //! |---|---|
 //! | `done` | `finding` with an object, or `verdicts` with the verdicts of an accepted certificate |
-//! | `notfit` | `cause` with an object whose key says why nothing fits |
-//! | `rulefault` | `operand` with its number, `fault` with its kind, and `place` if the fault has a place |
+//! | `notfit` | `cause` with an object whose key says why the question has no answer |
+//! | `rulefault` | `operand` with the operand's number, `fault` with the fault's kind, `place` if the fault has one |
 //! | `refused` | `cause` with a word, `at` with numbers, and `because`, `side`, `key`, `fault` if they exist |
 //! | `toolong`, `usage` | no other key |
 //!

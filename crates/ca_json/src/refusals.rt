@@ -1,4 +1,4 @@
-//! The JSON of a refused certificate.
+//! The JSON of a refusal: the reason why a certificate isn't accepted.
 ghost use Rattle.std.specs.Prelude.{◌≡◌, IfOk, OnOk};
 ghost use Rattle.std.specs.Option.{option_map};
 ghost use Rattle.serde_json.specs.View.{view, members_view};
@@ -10,7 +10,7 @@ use cert_conditions::{Refusal, RefusalNumbers, RefusalParts};
 use serde_json::{Map, Value, json, put};
 use std::alloc::{AllocError, Global};
 
-/// Returns the object with the words and the numbers of a refusal. If the refusal is lack of memory, returns it as
+/// Returns the object with the words and the numbers of a refusal. If the refusal is lack of memory, returns this as
 /// the error.
 pub fn refusal_value(alloc: Global, refusal: Refusal) -> Result<Value, AllocError>
     ensures { IfOk result (λ v. view v ≡ parts_json (parts_of refusal)) }

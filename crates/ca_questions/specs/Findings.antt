@@ -1,4 +1,6 @@
--- Findings as values, which of them are right for a question, and the causes why a question has no finding. Two words are an erasable pair if they can replace each other in any configuration without a change of the image.
+-- A finding is the answer to a question about rules. If a question has no answer, a cause says why. This file defines
+-- findings and causes, and which of them are right for a question. Two words are an erasable pair if they can replace
+-- each other in any configuration without a change of the image.
 use Rattle.std.specs.Prelude.{◌≡◌, ◌≢◌, ℕ, ◌^◌, ◌<◌, ◌≤◌, List, length, slice_index, Bool, Option, Some, None, ℤ, ⊤}
 use Rattle.word_image.specs.LocalRules.{LocalRule, IsRule, mirrored}
 use Rattle.word_image.specs.Words.{IsSurjective}
@@ -28,7 +30,7 @@ use Rattle.ca_questions.specs.Questions.{Question}
 use Rattle.rule_text.specs.PrintedRules.{number_found}
 use Rattle.ca_questions.specs.Counts.{Counts, AreCounts, AreLeastRules}
 
--- a finding answers a question, with one case for each kind of answer
+-- a finding, which answers a question, with one case for each kind of answer
 pub data Finding : Type 0 where
   Report : (evidence : Evidence) → Finding
   Written : (certificate : Certificate) → Finding
@@ -44,7 +46,7 @@ pub data Finding : Type 0 where
   Summary : (counts : Counts) → Finding
   Classes : (counts : Counts) (classes : ℕ) → Finding
 
--- a cause why nothing fits a question, so that the question has no finding
+-- a cause, which is the reason why a question has no finding
 pub data Unfit : Type 0 where
   Twins : (x y : List ℕ) → Unfit
   Wide : (n : ℕ) → Unfit
@@ -55,31 +57,31 @@ pub data Unfit : Type 0 where
   Weights : Unfit
   States : Unfit
 
--- Weights
+-- The weights of a question
 
--- the weight of each letter: the named one, or its own value if no weights are named
+-- the weight of each letter: the weight that the question names, or the value of the letter if it names no weights
 abbrev pub weight_by : Option (List ℕ) → ℕ → ℕ
 weight_by None = λ a. a
 weight_by (Some weights) = slice_index weights
 
--- the weights of all letters of a rule
+-- the weights of all letters of the rule r: the named weights, or the value of each letter if no weights are named
 abbrev pub weights_by : Option (List ℕ) → LocalRule → List ℕ
 weights_by None r = own_weights r.states
 weights_by (Some weights) r = weights
 
--- if weights are named, there is one for each letter
+-- if weights are named, there is one for each letter of the rule
 abbrev pub AreFor : Option (List ℕ) → LocalRule → Type 0
 AreFor None r = ⊤
 AreFor (Some weights) r = length weights ≡ r.states
 
--- What is right
+-- Which findings and causes are right
 
--- the result is the map as a rule, or None if the map breaks a limit of accepted rules
+-- the result is the map g as a rule, or None if this rule would break a limit of accepted rules
 abbrev pub IsMapRule : WindowMap → Option LocalRule → Type 0
 IsMapRule g None = ¬ IsRule (map_rule g)
 IsMapRule g (Some r) = IsRule (map_rule g) × (r ≡ map_rule g)
 
--- the rule is injective, (n, c) is its least determined window, g is its inverse map over this window, and `rule` is the map as a rule, or None if the map breaks a limit of rules
+-- the rule r is injective, (n, c) is its least determined window, g is its inverse map on this window, and `rule` is g as a rule, or None if g breaks a limit of rules
 pub record IsInverseFound (r : LocalRule) (n c : ℕ) (g : WindowMap) (rule : Option LocalRule) : Type 0 where
   pub injective : IsInjective r
   pub least : IsLeastDetermined r n c
@@ -93,12 +95,12 @@ abbrev pub IsSameFound : LocalRule → LocalRule → Option (List ℕ) → Type 
 IsSameFound r s None = HaveSameOrphans r s
 IsSameFound r s (Some w) = Separates r s w
 
--- if there is no pair, the rule is surjective and has no erasable pair; if there is one, the rule isn't surjective and it is the least erasable pair
+-- if there is no pair, the rule is surjective and has no erasable pair; if there is one, the rule isn't surjective, and it is the least erasable pair
 abbrev pub IsErasedFound : LocalRule → Option (List ℕ × List ℕ) → Type 0
 IsErasedFound r None = IsSurjective r × ((x y : List ℕ) → ¬ IsErasable r x y)
 IsErasedFound r (Some pair) = ¬ IsSurjective r × IsLeastErasable r pair.0 pair.1
 
--- the finding is right for the question
+-- the finding is a right answer to the question
 pub data IsFinding : Question → Finding → Type 0 where
   Report : (r : LocalRule) (weights : Option (List ℕ)) (e : Evidence) → AreFor weights r → e.weights ≡ weights_by weights r
       → IsLeastEvidence (weight_by weights) r e → IsFinding (Question.Report r weights) (Finding.Report e)
@@ -129,7 +131,7 @@ pub data IsFinding : Question → Finding → Type 0 where
   Classes : (rules leasts : List LocalRule) (counts : Counts) → AreCounts rules counts → AreLeastRules rules leasts
       → IsFinding (Question.Classes rules) (Finding.Classes counts (length leasts))
 
--- nothing fits the question, because of this cause
+-- the cause is right: it is why the question has no finding
 pub data IsUnfitFor : Question → Unfit → Type 0 where
   Report : (r : LocalRule) (weights : List ℕ) → length weights ≢ r.states → IsUnfitFor (Question.Report r (Some weights)) Unfit.Weights
   Written : (v : CertVersion) (r : LocalRule) (weights : List ℕ) → length weights ≢ r.states → IsUnfitFor (Question.Certify v r (Some weights)) Unfit.Weights

@@ -1,4 +1,5 @@
--- Which question a value of the type Question of the code stands for, and which conditions the parts of the value meet.
+-- The code has a type `Question`. This file says which question of the definitions a value of this type represents,
+-- and which conditions its parts meet.
 use Rattle.std.specs.Prelude.{◌≡◌, ◌≤◌, None, true, pos, ⊤}
 use Rattle.word_image.specs.LocalRules.{IsShape}
 use Rattle.cert_values.specs.Versions.{names_weights}
@@ -10,7 +11,7 @@ use Rattle.ca_questions.specs.declared.question.Drawn.{Drawn}
 use Rattle.ca_questions.specs.Questions.{Question}
 use Rattle.ca_questions.specs.Samples.{survey_rules, sample_rules}
 
--- the question that a value stands for
+-- the question that a value of the code represents
 abbrev pub question_of : code.Question → Question
 question_of (asked.Report r weights) = Question.Report r weights
 question_of (asked.Certify v r weights) = Question.Certify v r weights
@@ -34,18 +35,18 @@ question_of (asked.Survey n) = Question.Summary (survey_rules n.states n.width n
 question_of (asked.Sample d) = Question.Summary (sample_rules d.states d.width d.seed d.count)
 question_of (asked.Classes n) = Question.Classes (survey_rules n.states n.width n.first n.count)
 
--- each of these consecutive numbers has a rule, and there are from 1 to 4,096 of them
+-- there are rules with all these consecutive numbers, and there are from 1 to 4,096 numbers
 pub record AreNumbered (n : Numbered) : Type 0 where
   pub accepted : numbers_fault n.states n.width n.first n.count ≡ None
   pub some : 1 ≤ n.count
   pub few : n.count ≤ 4096
 
--- there are rules of this shape, and at most 4,096 of them are drawn
+-- rules of this shape exist, and at most 4,096 of them are drawn
 pub record AreDrawn (d : Drawn) : Type 0 where
   pub shape : IsShape d.states d.width (pos 0)
   pub few : d.count ≤ 4096
 
--- the parts of the question fit together: a certificate has a version that may name weights, a configuration has as many states as its rule, and there are rules with the numbers or the shape of a question about many rules
+-- the parts fit together: the version of a certificate may name weights, a configuration has as many states as its rule, and many rules have right numbers or a right shape
 abbrev pub IsWhole : code.Question → Type 0
 IsWhole (asked.Certify v r weights) = names_weights v ≡ true
 IsWhole (asked.Preimage r t) = r.states ≡ t.states

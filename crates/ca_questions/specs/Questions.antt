@@ -1,10 +1,10 @@
--- The questions that commands ask, as values: they have rules, weights, numbers and configurations instead of texts.
+-- The questions that commands ask. A question has rules, weights, numbers and configurations as values, not as texts.
 use Rattle.std.specs.Prelude.{ℕ, List, Option, ℤ, All, ⊤, ⊥}
 use Rattle.word_image.specs.LocalRules.{LocalRule, IsRule}
 use Rattle.tail_config.specs.Tails.{TailConfig}
 use Rattle.cert_values.specs.declared.cert_version.CertVersion.{CertVersion}
 
--- a question about rules, weights, numbers and configurations; if it has no weights, each letter weighs its own value
+-- a question, with one case for each kind; if it has no weights, each letter weighs its own value
 pub data Question : Type 0 where
   Report : (r : LocalRule) (weights : Option (List ℕ)) → Question
   Certify : (version : CertVersion) (r : LocalRule) (weights : Option (List ℕ)) → Question
@@ -42,7 +42,7 @@ AnswerNeedsMemory (Unlift r) = ⊥
 AnswerNeedsMemory (Summary rules) = ⊥
 AnswerNeedsMemory _ = ⊤
 
--- the rules of a question are accepted
+-- each rule of the question is within the limits of rules
 abbrev pub AreRules : Question → Type 0
 AreRules (Report r weights) = IsRule r
 AreRules (Certify version r weights) = IsRule r

@@ -1,4 +1,5 @@
--- The rules of `survey` have consecutive numbers, and the rules of `sample` are drawn by a linear congruential generator (Knuth 1969).
+-- The rules that `survey` and `sample` count. The rules of `survey` have consecutive numbers. A linear congruential
+-- generator draws the rules of `sample` (Knuth 1969).
 use Rattle.std.specs.Prelude.{ℕ, zero, suc, ◌+◌, ◌*◌, ◌/◌, ◌%◌, ◌^◌, List, [], ◌∷◌, map, pos, Option}
 use Rattle.std.specs.List.{range_with_len}
 use Rattle.std.specs.Option.{option_map}
@@ -12,7 +13,7 @@ use Rattle.rule_verdicts.specs.Numbers.{numbered_rule}
 abbrev pub survey_rules : ℕ → ℕ → ℕ → ℕ → List LocalRule
 survey_rules k m from count = map (numbered_rule k m) (range_with_len from count)
 
--- the state of the generator after the next draw
+-- the state of the generator after the state s
 unfoldable pub next_state : ℕ → ℕ
 next_state s = (s * 6364136223846793005 + 1442695040888963407) % 2 ^ 64
 
@@ -21,7 +22,7 @@ unfoldable pub state_after : ℕ → ℕ → ℕ
 state_after s zero = s
 state_after s (suc n) = next_state (state_after s n)
 
--- the letter below k of draw i, counting from 0, if the generator begins at the state s
+-- draw i, counted from 0, of a generator that begins at the state s: a letter below k
 unfoldable pub drawn : ℕ → ℕ → ℕ → ℕ
 drawn k s i = (state_after s (i + 1) / 2 ^ 33) % k
 
@@ -29,7 +30,7 @@ drawn k s i = (state_after s (i + 1) / 2 ^ 33) % k
 abbrev pub drawn_rule : ℕ → ℕ → ℕ → LocalRule
 drawn_rule k m s = record { states = k; width = m; offset = pos 0; table = map (drawn k s) (range_with_len 0 (k ^ m)) }
 
--- the first `count` rules that are drawn from the state s: the draws of each rule begin at the state after the draws of the rule before it
+-- the first `count` rules that are drawn from the state s on: each rule begins at the state that the rule before it left
 unfoldable pub sample_rules : ℕ → ℕ → ℕ → ℕ → List LocalRule
 sample_rules k m s zero = []
 sample_rules k m s (suc count) = drawn_rule k m s ∷ sample_rules k m (state_after s (k ^ m)) count

@@ -1,4 +1,5 @@
--- The findings, causes and replies for which values of the code stand, and the right answers to a question.
+-- The code has types for findings, causes and replies. This file says which finding, cause or reply of the definitions
+-- a value of these types represents, and which results are right for a question.
 use Rattle.std.specs.Prelude.{ℕ, List, Option, Some, None, Result, MatchResult}
 use Rattle.certificate_laws.specs.ReportValues.{evidence_of}
 use Rattle.image_minimal.specs.ImageLanguages as languages
@@ -43,7 +44,7 @@ abbrev pub preimage_of : Pre → Finding
 preimage_of (From p) = Finding.Preimage (placed_config p)
 preimage_of (Gap before after w) = Finding.Gap before after w
 
--- the finding for which a value of the code stands
+-- the finding that a value of the code represents
 abbrev pub finding_of : Found → Finding
 finding_of (found.Report e) = Finding.Report (evidence_of e)
 finding_of (found.Written c) = Finding.Written c
@@ -58,7 +59,7 @@ finding_of (found.Preimage p) = preimage_of p
 finding_of (found.Summary t) = Finding.Summary (counts_of t)
 finding_of (found.Classes t n) = Finding.Classes (counts_of t) n
 
--- the cause for which a value of the code stands
+-- the cause that a value of the code represents
 abbrev pub unfit_of : Cause → Unfit
 unfit_of (unfit.Twins p) = Unfit.Twins p.x p.y
 unfit_of (unfit.Wide n) = Unfit.Wide n
@@ -69,21 +70,21 @@ unfit_of (unfit.Tail f) = Unfit.Tail f
 unfit_of unfit.Weights = Unfit.Weights
 unfit_of unfit.States = Unfit.States
 
--- the result answers a question that needs no memory: it is a right finding, or a right cause why nothing fits
+-- the result is right for a question that needs no memory: a right finding, or a right cause why there is none
 abbrev pub Settles : Question → Result Found Cause → Type 0
 Settles q result = MatchResult result (λ f. IsFinding q (finding_of f)) (λ u. IsUnfitFor q (unfit_of u))
 
--- the question has no finding for this reason: a right cause, or lack of memory, which its answer may need
+-- the reason is right for a question without a finding: a right cause, or that there is no memory
 abbrev pub IsStopFor : Question → Stop → Type 0
 IsStopFor q (stop.Unfit u) = IsUnfitFor q (unfit_of u)
 IsStopFor q (stop.Memory _) = AnswerNeedsMemory q
 IsStopFor q _ = ⊥
 
--- the result answers the question: it is a right finding, a right cause why nothing fits, or lack of memory
+-- the result is right for the question: a right finding, a right cause why there is none, or that there is no memory
 abbrev pub Answers : Question → Result Found Stop → Type 0
 Answers q result = MatchResult result (λ f. IsFinding q (finding_of f)) (IsStopFor q)
 
--- the reply for which a value of the code stands
+-- the reply that a value of the code represents
 abbrev pub reply_of : said.Reply → Reply
 reply_of (reply.Found f) = Reply.Found (finding_of f)
 reply_of (reply.NoFit u) = Reply.NoFit (unfit_of u)

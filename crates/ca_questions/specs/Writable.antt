@@ -1,4 +1,5 @@
--- Values that can be written: each letter is below 16, so it has a hexadecimal digit, and an automaton has all its rows.
+-- The program writes each letter as a hexadecimal digit, so letters must be below 16. This file defines which
+-- findings, causes and replies can be written.
 use Rattle.std.specs.Prelude.{◌≡◌, ◌*◌, ◌≤◌, ℕ, List, Option, length, IfSome, ⊤}
 use Rattle.word_image.specs.LocalRules.{IsWord}
 use Rattle.tail_config.specs.Tails.{TailConfig}
@@ -15,7 +16,7 @@ HasDigits word = IfSome word (IsWord 16)
 abbrev pub HavePairDigits : Option (List ℕ × List ℕ) → Type 0
 HavePairDigits pair = IfSome pair (λ p. IsWord 16 p.0 × IsWord 16 p.1)
 
--- if the evidence is twins, their letters are below 16
+-- if the evidence is twins, which are two words, their letters are below 16
 abbrev pub HasTwinDigits : InjectiveEvidence → Type 0
 HasTwinDigits (Window n c) = ⊤
 HasTwinDigits (Twins x y) = IsWord 16 x × IsWord 16 y
@@ -29,7 +30,7 @@ HasRingDigits (Ring p) = IsWord 16 p
 abbrev pub HasTailDigits : TailConfig → Type 0
 HasTailDigits t = IsWord 16 t.left × IsWord 16 t.middle × IsWord 16 t.right
 
--- the automaton has a following class for each class and each letter, and from 1 to 16 letters
+-- the automaton has from 1 to 16 letters, and a next class for each class and each letter
 pub record HasRows (m : Automaton) : Type 0 where
   pub some : 1 ≤ m.states
   pub most : m.states ≤ 16
@@ -51,7 +52,7 @@ abbrev pub IsWritableUnfit : Unfit → Type 0
 IsWritableUnfit (Unfit.Twins x y) = IsWord 16 x × IsWord 16 y
 IsWritableUnfit _ = ⊤
 
--- the reply can be written: if it has a finding or a cause, the finding or the cause can be written
+-- the reply can be written: its finding or its cause can be written, if it has one
 abbrev pub IsWritableReply : Reply → Type 0
 IsWritableReply (Reply.Found f) = IsWritable f
 IsWritableReply (Reply.NoFit u) = IsWritableUnfit u

@@ -1,4 +1,4 @@
-//! The findings for questions, and the causes why nothing fits a question.
+//! Findings, which are the right answers to questions about rules, and causes, which say why a question has no finding.
 use cert_conditions::Report;
 use cert_values::Cert;
 use inverse_table::InverseMap;
@@ -10,7 +10,7 @@ use tail_config::TailFault;
 use tail_preimage::Pre;
 use word_image::{Rule, Word};
 
-/// The finding for a question, which is its right answer as a value.
+/// A finding: the right answer to a question, as a value.
 #[derive(Drop)]
 pub enum Found {
     /// The verdicts of a rule, each with the least evidence.
@@ -29,9 +29,10 @@ pub enum Found {
     Language(Automaton),
     /// The least word that is an orphan of exactly one of two rules, or None if there is none.
     Same(Option<Word>),
-    /// The least erasable pair of a rule, or None if the rule is surjective.
+    /// The least erasable pair of a rule, or None if the rule is surjective. An erasable pair is two words that can
+    /// replace each other in any configuration without a change of the image.
     Erased(Option<Pair>),
-    /// A preimage of a configuration, or a stretch of the configuration that is an orphan.
+    /// A preimage of a configuration, or a part of the configuration that is an orphan.
     Preimage(Pre),
     /// How many of the rules that the question names have each property.
     Summary(Counts),
@@ -39,7 +40,8 @@ pub enum Found {
     Classes(Counts, usize),
 }
 
-/// An inverse map over the window (n, c), and the map as a rule, if it keeps the limits of rules.
+/// An inverse map: it reads n letters of an image and returns the letter at place c of the preimage. `rule` is the map
+/// as a rule, or None if it breaks a limit of rules.
 #[derive(Drop)]
 pub struct Inverse {
     pub n: u16,
@@ -48,8 +50,9 @@ pub struct Inverse {
     pub rule: Option<Rule>,
 }
 
-/// An automaton whose classes are numbers. `next` has the class that follows class i on letter a at the place i k +
-/// a, for k states. `dead` is the class of the orphans, if any.
+/// An automaton. Its states are called classes and are numbers. It reads words of k letters, and `states` is k. The
+/// class that follows class i on the letter a is at the place i k + a of `next`. `dead` is the class of the orphans, if
+/// there are any.
 #[derive(Drop)]
 pub struct Automaton {
     pub states: u8,
@@ -58,7 +61,7 @@ pub struct Automaton {
     pub dead: Option<u32>,
 }
 
-/// A pair of words: twins, or an erasable pair.
+/// A pair of words: twins, which are two words whose rings have the same image, or an erasable pair.
 #[derive(Drop)]
 pub struct Pair {
     pub x: Word,
@@ -77,7 +80,7 @@ pub struct Counts {
     pub conserving: u16,
 }
 
-/// Why nothing fits a question.
+/// A cause: why a question has no finding.
 #[derive(Drop)]
 pub enum Cause {
     /// The rule has these twins, so it has no inverse.
@@ -105,7 +108,7 @@ pub enum Stop {
     Usage,
     /// The operand with this number, starting at 1, is refused because of this fault.
     RuleFault(u8, TextFault),
-    /// Nothing fits the question, because of this cause.
+    /// The question of the words has no finding, because of this cause.
     Unfit(Cause),
     /// There is not enough memory.
     Memory(AllocError),

@@ -1,11 +1,12 @@
-//! Questions about rules, their findings, and the causes why nothing fits. All of them are values, without texts.
+//! Questions about rules, their answers, and the causes why a question has no answer. All of them are values, without
+//! texts.
 //!
-//! A question names its rules and, if needed, weights, numbers, letters or a configuration. A *finding* is a value
-//! that answers a question. For example, findings are verdicts with their evidence, a certificate, a rule, an
-//! automaton, a word, or counts. The *shape* of a rule is its number of states, its width and its offset. If a
-//! question can have no finding, nothing *fits* it. Then a *cause* says why. For example, the question for the
-//! inverse of rule 170 has a finding: the map 0 1 over the window (1, 2). Nothing fits the question for the inverse
-//! of rule 90. The cause is the twins 0 and 1, whose rings have the same image.
+//! A question names its rules and, if needed, weights, numbers, letters or a configuration. A *finding* is the answer
+//! to a question as a value. For example, findings are verdicts with their evidence, a certificate, a rule, an
+//! automaton, a word, or counts. The *shape* of a rule is its number of states, its width and its offset. If a question
+//! has no finding, nothing *fits* it, and a *cause* says why. For example, the question for the inverse of rule 170 has
+//! a finding: the map 0 1 over the window (1, 2). The question for the inverse of rule 90 has none. The cause is the
+//! twins 0 and 1, whose rings have the same image.
 //!
 //! The evidence for a verdict has these kinds. An *orphan* is a word without a preimage. A *window* (n, c) says that
 //! n letters of an image determine the letter at place c of each preimage. *Twins* are two different words of the
@@ -31,9 +32,9 @@
 //! result of judging an input, or that the words are no command. A reply has two forms, a text and JSON.
 //!
 //! [`Question`], [`Found`], [`Cause`] and [`Reply`] are these values in code, as plain enums. `question_of`,
-//! `finding_of`, `unfit_of` and `reply_of` map them to the values of the definitions. A [`Stop`] says why nothing was
-//! found for words or for a question: the words are no command, an operand has a fault, nothing fits, or there is no
-//! memory.
+//! `finding_of`, `unfit_of` and `reply_of` map them to the values of the definitions. A [`Stop`] says why no finding
+//! was found for words or for a question: the words are no command, an operand has a fault, the question has no
+//! finding, or there is no memory.
 //!
 //! A text or JSON has a hexadecimal digit for each letter of a word, so letters must be below 16. A finding is
 //! *writable* if its letters are below 16 and its automaton, if it has one, has all its rows. The law
@@ -55,13 +56,13 @@ pub use question::{Drawn, Numbered, Question};
 pub use reply::Reply;
 pub use short_list::ShortList;
 
-/// Law: no question has both a right finding and a right cause why nothing fits.
+/// Law: no question has both a right finding and a right cause why it has none.
 pub fn found_or_unfit()
     ensures { (q : questions.Question) (f : Finding) (u : Unfit) → IsFinding q f → ¬ IsUnfitFor q u }
 {}
 
-/// Law: right findings and right causes for accepted rules are writable: their letters have hexadecimal digits, and
-/// automata have all their rows.
+/// Law: right findings and right causes for accepted rules can be written. Their letters are below 16, so they have
+/// hexadecimal digits, and automata have all their rows.
 pub fn right_findings_are_writable()
     ensures found { (q : questions.Question) (f : Finding) → AreRules q → IsFinding q f → IsWritable f }
     ensures unfit { (q : questions.Question) (u : Unfit) → AreRules q → IsUnfitFor q u → IsWritableUnfit u }

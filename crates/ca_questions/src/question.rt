@@ -1,4 +1,4 @@
-//! Questions about rules, as values.
+//! Questions about rules, as values and not as texts.
 ghost use Rattle.std.specs.Prelude.{◌≡◌, ◌≤◌, ◌^◌, ℕ, None, Some, IfOk, MatchOption, MatchResult};
 ghost use Rattle.rule_verdicts.specs.Numbers.{numbers_fault};
 ghost use Rattle.ca_questions.specs.QuestionValues.{AreDrawn, AreNumbered};
@@ -11,7 +11,7 @@ use rule_verdicts::fault_past_all;
 use tail_config::Tail;
 use word_image::Rule;
 
-/// A question. If no weights are named, each letter weighs its own value.
+/// A question. Some questions have weights; if none are given, each letter weighs its own value.
 #[derive(Drop)]
 pub enum Question {
     /// What are the verdicts of the rule under these weights, each with the least evidence?
@@ -24,11 +24,11 @@ pub enum Question {
     Number(Rule),
     /// What is the mirrored rule?
     Reflect(Rule),
-    /// What is the rule without the cells at its ends that it ignores?
+    /// What is the rule if the cells at both ends of its window that it ignores are left out?
     Trim(Rule),
     /// What is the rule whose window is this many cells further to the right?
     Shift(Rule, i8),
-    /// What is the rule at this width?
+    /// What is the same map as a rule of this width?
     Widen(Rule, u8),
     /// What is the rule with new names for its letters? Letter a gets the name at place a.
     Permute(Rule, ShortList),
@@ -46,13 +46,14 @@ pub enum Question {
     Language(Rule),
     /// Do both rules have the same orphans?
     Same(Rule, Rule),
-    /// What is the least erasable pair of the rule?
+    /// What is the least erasable pair of the rule? These are two words that can replace each other in any
+    /// configuration without a change of the image.
     Erase(Rule),
     /// What is a preimage of this configuration under the rule?
     Preimage(Rule, Tail),
     /// How many of the rules with these numbers have each property?
     Survey(Numbered),
-    /// How many of the rules that this seed determines have each property?
+    /// How many of the rules that a generator draws from this seed have each property?
     Sample(Drawn),
     /// How many of the rules with these numbers have each property, and how many classes do these rules have?
     Classes(Numbered),
@@ -68,8 +69,8 @@ pub struct Numbered {
 }
 
 impl Numbered {
-    /// Makes `count` consecutive numbers, starting at `first`. If `first` is None, it stands for a number of 2^128 or
-    /// more. Returns the first fault of the shape, or a fault of the last number, if there is one.
+    /// Makes `count` consecutive numbers, starting at `first`. None as `first` stands for a number of 2^128 or more.
+    /// Returns the first fault of the shape, or else the fault of the last number, if there is one.
     pub fn of(k: u8, m: u8, first: Option<u128>, count: u16) -> Result<Numbered, TextFault>
         requires some { 1 ≤ count }
         requires few { count ≤ 4096 }
@@ -94,7 +95,7 @@ impl Numbered {
     }
 }
 
-/// The first rules that a seed determines. All of them have the same shape, with offset 0.
+/// The first rules that a generator draws from a seed. All of them have the same shape, with offset 0.
 #[derive(Clone, Copy, Debug)]
 pub struct Drawn {
     pub states: u8,
@@ -104,7 +105,8 @@ pub struct Drawn {
 }
 
 impl Drawn {
-    /// Makes the first `count` rules of this shape that the seed determines, or returns the first fault of the shape.
+    /// Makes the first `count` rules of this shape that a generator draws from the seed. Returns the first fault of the
+    /// shape, if it has one.
     pub fn of(k: u8, m: u8, seed: u64, count: u16) -> Result<Drawn, TextFault>
         requires few { count ≤ 4096 }
         ensures accepted { IfOk result AreDrawn }

@@ -1,4 +1,4 @@
-//! Replies to the words of a command line, as values.
+//! The type `Reply`: replies to the words of a command line, as values and not as texts.
 use crate::found::{Cause, Found};
 use cert_conditions::{Refusal, Verdicts};
 use rule_text::TextFault;
@@ -6,9 +6,9 @@ use rule_text::TextFault;
 /// The reply to the words of a command line.
 #[derive(Drop)]
 pub enum Reply {
-    /// The finding for the question that the words ask.
+    /// The words ask a question, and this is its right answer.
     Found(Found),
-    /// Nothing fits the question that the words ask, because of this cause.
+    /// The words ask a question that has no answer, because of this cause.
     NoFit(Cause),
     /// The operand with this number, starting at 1, isn't the text of a rule. If the words ask about many rules, a
     /// fault of their shape counts as a fault of operand 1.

@@ -1,4 +1,4 @@
--- Lines of the output, worked by hand, which the prover computes.
+-- Lines of the output, worked out by hand. The prover computes the same lines.
 use Rattle.std.specs.Prelude.{◌≡◌, refl, ◌∷◌, [], codes, Some}
 use Rattle.std.specs.Fmt.{digits}
 use Rattle.rule_text.specs.declared.text_fault.TextFault.TheVariants as fault

@@ -1,4 +1,5 @@
--- The lines that the program prints for findings, except for reports.
+-- The lines that the program prints for findings, which are the answers to questions. The lines of reports are in
+-- another file.
 use Rattle.std.specs.Prelude.{ℕ, ◌+◌, ◌-◌, ◌*◌, List, ◌++◌, codes, slice_index, Option, None, Some}
 use Rattle.std.specs.List.{flat_map, range_with_len}
 use Rattle.std.specs.Fmt.{decimal}
@@ -44,11 +45,11 @@ class_line m i = line (decimal (after_class m i 0) ++ flat_map (λ a. codes " " 
 abbrev pub automaton_lines : Automaton → List ℕ
 automaton_lines m = classes_line m.classes ++ dead_line m.dead ++ flat_map (class_line m) (range_with_len 0 m.classes)
 
--- the text of a placed configuration: the place at which its middle begins, and the configuration
+-- the text of a placed configuration: the word `preimage`, the place at which its middle begins, and the configuration
 abbrev pub placed_text : PlacedConfig → List ℕ
 placed_text p = codes "preimage " ++ offset_text p.at ++ codes " " ++ tail.printed p.config
 
--- the text of a stretch of a configuration without a preimage: how many left and right periods it spans, and its word
+-- the text of a gap, which is a part of a configuration without a preimage: how many left and right periods it spans, and its word
 abbrev pub gap_text : ℕ → ℕ → List ℕ → List ℕ
 gap_text before after w = codes "no preimage " ++ decimal before ++ codes " " ++ decimal after ++ codes " " ++ word_text w
 

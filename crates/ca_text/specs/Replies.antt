@@ -1,4 +1,5 @@
--- The texts that the program prints for all replies.
+-- A reply is the answer to the words of a command line. This file defines the text that the program prints for a
+-- reply.
 use Rattle.std.specs.Prelude.{ℕ, List}
 use Rattle.ca_questions.specs.Replies.{Reply}
 use Rattle.ca_text.specs.Texts.{text_of, unfit_text}

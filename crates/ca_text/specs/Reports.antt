@@ -1,4 +1,4 @@
--- How a line is written, and the lines of a report.
+-- A report has verdicts on a rule, with evidence. This file defines its lines, and how any line is written.
 use Rattle.std.specs.Prelude.{ℕ, List, [], ◌∷◌, ◌++◌, codes, Option, None, Some, if◌then◌else◌}
 use Rattle.std.specs.List.{flat_map}
 use Rattle.std.specs.Fmt.{decimal}
@@ -12,7 +12,7 @@ use Rattle.certificate_laws.specs.LeastEvidence.{Evidence}
 abbrev pub line : List ℕ → List ℕ
 line text = text ++ 10 ∷ []
 
--- the line with the number of a rule, or with none if it has none
+-- the line with the Wolfram number of a rule, or with the word none if the rule has none
 abbrev pub number_line : Option ℕ → List ℕ
 number_line None = line (codes "number none")
 number_line (Some n) = line (codes "number " ++ decimal n)

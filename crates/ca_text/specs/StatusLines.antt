@@ -1,4 +1,5 @@
--- The lines of replies other than findings: about words that are no command, operands with faults, causes why nothing fits, inputs that are too long, and certificates.
+-- The lines of replies other than findings: about words that are no command, operands with faults, causes why a
+-- question has no answer, inputs that are too long, and certificates.
 use Rattle.std.specs.Prelude.{ℕ, Bool, List, [], ◌++◌, length, codes, bytes_eq, if◌then◌else◌, Option, Some, None}
 use Rattle.std.specs.List.{join_by}
 use Rattle.std.specs.Fmt.{decimal}
@@ -26,7 +27,7 @@ operand_fault_line operand f = line (codes "rule fault " ++ decimal operand ++ c
 abbrev pub too_long_line : List ℕ
 too_long_line = line (codes "too long")
 
--- the line of a cause why nothing fits, given by its words
+-- the line that says why a question has no answer: the word `notfit` and the words of the cause
 abbrev pub unfit_line : List ℕ → List ℕ
 unfit_line text = line (codes "notfit " ++ text)
 
@@ -40,7 +41,7 @@ verdict_line name verdict = line (name ++ (if verdict then codes " yes" else cod
 abbrev pub weights_lines : List ℕ → List ℕ
 weights_lines weights = if bytes_eq weights (own_weights (length weights)) then [] else line (codes "weights " ++ join_by decimal (codes ",") weights)
 
--- the lines of an accepted certificate: its rule, the six verdicts, and its weights if some letter doesn't weigh its own value
+-- the lines of an accepted certificate: its rule, six verdicts, and its weights unless each letter weighs its own value
 abbrev pub accepted_lines : Verdicts → List ℕ
 accepted_lines v =
     line (codes "accepted " ++ printed_rule v.rule) ++ verdict_line (codes "surjective") v.surjective ++ verdict_line (codes "injective") v.injective
@@ -61,7 +62,7 @@ number_parts (numbers.One a) = codes " " ++ decimal a
 number_parts (numbers.Two a b) = codes " " ++ decimal a ++ codes " " ++ decimal b
 number_parts (numbers.Three a b c) = codes " " ++ decimal a ++ codes " " ++ decimal b ++ codes " " ++ decimal c
 
--- the text of a refusal: its parts in their order
+-- the text of a refusal: its parts, in this order
 abbrev pub refusal_text : SaidParts → List ℕ
 refusal_text p = p.cause ++ word_part p.side ++ word_part p.because ++ word_part p.key ++ word_part p.fault ++ number_parts p.numbers
 

@@ -1,4 +1,5 @@
--- The texts that the program prints for findings, and the words for the causes why nothing fits a question.
+-- The texts that the program prints for findings, which are answers to questions, and the words for causes, which say
+-- why a question has no finding.
 use Rattle.std.specs.Prelude.{ℕ, List, ◌++◌, codes, Option, None, Some}
 use Rattle.std.specs.Fmt.{decimal}
 use Rattle.word_image.specs.Digits.{word_text}
@@ -11,7 +12,7 @@ use Rattle.ca_questions.specs.Findings.{Finding, Unfit}
 use Rattle.ca_text.specs.Reports.{line, number_line, surjective_line, report_lines}
 use Rattle.ca_text.specs.Lines.{map_lines, automaton_lines, placed_text, gap_text, counts_lines, count_line}
 
--- the line that the program prints for the finding of `same`; the next definition is the line for the finding of `erase`
+-- the line for the answer of `same`; the next definition is the line for the answer of `erase`
 abbrev pub same_line : Option (List ℕ) → List ℕ
 same_line None = line (codes "same yes")
 same_line (Some w) = line (codes "same no " ++ word_text w)
@@ -36,7 +37,7 @@ text_of (Finding.Gap before after w) = line (gap_text before after w)
 text_of (Finding.Summary t) = counts_lines t
 text_of (Finding.Classes t n) = counts_lines t ++ count_line (codes "classes") n
 
--- the words for a cause why nothing fits
+-- the words for a cause why a question has no finding
 abbrev pub unfit_text : Unfit → List ℕ
 unfit_text (Unfit.Twins x y) = codes "twins " ++ word_text x ++ codes " " ++ word_text y
 unfit_text (Unfit.Wide n) = codes "wide " ++ decimal n

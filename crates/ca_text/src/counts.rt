@@ -1,4 +1,4 @@
-//! The lines of counts of rules.
+//! The lines of a summary, which counts the rules with each property.
 ghost use Rattle.std.specs.Prelude.{◌≡◌, ◌++◌, codes, OnOk};
 ghost use Rattle.ca_questions.specs.Values.{counts_of};
 ghost use Rattle.ca_text.specs.Lines.{count_line, counts_lines};

@@ -5,8 +5,8 @@ ghost use Rattle.std.specs.Fmt.{decimal};
 /// The greatest number of decimal digits of a number below 2^32.
 pub const MOST_DIGITS: usize = 10;
 
-/// Writes the digits of a number so that they end before place `end`, and returns the place of the first digit. The
-/// bytes at place `end` and after it stay unchanged.
+/// Writes the decimal digits of a number. The last digit is at place `end - 1`. Returns the place of the first digit.
+/// The bytes at place `end` and after it stay unchanged.
 pub fn write_decimal(number: u32, bytes: &mut [u8], end: usize) -> usize
     requires room { length (decimal number) ≤ end }
     requires end { end ≤ length bytes.old }

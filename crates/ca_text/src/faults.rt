@@ -1,4 +1,4 @@
-//! The lines of faults of operands, and of causes why nothing fits.
+//! The lines for faults of operands, and for causes, which say why a question has no answer.
 ghost use Rattle.std.specs.Prelude.{◌≡◌, IfOk};
 ghost use Rattle.ca_questions.specs.Values.{unfit_of};
 ghost use Rattle.ca_text.specs.StatusLines.{operand_fault_line, unfit_line};
@@ -13,7 +13,7 @@ use rule_text::{TextFault, fault_kind};
 use std::alloc::{AllocError, Global};
 use tail_config::tail_name;
 
-/// Returns the line of a cause why nothing fits, for example `notfit twins 0 1`.
+/// Returns the line for a cause why a question has no answer, for example `notfit twins 0 1`.
 pub fn unfit_output(alloc: Global, cause: &Cause) -> Result<Output, AllocError>
     requires { IsWritableUnfit (unfit_of cause.now) }
     ensures { IfOk result (λ output. output ≡ unfit_line (unfit_text (unfit_of cause.now))) }
@@ -35,7 +35,7 @@ pub fn unfit_output(alloc: Global, cause: &Cause) -> Result<Output, AllocError>
     }
 }
 
-/// Returns the line with the fault of the operand with this number, for example `rule fault 1 form 3`.
+/// Returns the line for the fault of the operand with this number, for example `rule fault 1 form 3`.
 pub fn operand_fault_output(
     alloc: Global,
     operand: u8,

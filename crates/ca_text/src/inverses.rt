@@ -25,7 +25,8 @@ pub fn map_output(alloc: Global, inverse: &Inverse) -> Result<Output, AllocError
     Ok(output)
 }
 
-/// Appends the line with the window (n, c) of an inverse map.
+/// Appends the line with the numbers n and c of an inverse map: n letters of an image determine the letter at place c
+/// of each preimage.
 fn write_map_window(alloc: Global, output: &mut Output, n: u16, c: u16) -> Result<(), AllocError>
     ensures { OnOk result (output.new ≡ output.old ++ line (codes "window " ++ decimal n ++ codes " " ++ decimal c)) }
 {
@@ -49,7 +50,7 @@ fn write_map(alloc: Global, output: &mut Output, map: &InverseMap) -> Result<(),
     output.push(b"\n")
 }
 
-/// Appends the line with the inverse map as a rule, or `rule none` if it isn't a rule.
+/// Appends the line with the inverse map as a rule, or `rule none` if the map breaks a limit of rules.
 fn write_map_rule(alloc: Global, output: &mut Output, rule: &Option<Rule>) -> Result<(), AllocError>
     ensures { OnOk result (output.new ≡ output.old ++ line (codes "rule " ++ rule_text rule.now)) }
 {

@@ -1,4 +1,4 @@
-//! The lines of findings about the words that have a preimage.
+//! The lines of answers about the words that have a preimage. The states of an automaton are called classes.
 ghost use Rattle.std.specs.Prelude.{◌≡◌, ℕ, ◌+◌, ◌<◌, ◌≤◌, ◌++◌, drop, length, slice_index, IfOk, OnOk};
 ghost use Rattle.std.specs.Fmt.{decimal};
 ghost use Rattle.image_minimal.specs.ImageLanguages as languages;
@@ -13,11 +13,11 @@ use ca_questions::{Automaton, Pair};
 use std::alloc::{AllocError, Global};
 use word_image::{MOST_STATES, Word};
 
-/// The greatest number of bytes that a line has for the number of a class: five digits, since the number is below
-/// 65,536, and a blank or the end of the line.
+/// The greatest number of bytes for one class in a line: five digits, since its number is below 65,536, and a blank or
+/// the end of the line.
 const MOST_PIECE: usize = 6;
 
-/// The greatest number of bytes of the line with the classes that follow a class.
+/// The greatest number of bytes of a line that lists the next class for each letter.
 const MOST_LINE: usize = MOST_PIECE * MOST_STATES;
 
 /// Returns the lines of an automaton: two lines about the whole automaton, and a line for each class.
@@ -38,7 +38,7 @@ pub fn automaton_output(alloc: Global, automaton: &Automaton) -> Result<Output, 
     Ok(output)
 }
 
-/// Appends the line with the class of the orphans, or `dead none` if there is no such class.
+/// Appends the line with the class of all orphans, or `dead none` if there is no such class.
 fn write_dead(alloc: Global, output: &mut Output, dead: Option<u32>) -> Result<(), AllocError>
     ensures { OnOk result (output.new ≡ output.old ++ dead_line dead) }
 {
@@ -48,7 +48,7 @@ fn write_dead(alloc: Global, output: &mut Output, dead: Option<u32>) -> Result<(
     }
 }
 
-/// Appends the line with the classes that follow this class, one for each letter.
+/// Appends the line with the next class of this class for each letter.
 fn write_class(output: &mut Output, automaton: &Automaton, class: u32) -> Result<(), AllocError>
     requires rows { HasRows (automaton_of automaton.now) }
     requires class { class < automaton.now.classes }
@@ -77,8 +77,8 @@ fn write_row(output: &mut Output, k: u8, row: &[u16]) -> Result<(), AllocError>
     output.push(&bytes[first..])
 }
 
-/// Writes the digits of the number of a class so that they end before place `end`, and returns the place of the first
-/// digit. There are at most five digits.
+/// Writes the decimal digits of the number of a class, at most five. The last digit is at place `end - 1`. Returns the
+/// place of the first digit.
 fn write_short(class: u16, bytes: &mut [u8], end: usize) -> usize
     requires room { 5 ≤ end }
     requires end { end ≤ length bytes.old }

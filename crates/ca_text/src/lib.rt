@@ -14,8 +14,8 @@
 //! - everything else has one line
 //!
 //! An accepted certificate has seven lines, and an eighth line if some letter doesn't weigh its own value. All other
-//! replies have one line: a cause why nothing fits, an operand with a fault, a refused certificate, an input that is
-//! too long, and words that are no command.
+//! replies have one line: a cause why a question has no answer, an operand with a fault, a refused certificate, an
+//! input that is too long, and words that are no command.
 //!
 //! The evidence for a verdict has these kinds. An *orphan* is a word without a preimage. A *window* (n, c) says that
 //! n letters of an image determine the letter at place c of each preimage. *Twins* are two different words of the

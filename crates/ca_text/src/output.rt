@@ -59,7 +59,7 @@ impl Output {
         Ok(output)
     }
 
-    /// Makes an output of one line: `notfit`, a blank, and the words for a cause why nothing fits.
+    /// Makes an output of one line: `notfit`, a blank, and the words for a cause why a question has no answer.
     pub fn unfit(alloc: Global, cause: &str) -> Result<Output, AllocError>
         ensures { IfOk result (λ output. output ≡ unfit_line cause.now) }
     {

@@ -1,4 +1,4 @@
-//! The line of a preimage of a configuration, or of a gap: the first stretch of the configuration that is an orphan.
+//! The line of a preimage of a configuration, or of a gap: the first part of the configuration that is an orphan.
 ghost use Rattle.std.specs.Prelude.{◌≡◌, IfOk};
 ghost use Rattle.word_image.specs.LocalRules.{IsWord};
 ghost use Rattle.tail_preimage.specs.Answers.{placed_config};
@@ -45,7 +45,8 @@ fn placed_output(alloc: Global, placed: &Placed) -> Result<Output, AllocError>
     Ok(output)
 }
 
-/// Returns the line of a gap: `no preimage`, the number of left periods, the number of right periods, and the orphan.
+/// Returns the line of a gap: `no preimage`, the number of left periods and the number of right periods that the gap
+/// spans, and its word, which is an orphan.
 fn gap_output(alloc: Global, before: u16, after: u16, word: &[u8]) -> Result<Output, AllocError>
     requires { IsWord 16 word.now }
     ensures { IfOk result (λ output. output ≡ line (gap_text before after word.now)) }

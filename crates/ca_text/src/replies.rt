@@ -13,8 +13,8 @@ use ca_questions::Reply;
 use cert_conditions::Verdicts;
 use std::alloc::{AllocError, Global};
 
-/// Returns the text of a reply. This is the text of a finding, the lines of an accepted certificate, or otherwise one
-/// line. The only error is lack of memory.
+/// Returns the text of a reply: the text of a finding, the lines of an accepted certificate, or one line for any other
+/// reply. The only error is lack of memory.
 pub fn reply_text(alloc: Global, reply: &Reply) -> Result<Output, AllocError>
     requires { IsWritableReply (reply_of reply.now) }
     ensures { IfOk result (λ output. output ≡ reply_text (reply_of reply.now)) }

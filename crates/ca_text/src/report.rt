@@ -139,7 +139,7 @@ fn write_texts(output: &mut Output, name: &str, x: &[u8], y: &[u8]) -> Result<()
     output.push(b"\n")
 }
 
-/// Appends the line that says whether the rule is open. A rule is open if it closes on both sides.
+/// Appends the line that says whether the rule is open. `both` says whether it closes on both sides.
 fn write_open(output: &mut Output, both: bool) -> Result<(), AllocError>
     ensures { OnOk result (output.new ≡ output.old ++ line (if both then codes "open yes" else codes "open no")) }
 {

@@ -1,4 +1,4 @@
-//! The function `text`, which returns the text of a finding.
+//! The function `text`, which returns the text of a finding: the answer to a question about rules.
 ghost use Rattle.std.specs.Prelude.{◌≡◌, ◌++◌, codes, IfOk};
 ghost use Rattle.rule_text.specs.PrintedRules.{printed_rule};
 ghost use Rattle.certificate_laws.specs.ReportValues.{evidence_of};
@@ -22,7 +22,7 @@ use rule_text::print;
 use std::alloc::{AllocError, Global};
 use word_image::{Rule, Word};
 
-/// Returns the text of a finding, as the head of the crate describes it.
+/// Returns the text of a finding, which is the answer to a question. The definition `text_of` says what this text is.
 pub fn text(alloc: Global, found: &Found) -> Result<Output, AllocError>
     requires { IsWritable (finding_of found.now) }
     ensures { IfOk result (λ output. output ≡ text_of (finding_of found.now)) }

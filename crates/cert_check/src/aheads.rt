@@ -1,4 +1,6 @@
-//! The check that claims of ranks allow a look-ahead.
+//! Checks a look-ahead by the claims of a certificate. A claim is an upper bound of the rank of a pair of nodes. Two
+//! edges with equal labels that leave one node by different letters lead to the two nodes of a first pair on the right.
+//! First pairs on the left are the mirror image.
 
 ghost use Rattle.std.specs.Prelude.{◌≡◌, ◌↔◌, ◌<◌, ◌≤◌, ℕ, length, IsTrue};
 ghost use Rattle.word_image.specs.Graphs.{first_of, second_of, pair_count};
@@ -16,8 +18,9 @@ use cert_conditions::{Condition, Refusal};
 use cert_values::{Cert, SidePart};
 use word_image::{Rule, Side};
 
-/// Checks that each first pair on this side has a claim below the look-ahead minus 1. If there is no look-ahead on
-/// this side, the check passes. Otherwise returns a refusal with the least first pair without such a claim.
+/// Checks that each first pair on this side has a claim that is less than the look-ahead minus 1. Passes if the
+/// certificate has no look-ahead on this side. Otherwise returns a refusal with the least first pair without such a
+/// claim.
 pub fn side_ahead(cert: &Cert, side: Side) -> Result<(), Refusal>
     ensures { IsChecked cert.now (Condition.SideAhead side) result }
 {
@@ -42,7 +45,8 @@ pub fn part_on(cert: &Cert, side: Side) -> &SidePart
     }
 }
 
-/// Returns the least first pair on this side that has no claim below n - 1, or None if there is no such pair.
+/// Returns the least first pair on this side that has no claim below n - 1, or None if each first pair has such a
+/// claim.
 fn first_too_far(rule: &Rule, side: Side, claims: &[Option<u16>], n: u16) -> Option<u16>
     requires row { length claims.now ≡ pair_count rule.now }
     requires some { 1 ≤ n }

@@ -1,4 +1,5 @@
-//! The check that claims of ranks become smaller along each step of pairs.
+//! Checks that claims become smaller along each step. A claim is an upper bound of the rank of a pair of nodes. A step
+//! leads from a pair to a pair along two edges with equal labels.
 
 ghost use Rattle.std.specs.Prelude.{◌≡◌, ◌↔◌, ◌<◌, length, IsTrue};
 ghost use Rattle.word_image.specs.Graphs.{pair_count};
@@ -64,7 +65,7 @@ fn falls(rule: &Rule, claims: &[Option<u16>], side: Side, pair: u16) -> bool
     true
 }
 
-/// Returns whether each pair to which the letter a and any second letter lead from this pair has a claim below
+/// Returns whether each pair to which the first letter a and any second letter lead from this pair has a claim below
 /// `most`.
 fn falls_along(rule: &Rule, claims: &[Option<u16>], side: Side, pair: u16, a: u8, most: u16) -> bool
     requires row { length claims.now ≡ pair_count rule.now }

@@ -1,4 +1,4 @@
-//! The conditions on a certificate in their order, and their check.
+//! The conditions on a certificate, and the function that checks them in their order.
 
 ghost use Rattle.std.specs.Prelude.{MatchResult};
 ghost use Rattle.cert_conditions.specs.Conditions.{MeetsConditions};
@@ -50,7 +50,7 @@ pub fn check_all(cert: &Cert) -> Result<(), Refusal>
     Ok(())
 }
 
-/// Checks that a certificate meets this condition. Otherwise returns the refusal for it.
+/// Checks that a certificate meets this condition. Otherwise returns the refusal that belongs to it.
 fn check(condition: Condition, cert: &Cert) -> Result<(), Refusal>
     ensures { IsChecked cert.now condition result }
 {

@@ -37,9 +37,9 @@ impl Marks {
         marks
     }
 
-    /// Makes marks on the sets to which the step of a listed set may lead in this version. In version 1 these are the
-    /// listed sets. From version 2 on they are the sets that contain a listed set. It marks only sets up to the
-    /// number `full`, which is the number of the set of all nodes.
+    /// Marks the sets to which a step from a listed set may lead in this version. In version 1 these are the listed
+    /// sets. In versions 2 and 3 they are the sets that contain a listed set. Marks only sets up to the number `full`,
+    /// which is the set of all nodes.
     pub fn kept(version: CertVersion, full: u16, sets: &[u16]) -> Marks
         ensures { AreKept version full sets.now result.rows }
     {
@@ -49,7 +49,7 @@ impl Marks {
         }
     }
 
-    /// Makes marks on the sets up to the number `full` that contain a set of a list.
+    /// Marks those sets up to the number `full` that contain a set of the list.
     fn supersets(full: u16, sets: &[u16]) -> Marks
         ensures { (s : ℕ) → IsMarked result.rows s ↔ ((s < full + 1) × HasPart sets.now s) }
     {
@@ -65,8 +65,8 @@ impl Marks {
         above
     }
 
-    /// Returns whether some node can be removed from a set so that the remaining set is marked. To remove a node that
-    /// isn't in the set changes nothing.
+    /// Returns whether, for some node, the set without this node is marked. If the node isn't in the set, the set
+    /// without it is the set itself.
     fn has_without_one(&self, set: u16) -> bool
         ensures { IsTrue result ↔ ((n : ℕ) × (n < most_nodes) × IsMarked self.now.rows (without set n)) }
     {
@@ -93,7 +93,7 @@ impl Marks {
     }
 }
 
-/// Returns whether `listed` marks a set, or some node can be removed from it so that `above` marks the remaining set.
+/// Returns whether `listed` marks the set, or `above` marks the set without some node.
 fn is_above(listed: &Marks, above: &Marks, set: u16) -> bool
     ensures { IsTrue result ↔ (IsMarked listed.now.rows set ⊎ ((n : ℕ) × (n < most_nodes) × IsMarked above.now.rows (without set n))) }
 {

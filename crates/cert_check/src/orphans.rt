@@ -1,4 +1,6 @@
-//! The check of an orphan: a word whose steps lead to the empty set.
+//! Checks an orphan, which is a word without a preimage. A step on a letter leads from a set of nodes to the set of all
+//! nodes that edges with this label reach from it. The steps of an orphan lead from the set of all nodes to the empty
+//! set.
 
 ghost use Rattle.word_image.specs.LocalRules.{IsWord};
 ghost use Rattle.word_image.specs.Graphs.{full_set};
@@ -25,7 +27,7 @@ pub fn orphan_read(cert: &Cert) -> Result<(), Refusal>
     }
 }
 
-/// Returns the set to which the steps on the letters of a word lead from the set of all nodes.
+/// Returns the set to which the steps on the letters of this word lead from the set of all nodes.
 fn reached(rule: &Rule, word: &[u8]) -> u16
     requires { IsWord rule.now.states word.now }
     ensures { LeadsTo rule.now (full_set rule.now) word.now result }

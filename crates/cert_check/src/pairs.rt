@@ -1,4 +1,6 @@
-//! The checks of listed pairs of nodes, which prove that a rule is surjective.
+//! Checks a list of pairs of nodes, which proves that a rule is surjective. A step leads from a pair to a pair along
+//! two edges with equal labels. Two edges with equal labels that leave one node by different letters lead to the two
+//! nodes of a first pair on the right.
 
 ghost use Rattle.std.specs.Prelude.{◌≢◌, ◌<◌, ℕ, List, length, slice_index, All, IsTrue, ◌↔◌, MatchOption};
 ghost use Rattle.word_image.specs.Graphs.{first_of, second_of, follow, pair_count};
@@ -41,8 +43,8 @@ pub fn off_diagonal(cert: &Cert) -> Result<(), Refusal>
     }
 }
 
-/// Checks that each step from a listed pair leads to a listed pair. Otherwise returns a refusal. It has the first
-/// place in the list at which a step leads to a pair that isn't listed, and the two letters of the first such step.
+/// Checks that each step from a listed pair leads to a listed pair. Otherwise returns a refusal with the place of the
+/// first listed pair from which a step leads to an unlisted pair, and with the two letters of the first such step.
 pub fn pairs_closed(cert: &Cert) -> Result<(), Refusal>
     ensures { IsChecked cert.now Condition.PairsClosed result }
 {
@@ -83,8 +85,8 @@ fn first_diagonal(rule: &Rule, pairs: &[u16]) -> Option<usize>
     None
 }
 
-/// Returns the place of the first listed pair with a step to a pair that isn't listed, and the first letters of such
-/// a step. Returns None if there is no such pair.
+/// Returns the place of the first listed pair from which a step leads to an unlisted pair, and the two letters of the
+/// first such step. Returns None if there is no such pair.
 fn first_leaving(rule: &Rule, pairs: &[u16]) -> Option<(usize, (u8, u8))>
     requires { All (λ p. p < pair_count rule.now) pairs.now }
     ensures { MatchOption result
@@ -106,8 +108,8 @@ fn first_leaving(rule: &Rule, pairs: &[u16]) -> Option<(usize, (u8, u8))>
     None
 }
 
-/// Returns the first two letters that lead from a pair to an unmarked pair, or None if there are no such letters.
-/// Lesser first letters come first, and then lesser second letters.
+/// Returns the first two letters (a, b) that lead from a pair to an unlisted pair: the least a, and the least b for
+/// this a. Returns None if there are no such letters. `listed` marks the listed pairs.
 fn first_step_out(rule: &Rule, listed: &Marks, pair: u16) -> Option<(u8, u8)>
     requires { pair < pair_count rule.now }
     ensures { (pairs : List ℕ) → AreMarked listed.now.rows pairs → MatchOption result
@@ -122,8 +124,8 @@ fn first_step_out(rule: &Rule, listed: &Marks, pair: u16) -> Option<(u8, u8)>
     None
 }
 
-/// Returns the least `b` for which the letters `a` and `b` lead from a pair to an unmarked pair, or None if there is
-/// none.
+/// Returns the least `b` for which the letters `a` and `b` lead from a pair to an unlisted pair, or None if there is
+/// none. `listed` marks the listed pairs.
 fn first_letter_out(rule: &Rule, listed: &Marks, pair: u16, a: u8) -> Option<u8>
     requires pair { pair < pair_count rule.now }
     requires letter { a < rule.now.states }
@@ -138,8 +140,8 @@ fn first_letter_out(rule: &Rule, listed: &Marks, pair: u16, a: u8) -> Option<u8>
     None
 }
 
-/// Returns whether the pair to which two letters lead from a pair is marked. Returns true if the two letters lead to
-/// no pair.
+/// Returns whether the pair to which two letters lead from a pair is listed. Returns true if the two letters lead to no
+/// pair. `listed` marks the listed pairs.
 fn leads_within(rule: &Rule, listed: &Marks, pair: u16, a: u8, b: u8) -> bool
     requires pair { pair < pair_count rule.now }
     requires first { a < rule.now.states }

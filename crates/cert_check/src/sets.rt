@@ -1,6 +1,6 @@
-//! The checks of listed sets of nodes, which prove that a rule is surjective. Each version of certificates has a
-//! condition on the steps of a listed set. In version 1 each step leads to a listed set. From version 2 on each step
-//! leads to a set that contains a listed set.
+//! Checks a list of sets of nodes, which proves that a rule is surjective. A step on a letter leads from a set of nodes
+//! to the set of all nodes that edges with this label reach from it. In version 1 of certificates, each step from a
+//! listed set must lead to a listed set. In versions 2 and 3, it must lead to a set that contains a listed set.
 
 ghost use Rattle.std.specs.Prelude.{◌≢◌, ◌<◌, ℕ, List, length, slice_index, MatchOption, ◌↔◌, IsTrue};
 ghost use Rattle.word_image.specs.Graphs.{full_set};
@@ -15,8 +15,8 @@ use cert_conditions::{Condition, Refusal};
 use cert_values::{Cert, CertVersion, SurjectivePart};
 use word_image::{EdgeRows, Rule, Side, edge_rows, step};
 
-/// If there are at most this many listed sets, each step is compared with all of them. If there are more, marks on
-/// the sets that contain a listed set take less time. They are made only once, for all 65,536 sets.
+/// The greatest number of listed sets for which each step is compared with each listed set. If there are more, it takes
+/// less time to mark once, for all 65,536 sets, which of them a step may reach.
 const FEW: usize = 256;
 
 /// Checks that the set of all nodes is listed. Otherwise returns the refusal `NoFull`.
@@ -48,9 +48,9 @@ pub fn none_empty(cert: &Cert) -> Result<(), Refusal>
     }
 }
 
-/// Checks that each step of a listed set meets the condition of the version: it leads to a listed set, or from
-/// version 2 on to a set that contains a listed set. Otherwise returns a refusal with the place of the first listed
-/// set that has a step without this property, and with the first letter of such a step.
+/// Checks that each step from a listed set leads to a set that the version allows: a listed set, or in versions 2 and 3
+/// a set that contains a listed set. Otherwise returns a refusal with the place of the first listed set with another
+/// step, and with the first letter of such a step.
 pub fn closed(cert: &Cert) -> Result<(), Refusal>
     ensures { IsChecked cert.now Condition.Closed result }
 {
@@ -78,8 +78,8 @@ fn first_empty(sets: &[u16]) -> Option<usize>
     None
 }
 
-/// Returns the place of the first set with a step that doesn't meet the condition of the version, and the first
-/// letter of such a step. Returns None if all steps meet the condition.
+/// Returns the place of the first listed set with a step to a set that the version doesn't allow, and the first letter
+/// of such a step. Returns None if there is no such set.
 fn first_open(
     version: CertVersion,
     rule: &Rule,
@@ -109,7 +109,7 @@ fn first_open(
     None
 }
 
-/// Returns the first letter on which the step of a set leads to an unmarked set, or None if there is no such letter.
+/// Returns the first letter on which a step leads from a set to an unmarked set, or None if there is no such letter.
 fn first_not_kept(rule: &Rule, edges: &EdgeRows, kept: &Marks, set: u16) -> Option<u8>
     requires { AreEdgeRows Side.Right rule.now edges.now }
     ensures { (version : CertVersion) (sets : List ℕ) → AreKept version (full_set rule.now) sets kept.now.rows → FirstBreach rule.now.states (StepIsKept version rule.now sets set) result }
@@ -143,8 +143,8 @@ fn first_open_of_few(
     None
 }
 
-/// Returns the first letter on which the step of a set doesn't meet the condition of the version, or None if there is
-/// none.
+/// Returns the first letter on which a step leads from a set to a set that the version doesn't allow, or None if there
+/// is none.
 fn first_outside(
     version: CertVersion,
     rule: &Rule,
@@ -163,8 +163,8 @@ fn first_outside(
     None
 }
 
-/// Returns whether a step may lead to this set: whether the set is listed, or from version 2 on contains a listed
-/// set.
+/// Returns whether the version allows that a step leads to this set: the set is listed, or in versions 2 and 3 contains
+/// a listed set.
 fn is_kept(version: CertVersion, sets: &[u16], set: u16) -> bool
     ensures { IsTrue result ↔ IsKept version sets.now set }
 {

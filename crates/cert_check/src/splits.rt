@@ -1,4 +1,4 @@
-//! The check of a split: two configurations that share an image and agree on a side.
+//! Checks a split: two different configurations that share an image and agree far out on one side.
 
 ghost use Rattle.std.specs.Prelude.{◌≡◌, ◌↔◌, IsTrue, MatchOption};
 ghost use Rattle.tail_config.specs.Tails.{Different, ShareImage};
@@ -46,7 +46,7 @@ fn lacks(rule: &Rule, side: Side, x: &Tail, y: &Tail) -> Option<SplitCause>
     None
 }
 
-/// Returns whether two configurations agree on the side opposite to this one.
+/// Returns whether two configurations agree far out on the side opposite to this one.
 fn agree_behind(side: Side, x: &Tail, y: &Tail) -> bool
     ensures { IsTrue result ↔ AgreeBehind side x.now.config y.now.config }
 {

@@ -1,4 +1,6 @@
-//! The checks of a flux that balances, and of a ring whose image has another sum.
+//! Checks a flux, or a ring whose image has another sum of weights. A flux has a number for each node. It balances at a
+//! window if the weight of the window's image minus the weight of the window's first letter is the number of its first
+//! node minus the number of its last node.
 
 ghost use Rattle.std.specs.Prelude.{◌≡◌, ◌↔◌, ◌^◌, ◌<◌, length, slice_index, IsTrue};
 ghost use Rattle.word_image.specs.LocalRules.{node_count, word_of};

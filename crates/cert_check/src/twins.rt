@@ -1,4 +1,4 @@
-//! The check of twins: two words whose rings have the same image.
+//! Checks twins: two different words of the same length whose rings have the same image.
 
 ghost use Rattle.std.specs.Prelude.{◌≡◌, ◌≢◌, ◌↔◌, ◌≤◌, length, IsTrue, MatchOption};
 ghost use Rattle.word_image.specs.LocalRules.{IsWord};

@@ -1,4 +1,6 @@
-//! The check that claims of ranks determine the letter of a window.
+//! Checks a window (n, c) by the claims of a certificate: n letters of an image must determine the letter at place c of
+//! each preimage. A claim is an upper bound of the rank of a pair of nodes. The rank says how long two walks from the
+//! nodes, or to them, can have equal labels.
 
 ghost use Rattle.std.specs.Prelude.{◌≡◌, ◌↔◌, ◌+◌, ◌-◌, ◌<◌, ◌≤◌, length, IsTrue};
 ghost use Rattle.word_image.specs.Graphs.{pair_count};
@@ -10,8 +12,8 @@ use cert_conditions::{Condition, Refusal};
 use cert_values::{Cert, InjectivePart};
 use word_image::{Rule, Side};
 
-/// Checks that the claims of ranks show that the window (n, c) determines its letter. Otherwise returns a refusal
-/// with the first pair of nodes that the claims don't exclude.
+/// Checks that the claims show that the window (n, c) is determined. Otherwise returns a refusal with the first pair of
+/// nodes that the claims don't exclude.
 pub fn window_claims(cert: &Cert) -> Result<(), Refusal>
     ensures { IsChecked cert.now Condition.WindowClaims result }
 {
@@ -25,8 +27,8 @@ pub fn window_claims(cert: &Cert) -> Result<(), Refusal>
     }
 }
 
-/// Returns the first pair of nodes that have different letters at the place of the window (n, c) and that the claims
-/// don't exclude. Returns None if there is no such pair.
+/// Returns the first pair of nodes that the claims don't exclude and whose nodes have different letters at the place
+/// that the window (n, c) determines. Returns None if there is no such pair.
 fn first_not_told(
     rule: &Rule,
     forward: &[Option<u16>],
@@ -47,11 +49,14 @@ fn first_not_told(
     None
 }
 
-/// Let j = min(c, n). Returns whether the claims show this for a pair of nodes: if two words of n + m - 1 letters have
-/// the same image, and the two nodes begin at place j of the two words, the words have the same letter at place c.
-/// This letter is at place c - j of the nodes. The parts of the words that end with the nodes have the same image of j
-/// letters, and the parts that begin with the nodes have the same image of n - j letters. So the two nodes must have
-/// the same letter there, or the pair must have a backward claim below j, or a forward claim below n - j.
+/// Returns whether the claims exclude this pair of nodes, or its nodes have the same letter at the place that the
+/// window (n, c) determines.
+///
+/// Let j = min(c, n). Suppose that two words of n + m - 1 letters have the same image, and that the two nodes begin at
+/// place j of these words. Then the letters at place c of the words are the letters at place c - j of the nodes. The
+/// letters up to the end of the nodes have an image of j letters. The letters from the nodes on have an image of n - j
+/// letters. So there are no such words if the backward claim of the pair is below j, or its forward claim is below n -
+/// j.
 fn is_told(
     rule: &Rule,
     forward: &[Option<u16>],

@@ -1,4 +1,4 @@
--- The first number for which a property doesn't hold.
+-- The first number for which a property doesn't hold. The checks of conditions look for such a number.
 use Rattle.std.specs.Prelude.{ℕ, ◌<◌}
 
 -- P holds for each number below n

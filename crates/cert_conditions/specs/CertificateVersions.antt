@@ -1,8 +1,8 @@
--- A certificate with its version replaced by a given version.
+-- A certificate names its version, which is 1, 2 or 3. This file replaces the version by another one.
 use Rattle.cert_values.specs.declared.cert_version.CertVersion.{CertVersion}
 use Rattle.cert_values.specs.Certificates.{Certificate}
 
--- the certificate c with the given version in place of its own
+-- the certificate c with its version replaced by `version`
 abbrev pub in_version : CertVersion → Certificate → Certificate
 in_version version c = record {
   version = version;

@@ -1,4 +1,5 @@
--- The conditions on a certificate. If a certificate meets all conditions, each of its verdicts is true.
+-- The conditions on a certificate. If a certificate meets all of them, each of its verdicts is true. Most conditions
+-- concern evidence of one kind only; a certificate without this evidence meets them.
 use Rattle.std.specs.Prelude.{◌≡◌, ◌≢◌, ℕ, ◌^◌, ◌≤◌, List, [], ◌∷◌, length, slice_index, Contains, ℤ, ⊤}
 use Rattle.word_image.specs.LocalRules.{word_of}
 use Rattle.word_image.specs.Rings.{ring_image}
@@ -17,7 +18,7 @@ use Rattle.cert_conditions.specs.Pairs.{FirstIsListed, StepsAreListed}
 use Rattle.cert_conditions.specs.Sides.{AgreeBehind, claims_on, evidence_on}
 use Rattle.cert_conditions.specs.Sums.{Flows, IsLossy}
 
--- the conditions in the order in which the judge checks them
+-- all conditions, in the order in which the judge checks them
 abbrev pub conditions : List Condition
 conditions =
     SideClaims Right ∷ SideClaims Left ∷ FullListed ∷ NoneEmpty ∷ Closed ∷ FirstsListed ∷ OffDiagonal ∷ PairsClosed ∷ OrphanRead ∷ WindowClaims ∷ TwinsAlike ∷ SideAhead Right ∷ SideSplit Right ∷ SideAhead Left ∷ SideSplit Left ∷ FluxFlows ∷ RingLossy ∷ []

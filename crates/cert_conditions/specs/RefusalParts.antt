@@ -1,4 +1,5 @@
--- The words and numbers of a refusal, as texts and JSON show them. A refusal is the reason why the judge doesn't accept bytes.
+-- A refusal is the reason why the judge doesn't accept bytes as a certificate. Its parts are words and numbers, which
+-- the program shows as a line of text or as JSON.
 use Rattle.std.specs.Prelude.{ℕ, List, [], codes, Option, Some, None}
 use Rattle.std.specs.Option.{option_map}
 use Rattle.word_image.specs.declared.side.Side.{Side}
@@ -18,7 +19,7 @@ use Rattle.cert_conditions.specs.declared.refusal_parts.RefusalNumbers.{RefusalN
 use Rattle.cert_conditions.specs.declared.refusal_parts.RefusalNumbers.TheVariants as numbers
 use Rattle.cert_conditions.specs.declared.refusal_parts.RefusalParts.{RefusalParts}
 
--- the word for the part of a certificate that has the wrong shape
+-- the word for a part of a certificate, which says which part is wrong
 abbrev pub key_text : Key → List ℕ
 key_text key.Top = codes "top"
 key_text key.Version = codes "version"
@@ -58,15 +59,15 @@ pub record SaidParts : Type 0 where
   pub fault : Option (List ℕ)
   pub numbers : RefusalNumbers
 
--- the parts of a refusal with this cause, these numbers and nothing else
+-- the parts of a refusal with this cause and these numbers, and without any other part
 abbrev pub bare_parts : List ℕ → RefusalNumbers → SaidParts
 bare_parts cause ns = record { cause = cause; side = None; because = None; key = None; fault = None; numbers = ns }
 
--- the given parts of a refusal with this side in addition
+-- the parts p with the side s in addition
 abbrev pub add_side : Side → SaidParts → SaidParts
 add_side s p = record { cause = p.cause; side = Some (side_text s); because = p.because; key = p.key; fault = p.fault; numbers = p.numbers }
 
--- the given parts of a refusal with this reason in addition
+-- the parts p with the reason `why` in addition
 abbrev pub add_reason : List ℕ → SaidParts → SaidParts
 add_reason why p = record { cause = p.cause; side = p.side; because = Some why; key = p.key; fault = p.fault; numbers = p.numbers }
 
@@ -75,14 +76,14 @@ abbrev pub place_number : Option ℕ → RefusalNumbers
 place_number None = numbers.None
 place_number (Some place) = numbers.One place
 
--- the parts of a refusal whose reason is the first fault of a certificate's text
+-- the parts of a refusal because the bytes aren't the text of a certificate: their first fault
 abbrev pub shape_parts : ShapeFault → SaidParts
 shape_parts shape.NotJson = add_reason (codes "notjson") (bare_parts (codes "format") numbers.None)
 shape_parts (shape.Version v) = add_reason (codes "version") (bare_parts (codes "format") (numbers.One v))
 shape_parts (shape.Shape k) = record { cause = codes "format"; side = None; because = Some (codes "shape"); key = Some (key_text k); fault = None; numbers = numbers.None }
 shape_parts (shape.Rule f) = record { cause = codes "format"; side = None; because = Some (codes "rule"); key = None; fault = Some (fault_name f); numbers = place_number (fault_place f) }
 
--- the parts of a refusal; a lack of memory, which isn't a refusal, has an empty cause
+-- the parts of a refusal; if there is no memory, which isn't a refusal, the cause is empty
 abbrev pub parts_of : Refusal → SaidParts
 parts_of (refusal.Format f) = shape_parts f
 parts_of (refusal.Rank s p) = add_side s (bare_parts (codes "rank") (numbers.One p))
@@ -101,7 +102,7 @@ parts_of (refusal.Flux w) = bare_parts (codes "flux") (numbers.One w)
 parts_of refusal.Ring = bare_parts (codes "ring") numbers.None
 parts_of (refusal.Memory _) = bare_parts [] numbers.None
 
--- the parts of a refusal that a value of the code stands for
+-- the parts of a refusal that a value of the code represents
 abbrev pub said_in : RefusalParts → SaidParts
 said_in p = record {
   cause = p.cause.now;

@@ -1,4 +1,6 @@
--- Why bytes are refused: the first fault of their text, or the first condition that isn't met, with the place at which it isn't.
+-- Why the judge refuses bytes: they have a fault and aren't the text of a certificate, or the certificate doesn't meet
+-- some condition. The refusal names the first such fault or condition, and the first place at which the condition
+-- isn't met.
 use Rattle.std.specs.Prelude.{◌≡◌, ◌≢◌, ℕ, ◌^◌, ◌≤◌, List, length, slice_index, Contains, ℤ}
 use Rattle.word_image.specs.LocalRules.{LocalRule, word_of}
 use Rattle.word_image.specs.Rings.{ring_image}
@@ -27,19 +29,19 @@ use Rattle.cert_conditions.specs.Sides.{AgreeBehind, claims_on, evidence_on}
 use Rattle.cert_conditions.specs.Sums.{Flows, IsLossy}
 use Rattle.cert_conditions.specs.Conditions.{conditions, Holds}
 
--- the reason why two words aren't twins: they don't have the same length of at least 1, or they are equal, or their rings have different images
+-- the reason why two words aren't twins: they don't have the same length, or are empty, or are equal, or their rings have different images
 pub data IsTwinsBreach (r : LocalRule) (x y : List ℕ) : TwinCause → Type 0 where
   Length : ¬ ((length x ≡ length y) × (1 ≤ length x)) → IsTwinsBreach r x y twin.Length
   Same : length x ≡ length y → 1 ≤ length x → x ≡ y → IsTwinsBreach r x y twin.Same
   Image : length x ≡ length y → 1 ≤ length x → x ≢ y → ring_image r x ≢ ring_image r y → IsTwinsBreach r x y twin.Image
 
--- the reason why two configurations aren't a split: they are equal, or they don't agree on the side, or their images differ
+-- the reason why two configurations aren't a split: they are equal, or they don't agree as `Agree` asks, or their images differ
 pub data IsSplitBreach (r : LocalRule) (Agree : TailConfig → TailConfig → Type 0) (x y : TailConfig) : SplitCause → Type 0 where
   Same : ¬ Different x y → IsSplitBreach r Agree x y split.Same
   Apart : Different x y → ¬ Agree x y → IsSplitBreach r Agree x y split.Apart
   Image : Different x y → Agree x y → ¬ ShareImage r x y → IsSplitBreach r Agree x y split.Image
 
--- the condition isn't met, and the refusal names the first pair, place, letter, window or cause at which it isn't
+-- the condition isn't met; the refusal names the first pair, place, letter, window or cause for which it isn't met
 pub data IsBreach (c : Certificate) : Condition → Refusal → Type 0 where
   Rising : (side : Side) (p : ℕ) → IsFirstBreach (pair_count c.rule) (Falls side c.rule (claims_on c side)) p → IsBreach c (condition.SideClaims side) (refusal.Rank side p)
   NoFull : (sets : List ℕ) → c.surjective ≡ Sets sets → ¬ Contains sets (full_set c.rule) → IsBreach c condition.FullListed refusal.NoFull
@@ -65,13 +67,13 @@ pub data IsBreach (c : Certificate) : Condition → Refusal → Type 0 where
       → IsFirstBreach (c.rule.states ^ c.rule.width) (λ v. Flows (slice_index c.weights) c.rule phi (word_of c.rule.states c.rule.width v)) v → IsBreach c condition.FluxFlows (refusal.Flux v)
   NoRing : (p : List ℕ) → c.conserving ≡ Ring p → ¬ IsLossy (slice_index c.weights) c.rule p → IsBreach c condition.RingLossy refusal.Ring
 
--- the refusal names the first condition that isn't met, and the first place at which it isn't
+-- the refusal f names the first condition that the certificate doesn't meet, and the first place at which it doesn't
 pub record IsFirstUnmet (c : Certificate) (f : Refusal) : Type 0 where
   pub unmet : Condition
   pub first : IsFirstWithout (Holds c) conditions unmet
   pub breach : IsBreach c unmet f
 
--- the reason why the bytes are refused: they aren't the text of a certificate, or their certificate doesn't meet the conditions
+-- why the bytes are refused: they aren't the text of a certificate, or they are the text of a certificate that doesn't meet a condition
 pub data IsRefusal (bytes : List ℕ) : Refusal → Type 0 where
   NoShape : (f : ShapeFault) → IsShapeFault bytes f → IsRefusal bytes (refusal.Format f)
   Unmet : (c : Certificate) (f : Refusal) → IsCertificateText bytes c → IsFirstUnmet c f → IsRefusal bytes f

@@ -6,9 +6,9 @@
 //! label leads to all nodes that windows with this label reach from the set. A step of a pair of nodes follows two
 //! windows with equal labels, one from each node.
 //!
-//! - A *claim* is a number for a pair of nodes. It says that at most so many steps can follow each other from the
-//!   pair. Forward claims are about steps forward, and backward claims about steps backward. A pair may have no
-//!   claim. A claim on the right is a forward claim, and a claim on the left is a backward claim.
+//! - A *claim* is a number for a pair of nodes: at most this many steps can follow each other from the pair. Forward
+//!   claims are about steps forward, and backward claims about steps backward. A pair may have no claim. A claim on
+//!   the right is a forward claim, and a claim on the left is a backward claim.
 //! - A *first pair on the right* is a pair to which two different letters lead from the same node, by windows with
 //!   equal labels. A *first pair on the left* is a pair of nodes that differ only in their first letter, from which
 //!   two windows with equal labels and with the same last letter lead.
@@ -32,8 +32,8 @@
 //!   pairs of nodes instead. This list has each first pair on the right, and each pair to which a step leads from a
 //!   listed pair, but no pair of equal nodes (Moore 1962, Myhill 1963).
 //! - Not surjective: a word whose steps lead from the set of all nodes to the empty set.
-//! - Injective: a window for which the claims show that it determines its letter. Not injective: two words whose
-//!   rings have the same image.
+//! - Injective: a window (n, c). The claims must show that n letters of an image determine the letter at place c of
+//!   each preimage. Not injective: two words whose rings have the same image.
 //! - Closing on a side: a look-ahead that the claims allow. Not closing: two configurations that share an image and
 //!   agree on the other side.
 //! - Conserving: a flux that balances (Hattori and Takesue 1991). Not conserving: a ring whose image has another sum

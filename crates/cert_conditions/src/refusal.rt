@@ -1,4 +1,9 @@
 //! The type `Refusal`: why bytes are refused.
+//!
+//! A certificate has claims and evidence. A claim is an upper bound of the rank of a pair of nodes. A step leads from a
+//! pair to a pair along two edges with equal labels, or from a set of nodes to a set along all edges with the same
+//! label. Two edges with equal labels that leave one node by different letters lead to the two nodes of a first pair on
+//! the right. First pairs on the left are the mirror image.
 
 use cert_values::ShapeFault;
 use std::alloc::AllocError;
@@ -20,14 +25,15 @@ pub enum TwinCause {
 pub enum SplitCause {
     /// The configurations are equal.
     Same,
-    /// The configurations don't agree on the other side.
+    /// The configurations don't agree on the other side: on the left for a split of the right, on the right for a split
+    /// of the left.
     Apart,
     /// The images of the configurations differ.
     Image,
 }
 
-/// Why bytes are refused: the fault of the text, or the first condition that the certificate doesn't meet. The
-/// numbers say where the certificate doesn't meet it.
+/// Why bytes are refused: the first fault of the text, or the first condition that the certificate doesn't meet. The
+/// numbers say at which place it doesn't meet the condition.
 #[derive(Clone, Copy, Debug, PartialEq, Eq)]
 pub enum Refusal {
     /// The bytes aren't the text of a certificate, because of this first fault.
@@ -39,23 +45,23 @@ pub enum Refusal {
     NoFull,
     /// The listed set at this place is empty. It is the first such place.
     EmptySet(usize),
-    /// The step of the set at this place on this letter leads to a set that isn't listed. From version 2 on, it leads
-    /// to a set that contains no listed set. It is the first such place, with its first such letter.
+    /// The step from the listed set at this place, on this letter, leads to a set that isn't listed. In versions 2 and
+    /// 3, it leads to a set that contains no listed set. It is the first such place, with its first such letter.
     NotClosed(usize, u8),
     /// This first pair on the right isn't a listed pair. It is the least such pair.
     NoFirst(u16),
     /// The listed pair at this place has two equal nodes. It is the first such place.
     Diagonal(usize),
-    /// From the listed pair at this place a step on these two letters leads to a pair that isn't listed. It is the
+    /// From the listed pair at this place, a step on these two letters leads to a pair that isn't listed. It is the
     /// first such place, with its first such letters.
     Leaves(usize, u8, u8),
-    /// The steps of the orphan lead from the set of all nodes to a set that isn't empty.
+    /// The steps on the letters of the orphan lead from the set of all nodes to a set that isn't empty.
     Orphan,
     /// For this pair the claims don't show that the window determines its letter. It is the first such pair.
     Window(u16),
     /// The words aren't twins. The cause is the first one that applies.
     Twins(TwinCause),
-    /// This first pair on this side has no claim below the look-ahead minus 1. It is the least such pair.
+    /// This first pair on this side has no claim that is less than the look-ahead minus 1. It is the least such pair.
     Ahead(Side, u16),
     /// The configurations aren't a split of this side. The cause is the first one that applies.
     Split(Side, SplitCause),

@@ -1,4 +1,5 @@
-//! The parts of a refusal, words and numbers, from which its text and its JSON are made.
+//! The parts of a refusal: words and numbers from which its text and its JSON are made. A refusal is the reason why
+//! bytes aren't accepted as a certificate.
 ghost use Rattle.std.specs.Prelude.{◌≡◌, IfOk};
 ghost use Rattle.cert_conditions.specs.RefusalParts as parts;
 ghost use Rattle.cert_conditions.specs.RefusalParts.{parts_of, said_in};
@@ -36,7 +37,7 @@ pub struct RefusalParts {
 }
 
 impl RefusalParts {
-    /// Returns the parts of a refusal. If the refusal is lack of memory, returns it as the error.
+    /// Returns the parts of a refusal. If the refusal is lack of memory, returns this as the error.
     pub fn of(refusal: Refusal) -> Result<RefusalParts, AllocError>
         ensures { IfOk result (λ made. said_in made ≡ parts_of refusal) }
     {
@@ -104,7 +105,7 @@ impl RefusalParts {
     }
 }
 
-/// Returns the parts that have only this word for the condition and these numbers.
+/// Returns the parts of a refusal with this word for the condition, these numbers, and nothing else.
 fn bare_parts(cause: &'static str, numbers: RefusalNumbers) -> RefusalParts
     ensures { said_in result ≡ parts.bare_parts cause.now numbers }
 {
@@ -118,7 +119,7 @@ fn bare_parts(cause: &'static str, numbers: RefusalNumbers) -> RefusalParts
     }
 }
 
-/// Returns the parts of the first fault of a certificate's text.
+/// Returns the parts of a refusal because of the first fault of a certificate's text.
 fn shape_parts(fault: ShapeFault) -> RefusalParts
     ensures { said_in result ≡ parts.shape_parts fault }
 {
@@ -144,7 +145,7 @@ fn shape_parts(fault: ShapeFault) -> RefusalParts
     }
 }
 
-/// Returns the word for the part that has the wrong shape.
+/// Returns the word for the part of a certificate that has the wrong shape.
 fn key_name(key: Key) -> &'static str
     ensures { result.now ≡ parts.key_text key }
 {

@@ -1,4 +1,5 @@
-//! Laws about all bytes. Each law is the contract of a function that does nothing.
+//! Laws about the bytes that are accepted or refused as certificates. Each law is the contract of a function that does
+//! nothing.
 ghost use Rattle.std.specs.Prelude.{◌≡◌, ℕ, List};
 ghost use Rattle.cert_values.specs.Certificates.{Certificate};
 ghost use Rattle.cert_conditions.specs.Conditions.{MeetsConditions};
@@ -10,9 +11,8 @@ use crate::refusal::Refusal;
 use crate::verdicts::Verdicts;
 use cert_values::CertVersion;
 
-/// Law: bytes are accepted with at most one list of verdicts, or they are refused for at most one reason. They are
-/// never both accepted and refused. The contract of `judge` says that one of the two happens unless there is no
-/// memory.
+/// Law: the same bytes are accepted with at most one list of verdicts, or refused for at most one reason. They are
+/// never both accepted and refused. The contract of `judge` says that one of the two happens unless there is no memory.
 pub fn one_answer()
     ensures accepted { (bytes : List ℕ) (v w : Verdicts) → IsAccepted bytes v → IsAccepted bytes w → v ≡ w }
     ensures refused { (bytes : List ℕ) (f g : Refusal) → IsRefusal bytes f → IsRefusal bytes g → f ≡ g }

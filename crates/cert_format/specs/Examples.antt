@@ -1,4 +1,4 @@
--- The texts of six certificates, worked by hand, which the prover computes.
+-- The texts of six certificates, worked out by hand. The prover computes the same texts.
 use Rattle.std.specs.Prelude.{◌≡◌, ℕ, ℤ, List, [], ◌∷◌, codes, refl, pos, negsuc, Option, Some, None}
 use Rattle.std.specs.Fmt.{digits}
 use Rattle.serde_json.proofs.OnLiterals.{serde_json_on_literals}
@@ -14,11 +14,11 @@ use Rattle.cert_values.specs.Evidence.SideEvidence.{Ahead, Split}
 use Rattle.cert_values.specs.Evidence.SumEvidence.{Flux, Ring}
 use Rattle.cert_values.specs.WrittenTexts.{certificate_text}
 
--- the rule of two states and width 2 with this table, whose windows begin at the cell
+-- the rule of two states, width 2 and offset 0 with this table
 abbrev two_state_rule : List ℕ → LocalRule
 two_state_rule table = record { states = 2; width = 2; offset = pos 0; table = table }
 
--- no claim is made for any of four pairs
+-- the claims of a certificate that claims nothing for any of the four pairs of nodes
 abbrev no_claims : List (Option ℕ)
 no_claims = None ∷ None ∷ None ∷ None ∷ []
 

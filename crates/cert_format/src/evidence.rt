@@ -1,4 +1,5 @@
-//! Functions that read the evidence for each question. The evidence is a JSON object.
+//! Functions that read evidence about each property of a rule from a JSON object. The error `Shape` means that the
+//! value isn't such evidence. The only other error is lack of memory.
 ghost use Rattle.std.specs.Prelude.{◌≡◌, ℕ, ◌+◌, ◌≤◌, ◌↔◌, List, Option, ℤ, length, All, IfOk, IfErr, IfSome, IfNone, IsTrue};
 ghost use Rattle.serde_json.specs.View.{view};
 ghost use Rattle.word_image.specs.Graphs.{pair_count};
@@ -15,8 +16,8 @@ use serde_json::Value;
 use std::alloc::Global;
 use word_image::{FluxRow, RankRow, Rule, SetList, Weights};
 
-/// Reads the evidence about surjectivity: `{"sets":[..]}` or `{"orphan":".."}`, or `{"pairs":[..]}` if this version
-/// may list pairs. Returns `Shape` for any other value.
+/// Reads the evidence about surjectivity: `{"sets":[..]}` or `{"orphan":".."}`, or `{"pairs":[..]}` if this version may
+/// list pairs. Returns the error `Shape` for any other value.
 pub fn surjective(
     alloc: Global,
     version: CertVersion,
@@ -50,7 +51,7 @@ fn last_pair(rule: &Rule) -> u16
     rule.pairs() - 1
 }
 
-/// Reads an array of numbers that are at most `most`. Returns `Shape` for any other value.
+/// Reads an array of numbers that are at most `most`. Returns the error `Shape` for any other value.
 fn numbers(alloc: Global, most: u16, value: &Value) -> Result<SetList, Misread>
     ensures numbers { IfOk result (AreNumbers most (view value.now)) }
     ensures none { IfErr result (λ f. f ≡ Misread.Shape
@@ -75,8 +76,8 @@ fn are_within(most: u16, numbers: &[u16]) -> bool
     true
 }
 
-/// Reads the evidence about injectivity: `{"c":C,"n":N}` or `{"twins":["..",".."]}`. Returns `Shape` for any other
-/// value.
+/// Reads the evidence about injectivity: `{"c":C,"n":N}` or `{"twins":["..",".."]}`. Returns the error `Shape` for any
+/// other value.
 pub fn injective(alloc: Global, rule: &Rule, value: &Value) -> Result<InjectivePart, Misread>
     ensures part { IfOk result (λ p. IsInjectiveFor rule.now (view value.now) (injective_of p)) }
     ensures none { IfErr result (λ f. f ≡ Misread.Shape
@@ -95,8 +96,8 @@ pub fn injective(alloc: Global, rule: &Rule, value: &Value) -> Result<InjectiveP
     Ok(InjectivePart::Twins { x, y })
 }
 
-/// Reads a window: the number n of letters of an image, at least 1, and a place c among the n + m - 1 letters of a
-/// preimage. Returns None for other values.
+/// Reads the two numbers of a window: n, which is at least 1, and a place c among the n + m - 1 letters of a preimage
+/// of n letters. Returns None for other values.
 fn window(rule: &Rule, length: &Value, place: &Value) -> Option<(u16, u16)>
     ensures some { IfSome result (λ w.
         IsWindowFor rule.now (view length.now) (view place.now) w.0 w.1) }
@@ -111,8 +112,8 @@ fn window(rule: &Rule, length: &Value, place: &Value) -> Option<(u16, u16)>
     Some((n, c))
 }
 
-/// Reads the evidence about closing on a side: `{"ahead":A}` or `{"split":["..",".."]}`. Returns `Shape` for any
-/// other value.
+/// Reads the evidence about closing on a side: `{"ahead":A}` or `{"split":["..",".."]}`. Returns the error `Shape` for
+/// any other value.
 pub fn side(alloc: Global, rule: &Rule, value: &Value) -> Result<SidePart, Misread>
     ensures states { IfOk result (IsOver (rule.now).states) }
     ensures part { IfOk result (λ p. IsSideFor rule.now (view value.now) (side_of p)) }
@@ -144,7 +145,8 @@ fn ahead(value: &Value) -> Option<u16>
     Some(n)
 }
 
-/// Reads the evidence about the sum: `{"flux":[..]}` or `{"ring":".."}`. Returns `Shape` for any other value.
+/// Reads the evidence about conservation of the sum: `{"flux":[..]}` or `{"ring":".."}`. Returns the error `Shape` for
+/// any other value.
 pub fn conserving(alloc: Global, rule: &Rule, value: &Value) -> Result<SumPart, Misread>
     ensures part { IfOk result (λ p. IsSumFor rule.now (view value.now) (sum_of p)) }
     ensures none { IfErr result (λ f. f ≡ Misread.Shape
@@ -159,7 +161,8 @@ pub fn conserving(alloc: Global, rule: &Rule, value: &Value) -> Result<SumPart, 
     Ok(SumPart::Ring(word(alloc, rule.k(), ring)?))
 }
 
-/// Reads a flux, which is an array with a number for each node of a rule. Returns `Shape` for any other value.
+/// Reads a flux, which is an array with a number for each node of a rule. Returns the error `Shape` for any other
+/// value.
 fn flux(alloc: Global, rule: &Rule, value: &Value) -> Result<FluxRow, Misread>
     ensures flux { IfOk result (IsFluxFor rule.now (view value.now)) }
     ensures none { IfErr result (λ f. f ≡ Misread.Shape
@@ -169,7 +172,7 @@ fn flux(alloc: Global, rule: &Rule, value: &Value) -> Result<FluxRow, Misread>
     Ok(FluxRow::of(flows))
 }
 
-/// Reads an array with a weight for each letter of a rule. Returns `Shape` for any other value.
+/// Reads an array with a weight for each letter of a rule. Returns the error `Shape` for any other value.
 pub fn weights(alloc: Global, rule: &Rule, value: &Value) -> Result<Weights, Misread>
     ensures weights { IfOk result (IsWeightsFor rule.now (view value.now)) }
     ensures none { IfErr result (λ f. f ≡ Misread.Shape
@@ -182,8 +185,8 @@ pub fn weights(alloc: Global, rule: &Rule, value: &Value) -> Result<Weights, Mis
     }
 }
 
-/// Reads the ranks: `{"backward":[..],"forward":[..]}`. Returns the forward claims first. Returns `Shape` for any
-/// other value.
+/// Reads the claims, which are bounds of ranks: `{"backward":[..],"forward":[..]}`. Returns the forward claims first.
+/// Returns the error `Shape` for any other value.
 pub fn ranks(alloc: Global, rule: &Rule, value: &Value) -> Result<(RankRow, RankRow), Misread>
     ensures rows { IfOk result (λ p. AreRanksFor rule.now (view value.now) p.0 p.1) }
     ensures none { IfErr result (λ f. f ≡ Misread.Shape → (forward backward : List (Option ℕ))
@@ -197,8 +200,8 @@ pub fn ranks(alloc: Global, rule: &Rule, value: &Value) -> Result<(RankRow, Rank
     Ok((forward, backward))
 }
 
-/// Reads an array with a claim for each pair of nodes of a rule: a number, or null for no claim. Returns `Shape` for
-/// any other value.
+/// Reads an array with a claim for each pair of nodes of a rule: a number, or null if nothing is claimed. Returns the
+/// error `Shape` for any other value.
 fn row(alloc: Global, rule: &Rule, value: &Value) -> Result<RankRow, Misread>
     ensures row { IfOk result (IsRowFor rule.now (view value.now)) }
     ensures none { IfErr result (λ f. f ≡ Misread.Shape

@@ -1,4 +1,4 @@
-//! The trait `Item`, and functions that read arrays of items.
+//! Functions that read arrays of items. The trait `Item` is for types whose values can be items of a JSON array.
 ghost use Rattle.std.specs.Prelude.{◌≡◌, ◌≢◌, List, length, IfOk, IfErr, IfSome, IfNone};
 ghost use Rattle.serde_json.specs.Data.{Data, array, item, no_items};
 ghost use Rattle.serde_json.specs.View.{view};
@@ -9,7 +9,7 @@ use crate::misread::Misread;
 use serde_json::Value;
 use std::alloc::Global;
 
-/// An item of a JSON array.
+/// A type whose values can be items of a JSON array.
 pub trait Item: Sized {
     ghost is_item: { Data → Self → Type 0 };
 
@@ -66,7 +66,7 @@ impl Item for i32 {
     }
 }
 
-/// Reads the items of an array, in their order. Returns `Shape` if the value isn't an array of such items.
+/// Reads the items of an array, in their order. Returns the error `Shape` if the value isn't an array of such items.
 pub fn array<T: Item + Drop>(alloc: Global, value: &Value) -> Result<Vec<T>, Misread>
     ensures items { IfOk result (λ v. IsArrayOf T.is_item (view value.now) v.items) }
     ensures none { IfErr result (λ e. e ≡ Misread.Shape
@@ -85,7 +85,8 @@ pub fn array<T: Item + Drop>(alloc: Global, value: &Value) -> Result<Vec<T>, Mis
     Ok(items)
 }
 
-/// Reads the items of an array with `count` items. Returns `Shape` if the value isn't an array of `count` such items.
+/// Reads the items of an array with `count` items. Returns the error `Shape` if the value isn't an array of `count`
+/// such items.
 pub fn array_of<T: Item + Drop>(
     alloc: Global,
     count: usize,

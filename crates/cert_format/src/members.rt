@@ -30,7 +30,8 @@ pub fn member<'a>(value: &'a Value, key: &str) -> Option<&'a Value>
     value.get(key)
 }
 
-/// Returns the value of the member with this key, or None if the object doesn't have it or has another member.
+/// Returns the value of the member with this key. Returns None if the object doesn't have this member, or has another
+/// member too.
 pub fn only<'a>(value: &'a Value, key: &str) -> Option<&'a Value>
     ensures some { IfSome result (λ v. HasOnly key.now (view v.now) (view value.now)) }
     ensures none { IfNone result ((d : Data) → ¬ HasOnly key.now d (view value.now)) }
@@ -47,7 +48,7 @@ pub fn only<'a>(value: &'a Value, key: &str) -> Option<&'a Value>
 }
 
 /// Returns the values of the members with these two keys, which are in ascending order. Returns None if the object
-/// doesn't have both members or has another member.
+/// doesn't have both members, or has another member too.
 pub fn only_both<'a>(value: &'a Value, first: &str, second: &str) -> Option<(&'a Value, &'a Value)>
     ensures some { IfSome result (λ p.
         HasOnlyBoth first.now (view p.0.now) second.now (view p.1.now) (view value.now)) }

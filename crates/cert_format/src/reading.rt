@@ -22,7 +22,7 @@ use std::alloc::{AllocError, Global};
 use word_image::Rule;
 
 /// Reads the certificate whose text the bytes are, or returns the first fault of the bytes. The text may have blanks,
-/// and its keys in any order. If a key occurs twice, the last member counts.
+/// and its keys may be in any order. If a key occurs twice, the last member counts.
 pub fn from_bytes(alloc: Global, bytes: &[u8]) -> Result<Cert, CertFault>
     ensures cert { IfOk result (IsCertificateText bytes.now) }
     ensures fault { IfErr result (IsCertFault bytes.now) }

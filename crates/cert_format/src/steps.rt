@@ -1,4 +1,4 @@
-//! The steps of reading a certificate. Each step finds the member with a key, and reads its value.
+//! The steps of reading a certificate. Each step finds the member with a key in a JSON object, and reads its value.
 ghost use Rattle.std.specs.Prelude.{ℕ, List, Option, IfOk, IfErr};
 ghost use Rattle.serde_json.specs.View.{view};
 ghost use Rattle.cert_values.specs.Evidence.{SurjectiveEvidence, InjectiveEvidence, SideEvidence, SumEvidence};
@@ -42,8 +42,8 @@ pub fn injective_step(alloc: Global, rule: &Rule, value: &Value) -> Result<Injec
     injective(alloc, rule, part).map_err(|fault| fault.fault_at(Key::Injective))
 }
 
-/// Reads the evidence about closing on a side, which is under the key `name`. Otherwise returns the fault that it is
-/// missing or has the wrong shape. `key` names the side in this fault.
+/// Reads the evidence about closing on a side, which is the member with the key `name`. Otherwise returns the fault
+/// that it is missing or has the wrong shape. `key` names the side in this fault.
 pub fn side_step(
     alloc: Global,
     rule: &Rule,
@@ -61,7 +61,7 @@ pub fn side_step(
     side(alloc, rule, part).map_err(|fault| fault.fault_at(key))
 }
 
-/// Reads the evidence about the sum, or returns the fault that it is missing or has the wrong shape.
+/// Reads the evidence about conservation of the sum, or returns the fault that it is missing or has the wrong shape.
 pub fn conserving_step(alloc: Global, rule: &Rule, value: &Value) -> Result<SumPart, CertFault>
     ensures part { IfOk result (λ p.
         HasConserving rule.now (members_in (view value.now)) (sum_of p)) }

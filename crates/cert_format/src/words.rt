@@ -13,7 +13,7 @@ use std::alloc::Global;
 use tail_config::{Tail, TailTextFault, parse};
 use word_image::{Word, letter};
 
-/// Reads a string of hexadecimal digits as a word of letters below k. Returns `Shape` for any other value.
+/// Reads a string of hexadecimal digits as a word of letters below k. Returns the error `Shape` for any other value.
 pub fn word(alloc: Global, k: u8, value: &Value) -> Result<Word, Misread>
     ensures word { IfOk result (IsWordValue k (view value.now)) }
     ensures none { IfErr result (λ e. e ≡ Misread.Shape
@@ -25,7 +25,7 @@ pub fn word(alloc: Global, k: u8, value: &Value) -> Result<Word, Misread>
     Ok(Word::of(letters(alloc, k, text.as_bytes())?))
 }
 
-/// Reads hexadecimal digits as letters below k. Returns `Shape` if a byte isn't the digit of such a letter.
+/// Reads hexadecimal digits as letters below k. Returns the error `Shape` if a byte isn't the digit of such a letter.
 fn letters(alloc: Global, k: u8, digits: &[u8]) -> Result<Vec<u8>, Misread>
     ensures letters { IfOk result (λ v. IsLetters k digits.now v.items) }
     ensures none { IfErr result (λ e. e ≡ Misread.Shape
@@ -52,7 +52,7 @@ fn letter_below(k: u8, digit: u8) -> Option<u8>
     }
 }
 
-/// Reads an array of two strings as two words of letters below k. Returns `Shape` for any other value.
+/// Reads an array of two strings as two words of letters below k. Returns the error `Shape` for any other value.
 pub fn words(alloc: Global, k: u8, value: &Value) -> Result<(Word, Word), Misread>
     ensures words { IfOk result (λ p. IsWordsValue k (view value.now) p.0 p.1) }
     ensures none { IfErr result (λ e. e ≡ Misread.Shape
@@ -66,8 +66,8 @@ pub fn words(alloc: Global, k: u8, value: &Value) -> Result<(Word, Word), Misrea
     Ok((x, y))
 }
 
-/// Reads a string as the text of a configuration over the letters below k. k is from 2 to 16. Returns `Shape` for any
-/// other value.
+/// Reads a string as the text of a configuration over the letters below k. k is from 2 to 16. Returns the error `Shape`
+/// for any other value.
 pub fn tail(alloc: Global, k: u8, value: &Value) -> Result<Tail, Misread>
     requires least { 2 ≤ k }
     requires most { k ≤ most_states }
@@ -86,7 +86,8 @@ pub fn tail(alloc: Global, k: u8, value: &Value) -> Result<Tail, Misread>
     }
 }
 
-/// Reads an array of two strings as two configurations over the letters below k. Returns `Shape` for any other value.
+/// Reads an array of two strings as two configurations over the letters below k. Returns the error `Shape` for any
+/// other value.
 pub fn tails(alloc: Global, k: u8, value: &Value) -> Result<(Tail, Tail), Misread>
     requires least { 2 ≤ k }
     requires most { k ≤ most_states }

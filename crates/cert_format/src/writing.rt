@@ -119,7 +119,7 @@ fn side_value(alloc: Global, side: &SidePart) -> Result<Value, AllocError>
     }
 }
 
-/// Returns the evidence about the sum as JSON: a flux or a ring.
+/// Returns the evidence about conservation of the sum as JSON: a flux or a ring.
 fn sum_value(alloc: Global, cert: &Cert) -> Result<Value, AllocError>
     ensures { IfOk result (λ v. view v ≡ written.sum_value (cert.now).conserving) }
 {
@@ -135,7 +135,7 @@ fn sum_value(alloc: Global, cert: &Cert) -> Result<Value, AllocError>
     }
 }
 
-/// Returns the forward and the backward claims as JSON.
+/// Returns the forward and the backward claims, which are bounds of ranks, as JSON.
 fn ranks_value(alloc: Global, cert: &Cert) -> Result<Value, AllocError>
     ensures { IfOk result (λ v. view v
         ≡ written.ranks_value (cert.now).forward (cert.now).backward) }
@@ -145,7 +145,7 @@ fn ranks_value(alloc: Global, cert: &Cert) -> Result<Value, AllocError>
     json!(in alloc; {"backward": backward, "forward": forward})
 }
 
-/// Returns the numbers of sets or of pairs as an array of numbers.
+/// Returns a list of sets or of pairs, each given by its number, as a JSON array of numbers.
 fn sets_value(alloc: Global, sets: &SetList) -> Result<Value, AllocError>
     ensures { IfOk result (λ v. view v ≡ array_from (map written.whole_value sets.now)) }
 {
@@ -154,7 +154,7 @@ fn sets_value(alloc: Global, sets: &SetList) -> Result<Value, AllocError>
     Ok(Value::from(values))
 }
 
-/// Returns claims as an array, with a number for each claim and null for each pair without a claim.
+/// Returns claims as a JSON array: a number for each claim, and null for each pair of nodes without a claim.
 fn claims_value(alloc: Global, claims: &RankRow) -> Result<Value, AllocError>
     ensures { IfOk result (λ v. view v ≡ array_from (map written.claim_value claims.now)) }
 {

@@ -1,4 +1,6 @@
--- The JSON value of a certificate, and the bytes that are its text.
+-- A certificate has evidence for each verdict about a rule, a weight for each letter, and claims. A claim is an upper
+-- bound of the rank of a pair of nodes, which says how long two walks from its nodes, or to them, can have equal
+-- labels. This file defines which bytes are the JSON text of which certificate.
 use Rattle.std.specs.Prelude.{◌≡◌, ℕ, List, [], ◌∷◌, ◌++◌, codes, Option, Some, None, Contains, IsUtf8, ℤ, option_and_then, if◌then◌else◌, true}
 use Rattle.std.specs.List.{AllZip}
 use Rattle.serde_json.specs.Data.{Data, null, array, object, Items, no_items, item, Members, no_members, member}
@@ -24,7 +26,7 @@ IsJson bytes d = IsUtf8 bytes × (read bytes ≡ Some d)
 abbrev pub IsWhole : Data → ℕ → Type 0
 IsWhole d n = option_and_then as_u64 (as_number d) ≡ Some n
 
--- the value is this signed whole number of 64 bits
+-- the value is this whole number, which is from -2^63 to 2^63 - 1
 abbrev pub IsSigned : Data → ℤ → Type 0
 IsSigned d z = option_and_then as_i64 (as_number d) ≡ Some z
 
@@ -32,11 +34,11 @@ IsSigned d z = option_and_then as_i64 (as_number d) ≡ Some z
 abbrev pub IsDigits : Data → List ℕ → Type 0
 IsDigits d w = (text : List ℕ) × (as_str d ≡ Some text) × Spells text w
 
--- the value is a string of the three parts of this configuration with bars between them
+-- the value is a string of this configuration: its left period, its middle and its right period, with bars between them
 abbrev pub IsTailString : Data → TailConfig → Type 0
 IsTailString d t = (text : List ℕ) × (as_str d ≡ Some text) × HasParts text t
 
--- the value is this claim: null for None, or a whole number
+-- the value is this claim: null if nothing is claimed, or a whole number
 abbrev pub IsClaimValue : Data → Option ℕ → Type 0
 IsClaimValue d None = d ≡ null
 IsClaimValue d (Some n) = IsWhole d n
@@ -46,7 +48,7 @@ abbrev pub list_of : Items → List Data
 list_of no_items = []
 list_of (item d ds) = d ∷ list_of ds
 
--- the value is an array whose items R relates to the elements of the list, in order
+-- the value d is an array, and `R` relates its items, in order, to the elements of the list `xs`
 abbrev pub IsArrayOf : {A : Type 0} → (Data → A → Type 0) → Data → List A → Type 0
 IsArrayOf R d xs = (ds : Items) × (d ≡ array ds) × AllZip R (list_of ds) xs
 
@@ -54,7 +56,7 @@ IsArrayOf R d xs = (ds : Items) × (d ≡ array ds) × AllZip R (list_of ds) xs
 abbrev pub HasOnly : List ℕ → Data → Data → Type 0
 HasOnly k v d = as_object d ≡ Some (member k v no_members)
 
--- the value d is an object with only these two keys, in ascending order, and their values
+-- the value d is an object with only the keys k and l, in ascending order; v is the value of k, and u is the value of l
 abbrev pub HasOnlyBoth : List ℕ → Data → List ℕ → Data → Data → Type 0
 HasOnlyBoth k v l u d = as_object d ≡ Some (member k v (member l u no_members))
 
@@ -79,7 +81,7 @@ abbrev pub IsSumValue : Data → SumEvidence → Type 0
 IsSumValue d (Flux phi) = (v : Data) × HasOnly (codes "flux") v d × IsArrayOf IsSigned v phi
 IsSumValue d (Ring p) = (v : Data) × HasOnly (codes "ring") v d × IsDigits v p
 
--- the value is {"backward":[..],"forward":[..]}, with these claims of ranks, backward and forward
+-- the value is {"backward":[..],"forward":[..]} with these backward claims and these forward claims
 abbrev pub IsRanksValue : Data → List (Option ℕ) → List (Option ℕ) → Type 0
 IsRanksValue d forward backward = (v u : Data) × HasOnlyBoth (codes "backward") v (codes "forward") u d × IsArrayOf IsClaimValue v backward × IsArrayOf IsClaimValue u forward
 
@@ -89,7 +91,7 @@ IsRanksValue d forward backward = (v u : Data) × HasOnlyBoth (codes "backward")
 abbrev pub IsObject : List ℕ → Members → Type 0
 IsObject bytes ms = IsJson bytes (object ms)
 
--- there is a member with this key, and it has the property
+-- there is a member with the key k, and `P` holds for its value
 abbrev pub HasMember : Members → List ℕ → (Data → Type 0) → Type 0
 HasMember ms k P = (d : Data) × (get_member k ms ≡ Some d) × P d
 
@@ -105,36 +107,36 @@ HasRuleText ms text = HasMember ms (codes "rule") (λ d. as_str d ≡ Some text)
 abbrev pub keys : List (List ℕ)
 keys = codes "conserving" ∷ codes "injective" ∷ codes "left" ∷ codes "ranks" ∷ codes "right" ∷ codes "rule" ∷ codes "surjective" ∷ codes "version" ∷ []
 
--- the keys that a certificate of this version may have; the key of the weights is one of them only if the version may name weights
+-- the keys that a certificate of this version may have; "weights" is one of them unless the version is 1
 abbrev pub keys_of : CertVersion → List (List ℕ)
 keys_of version = keys ++ (if names_weights version then codes "weights" ∷ [] else [])
 
--- each key of the members is one that a certificate of this version may have
+-- the members have no keys except those that a certificate of this version may have
 abbrev pub HasNoOther : CertVersion → Members → Type 0
 HasNoOther version ms = (k : List ℕ) (d : Data) → get_member k ms ≡ Some d → Contains (keys_of version) k
 
--- there is a member "surjective" with this evidence that the rule is surjective, or that it isn't, and the evidence is within the limits of the version and of the rule
+-- the member "surjective" has the evidence e, and e is within the limits of the version and of the rule
 abbrev pub HasSurjective : CertVersion → LocalRule → Members → SurjectiveEvidence → Type 0
 HasSurjective version r ms e = HasMember ms (codes "surjective") (λ d. IsSurjectiveValue d e) × IsSurjectiveShape version r e
 
--- there is a member "injective" with this evidence that the rule is injective, or that it isn't, and the evidence is within the limits of the rule
+-- the member "injective" has the evidence e, and e is within the limits of the rule
 abbrev pub HasInjective : LocalRule → Members → InjectiveEvidence → Type 0
 HasInjective r ms e = HasMember ms (codes "injective") (λ d. IsInjectiveValue d e) × IsInjectiveShape r e
 
--- there is a member with this key, "right" or "left", with this evidence that the rule is closing on this side, or that it isn't, and the evidence is within the limits of the rule
+-- the member with the key k, which is "right" or "left", has the evidence e, and e is within the limits of the rule
 abbrev pub HasSide : List ℕ → LocalRule → Members → SideEvidence → Type 0
 HasSide k r ms e = HasMember ms k (λ d. IsSideValue d e) × IsSideShape r e
 
--- there is a member "conserving" with this evidence that the rule is conserving, or that it isn't, and the evidence is within the limits of the rule
+-- the member "conserving" has the evidence e, and e is within the limits of the rule
 abbrev pub HasConserving : LocalRule → Members → SumEvidence → Type 0
 HasConserving r ms e = HasMember ms (codes "conserving") (λ d. IsSumValue d e) × IsSumShape r e
 
--- the weights are the value of the member "weights"; if there is no such member, or the version may not name weights, each letter weighs its own value
+-- the weights are the value of the member "weights"; without such a member, and in version 1, each letter weighs its own value
 pub data HasWeights (version : CertVersion) (r : LocalRule) (ms : Members) (weights : List ℕ) : Type 0 where
   Named : names_weights version ≡ true → HasMember ms (codes "weights") (λ d. IsArrayOf IsWhole d weights) → AreWeights r.states weights → HasWeights version r ms weights
   Own : (names_weights version ≡ true → get_member (codes "weights") ms ≡ None) → weights ≡ own_weights r.states → HasWeights version r ms weights
 
--- there is a member "ranks" with the forward claims and the backward claims of ranks, and the claims are within the limits of the rule
+-- the member "ranks" has these forward claims and these backward claims, and they are within the limits of the rule
 abbrev pub HasRanks : LocalRule → Members → List (Option ℕ) → List (Option ℕ) → Type 0
 HasRanks r ms forward backward = HasMember ms (codes "ranks") (λ d. IsRanksValue d forward backward) × IsRankShape r forward × IsRankShape r backward
 
@@ -149,7 +151,7 @@ pub record AreParts (ms : Members) (c : Certificate) : Type 0 where
   pub ranks : HasRanks c.rule ms c.forward c.backward
   pub no_other : HasNoOther c.version ms
 
--- the bytes are the text of this certificate
+-- the bytes are the text of the certificate c: JSON with its version, its rule, its other parts, and no other keys
 pub record IsCertificateText (bytes : List ℕ) (c : Certificate) : Type 0 where
   pub members : Members
   pub text : List ℕ

@@ -1,4 +1,5 @@
--- The values in contracts that stand for the parts of a certificate, and all limits of these parts.
+-- The code has types of its own for the parts of a certificate. This file says which evidence and which certificate
+-- their values represent, and defines the limits of all parts of a certificate.
 use Rattle.std.specs.Prelude.{◌≡◌, ℕ, ⊤, List, false}
 use Rattle.word_image.specs.LocalRules.{IsRule, LocalRule}
 use Rattle.cert_values.specs.declared.parts.SurjectivePart.{SurjectivePart}
@@ -16,7 +17,7 @@ use Rattle.word_image.specs.Weights.{AreWeights, own_weights}
 use Rattle.cert_values.specs.declared.cert_version.CertVersion.{CertVersion}
 use Rattle.cert_values.specs.Versions.{names_weights}
 
--- the evidence that a part of a certificate stands for
+-- the evidence that a value of the code represents, for each kind of evidence
 abbrev pub surjective_of : SurjectivePart → SurjectiveEvidence
 surjective_of (Sets sets) = SurjectiveEvidence.Sets sets
 surjective_of (Pairs pairs) = SurjectiveEvidence.Pairs pairs
@@ -34,7 +35,7 @@ abbrev pub sum_of : SumPart → SumEvidence
 sum_of (Flux phi) = SumEvidence.Flux phi
 sum_of (Ring p) = SumEvidence.Ring p
 
--- the certificate for which the parts in a value of the code stand
+-- the certificate that a value of the code represents
 abbrev pub certificate_of : Inside → Certificate
 certificate_of c = record {
   version = c.version;
@@ -49,17 +50,17 @@ certificate_of c = record {
   backward = c.backward;
 }
 
--- if the part has two configurations, both have k states
+-- if the part has two configurations, both of them have k states
 abbrev pub IsOver : ℕ → SidePart → Type 0
 IsOver k (Ahead n) = ⊤
 IsOver k (Split x y) = (x.states ≡ k) × (y.states ≡ k)
 
--- there is a weight for each letter, and it is the letter's own value if the version may not name weights
+-- there is a weight for each letter; in version 1, which has no weights, each letter weighs its own value
 pub record IsWeightShape (version : CertVersion) (r : LocalRule) (weights : List ℕ) : Type 0 where
   pub each : AreWeights r.states weights
   pub own : names_weights version ≡ false → weights ≡ own_weights r.states
 
--- the certificate keeps the limits of its rule and of all its parts
+-- the certificate is within the limits of its rule and of all its parts
 pub record IsShaped (c : Certificate) : Type 0 where
   pub rule : IsRule c.rule
   pub surjective : IsSurjectiveShape c.version c.rule c.surjective

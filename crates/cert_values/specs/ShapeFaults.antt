@@ -1,4 +1,5 @@
--- Bytes that aren't the text of a certificate fail some step of reading. This file defines the first step that they fail.
+-- A certificate is read from bytes in steps, in a fixed order. If bytes aren't the text of a certificate, some step
+-- fails. This file defines which one fails first.
 use Rattle.std.specs.Prelude.{◌≡◌, ◌≢◌, ℕ, List, [], ◌∷◌, ◌++◌, codes, Option, None, All, ⊤}
 use Rattle.serde_json.specs.Data.{Data, Members}
 use Rattle.serde_json.specs.Find.{as_object}
@@ -14,7 +15,7 @@ use Rattle.cert_values.specs.Evidence.{SurjectiveEvidence, InjectiveEvidence, Si
 use Rattle.cert_values.specs.Versions.{number_of}
 use Rattle.cert_values.specs.CertificateTexts.{IsJson, IsObject, HasVersion, HasRuleText, HasSurjective, HasInjective, HasSide, HasConserving, HasWeights, HasRanks, HasNoOther}
 
--- the members pass the step of reading the part with this key; the first three keys come before the parts, and are passed
+-- the members pass the step that reads the part with this key; the first three keys are read before the parts and count as passed
 abbrev pub Passes : CertVersion → LocalRule → Members → Key → Type 0
 Passes version r ms key.Top = ⊤
 Passes version r ms key.Version = ⊤
@@ -28,7 +29,7 @@ Passes version r ms key.Weights = (weights : List ℕ) × HasWeights version r m
 Passes version r ms key.Ranks = (forward backward : List (Option ℕ)) × HasRanks r ms forward backward
 Passes version r ms key.Unknown = HasNoOther version ms
 
--- the steps of reading the parts of a certificate, in their order
+-- the steps that read the parts of a certificate, in their order
 abbrev pub part_steps : List Key
 part_steps = key.Surjective ∷ key.Injective ∷ key.Right ∷ key.Left ∷ key.Conserving ∷ key.Weights ∷ key.Ranks ∷ key.Unknown ∷ []
 
@@ -40,7 +41,7 @@ pub record IsFirstWithout {A : Type 0} (P : A → Type 0) (xs : List A) (x : A) 
   pub earlier : All P before
   pub fails : ¬ P x
 
--- The bytes aren't the text of a certificate, and this is the first step that they fail: they aren't JSON, or aren't an object, or have no version or an unknown one, or have no rule or one with a fault, or fail the step of a later part.
+-- The first step that fails: the bytes aren't JSON, aren't an object, have no version or an unknown one, have no rule or a wrong one, or a later part is wrong.
 pub data IsShapeFault (bytes : List ℕ) : ShapeFault → Type 0 where
   NoJson : ((d : Data) → ¬ IsJson bytes d) → IsShapeFault bytes fault.NotJson
   NoObject : (d : Data) → IsJson bytes d → as_object d ≡ None → IsShapeFault bytes (fault.Shape key.Top)

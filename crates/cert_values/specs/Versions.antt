@@ -1,4 +1,4 @@
--- The differences between the versions of certificates.
+-- Certificates have three versions. This file says how the versions differ.
 use Rattle.std.specs.Prelude.{ℕ, Bool, true, false}
 use Rattle.cert_values.specs.declared.cert_version.CertVersion.{CertVersion}
 use Rattle.cert_values.specs.declared.cert_version.CertVersion.TheVariants.{One, Two, Three}
@@ -9,13 +9,13 @@ number_of One = 1
 number_of Two = 2
 number_of Three = 3
 
--- whether a certificate of this version may name the weights of the letters: it may from version 2 on
+-- whether a certificate of this version may name the weights of the letters (versions 2 and 3)
 abbrev pub names_weights : CertVersion → Bool
 names_weights One = false
 names_weights Two = true
 names_weights Three = true
 
--- whether a certificate of this version may list pairs of nodes: it may in version 3
+-- whether a certificate of this version may list pairs of nodes (version 3)
 abbrev pub lists_pairs : CertVersion → Bool
 lists_pairs One = false
 lists_pairs Two = false

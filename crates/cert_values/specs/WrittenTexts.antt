@@ -1,4 +1,4 @@
--- The text that the program writes for a certificate.
+-- The text that the program writes for a certificate: JSON with ascending keys and without blanks.
 use Rattle.std.specs.Prelude.{ℕ, List, [], ◌∷◌, map, codes, Option, Some, None, ℤ, bytes_eq, if◌then◌else◌}
 use Rattle.serde_json.specs.Data.{Data, null, number, string, array, object, unsigned, Members, no_members, member}
 use Rattle.serde_json.specs.Find.{of_integer}
@@ -26,7 +26,7 @@ whole_value n = number (unsigned n)
 abbrev pub signed_value : ℤ → Data
 signed_value z = number (of_integer z)
 
--- the JSON string of the hexadecimal digits of a word, in lower case
+-- the JSON string of the hexadecimal digits of a word, in lower case, one digit for each letter
 abbrev pub word_value : List ℕ → Data
 word_value w = string (map lower_digit w)
 
@@ -34,7 +34,7 @@ word_value w = string (map lower_digit w)
 abbrev pub tail_value : TailConfig → Data
 tail_value t = string (tail.printed t)
 
--- the JSON value of a claim: null if nothing is claimed, or else a number
+-- the JSON value of a claim, which is a bound of the rank of a pair of nodes: null if nothing is claimed, or else a number
 abbrev pub claim_value : Option ℕ → Data
 claim_value None = null
 claim_value (Some n) = whole_value n
@@ -43,37 +43,37 @@ claim_value (Some n) = whole_value n
 abbrev pub only : List ℕ → Data → Data
 only k d = object (member k d no_members)
 
--- the JSON value of the evidence that a rule is surjective, or that it isn't: {"sets":[..]}, {"pairs":[..]} or {"orphan":".."}
+-- the JSON value of the evidence on surjectivity: {"sets":[..]}, {"pairs":[..]} or {"orphan":".."}
 abbrev pub surjective_value : SurjectiveEvidence → Data
 surjective_value (Sets sets) = only (codes "sets") (array_from (map whole_value sets))
 surjective_value (Pairs pairs) = only (codes "pairs") (array_from (map whole_value pairs))
 surjective_value (Orphan w) = only (codes "orphan") (word_value w)
 
--- the JSON value of the evidence that a rule is injective, or that it isn't: {"c":C,"n":N} or {"twins":["..",".."]}
+-- the JSON value of the evidence on injectivity: {"c":C,"n":N} or {"twins":["..",".."]}
 abbrev pub injective_value : InjectiveEvidence → Data
 injective_value (Window n c) = object (member (codes "c") (whole_value c) (member (codes "n") (whole_value n) no_members))
 injective_value (Twins x y) = only (codes "twins") (array_from (word_value x ∷ word_value y ∷ []))
 
--- the JSON value of the evidence that a rule is closing on a side, or that it isn't: {"ahead":A} or {"split":["..",".."]}
+-- the JSON value of the evidence on closing on a side: {"ahead":A} or {"split":["..",".."]}
 abbrev pub side_value : SideEvidence → Data
 side_value (Ahead n) = only (codes "ahead") (whole_value n)
 side_value (Split x y) = only (codes "split") (array_from (tail_value x ∷ tail_value y ∷ []))
 
--- the JSON value of the evidence that a rule is conserving, or that it isn't: {"flux":[..]} or {"ring":".."}
+-- the JSON value of the evidence on conservation: {"flux":[..]} or {"ring":".."}
 abbrev pub sum_value : SumEvidence → Data
 sum_value (Flux phi) = only (codes "flux") (array_from (map signed_value phi))
 sum_value (Ring p) = only (codes "ring") (word_value p)
 
--- the JSON value of the claims of ranks: {"backward":[..],"forward":[..]}
+-- the JSON value of the claims, which are bounds of ranks: {"backward":[..],"forward":[..]}
 abbrev pub ranks_value : List (Option ℕ) → List (Option ℕ) → Data
 ranks_value forward backward =
     object (member (codes "backward") (array_from (map claim_value backward)) (member (codes "forward") (array_from (map claim_value forward)) no_members))
 
--- the member of the weights, or no member if they are the letters' own values
+-- the member "weights", or no member if each letter weighs its own value
 abbrev pub weights_members : LocalRule → List ℕ → Members
 weights_members r weights = if bytes_eq weights (own_weights r.states) then no_members else member (codes "weights") (array_from (map whole_value weights)) no_members
 
--- the members that each certificate has, followed by the given members
+-- the members that each certificate has, followed by the members `rest`
 abbrev pub members_before : Members → Certificate → Members
 members_before rest c =
     member (codes "conserving") (sum_value c.conserving)

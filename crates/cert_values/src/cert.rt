@@ -1,4 +1,7 @@
 //! The type `Cert`: a certificate whose parts are within their limits.
+//!
+//! A certificate claims bounds of ranks. The forward rank of a pair of nodes is the greatest length of two walks with
+//! equal labels that begin at its nodes. The backward rank is the same for two walks that end at its nodes.
 use crate::cert_version::CertVersion;
 use crate::parts::{InjectivePart, SidePart, SumPart, SurjectivePart};
 use std::marker::Model;
@@ -15,8 +18,8 @@ pub struct Cert {
     /// The evidence that the rule is surjective, or that it isn't: sets of nodes, pairs of nodes, or a word over the
     /// letters of the rule.
     pub surjective: SurjectivePart,
-    /// The evidence that the rule is injective, or that it isn't: a window with 1 ≤ n and c ≤ n + m - 2, or two
-    /// words.
+    /// The evidence that the rule is injective, or that it isn't: a window (n, c) with 1 ≤ n and c ≤ n + m - 2, for
+    /// width m, or two words.
     pub injective: InjectivePart,
     /// The evidence that the rule closes on the right, or that it doesn't: a look-ahead of at least 1, or two
     /// configurations over the letters of the rule.
@@ -24,16 +27,16 @@ pub struct Cert {
     /// The evidence that the rule closes on the left, or that it doesn't: a look-ahead of at least 1, or two
     /// configurations over the letters of the rule.
     pub left: SidePart,
-    /// The evidence that the rule conserves the sum, or that it doesn't: a flux with a number from -1,000,000 to
-    /// 1,000,000 for each node, or a word.
+    /// The evidence that the rule conserves the sum of weights, or that it doesn't: a flux with a number from
+    /// -1,000,000 to 1,000,000 for each node, or a word.
     pub conserving: SumPart,
     /// The weight of each letter in a sum. In version 1 each letter weighs its own value.
     pub weights: Weights,
-    /// The forward claim for each pair of nodes. It says that the forward rank of the pair is at most this number.
-    /// None is no claim.
+    /// The forward claim for each pair of nodes: the forward rank of the pair is at most this number. None claims
+    /// nothing.
     pub forward: RankRow,
-    /// The backward claim for each pair of nodes. It says that the backward rank of the pair is at most this number.
-    /// None is no claim.
+    /// The backward claim for each pair of nodes: the backward rank of the pair is at most this number. None claims
+    /// nothing.
     pub backward: RankRow,
 }
 

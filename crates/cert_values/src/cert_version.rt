@@ -1,4 +1,5 @@
-//! The versions of certificates.
+//! The versions of certificates. A certificate can list sets of nodes to prove that a rule is surjective. A step leads
+//! from a set, on a letter, to the set of all nodes that edges with this label reach from the set.
 ghost use Rattle.std.specs.Prelude.{◌≡◌, ◌≢◌, IfSome, IfNone};
 ghost use Rattle.cert_values.specs.Versions.{number_of, names_weights, lists_pairs};
 

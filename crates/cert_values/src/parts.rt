@@ -1,4 +1,4 @@
-//! The parts of a certificate: for each question, the evidence for its answer.
+//! The parts of a certificate: the evidence for the answer to each question about a rule of width m.
 use tail_config::Tail;
 use word_image::{FluxRow, SetList, Word};
 
@@ -7,7 +7,8 @@ use word_image::{FluxRow, SetList, Word};
 pub enum SurjectivePart {
     /// The rule is surjective, which these sets of nodes prove. Bit u of a set stands for node u.
     Sets(SetList),
-    /// The rule is surjective, which these pairs of nodes prove. The pair (u, v) has the number u N + v.
+    /// The rule is surjective, which these pairs of nodes prove. If there are N nodes, the pair (u, v) has the number u
+    /// N + v.
     Pairs(SetList),
     /// The rule isn't surjective, since this word has no preimage.
     Orphan(Word),
@@ -16,8 +17,8 @@ pub enum SurjectivePart {
 /// The evidence that a rule is injective, or that it isn't.
 #[derive(Debug, Drop)]
 pub enum InjectivePart {
-    /// The rule is injective, since n letters of an image determine letter c of the n + m - 1 letters of each
-    /// preimage.
+    /// The rule is injective, since n letters of an image determine the letter at place c of each preimage. A preimage
+    /// of n letters has n + m - 1 letters, and places start at 0.
     Window { n: u16, c: u16 },
     /// The rule isn't injective, since the rings of these two words have the same image.
     Twins { x: Word, y: Word },

@@ -1,7 +1,7 @@
 //! Why bytes aren't the text of a certificate.
 use rule_text::TextFault;
 
-/// A part of a certificate, to say which part has the wrong shape.
+/// A part of a certificate. A fault names the part that has the wrong shape.
 #[derive(Clone, Copy, Debug, PartialEq, Eq)]
 pub enum Key {
     /// The whole text, which isn't a JSON object.
@@ -18,11 +18,11 @@ pub enum Key {
     Right,
     /// The evidence about closing on the left.
     Left,
-    /// The evidence about the sum.
+    /// The evidence about conservation of the sum of weights.
     Conserving,
     /// The weights of the letters.
     Weights,
-    /// The ranks of the pairs of nodes.
+    /// The claims, which are bounds of the ranks of the pairs of nodes.
     Ranks,
     /// Another key, which no certificate of this version has.
     Unknown,

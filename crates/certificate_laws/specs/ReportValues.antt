@@ -1,9 +1,9 @@
--- The evidence for which a report of the code stands.
+-- The code has a type `Report` for the evidence about a rule. This file says which evidence its values represent.
 use Rattle.cert_values.specs.Parts.{injective_of, side_of, sum_of}
 use Rattle.cert_conditions.specs.declared.report.Report.{Report}
 use Rattle.certificate_laws.specs.LeastEvidence.{Evidence}
 
--- the evidence for which a report of the code stands
+-- the evidence that a report of the code represents
 abbrev pub evidence_of : Report → Evidence
 evidence_of e = record {
   rule = e.rule;

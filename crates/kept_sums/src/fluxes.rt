@@ -1,4 +1,10 @@
 //! Finds the flux that shows that a rule keeps a sum of weights of words.
+//!
+//! Each word of `range` letters has a weight. A rule of width m keeps the sum of the weights if the words around each
+//! ring weigh as much as the words around its image. A window here has m + range - 1 letters. Its gain is the weight of
+//! its image, which has `range` letters, minus the weight of its first `range` letters. A flux has a number for each
+//! word of m + range - 2 letters: the gain of a window is the number of its first letters minus the number of its last
+//! letters.
 ghost use Rattle.std.specs.Prelude.{◌≡◌, ℕ, ◌+◌, ◌-◌, ◌*◌, ◌^◌, ◌<◌, ◌≤◌, ◌↔◌, ℤ, pos, ◌-ℤ◌, IfSome, IsSome, IsTrue};
 ghost use Rattle.std.specs.Int.RustNames.{unsigned_abs};
 ghost use Rattle.word_image.specs.LocalRules.{value, word_of};
@@ -10,21 +16,20 @@ ghost use Rattle.kept_sums.specs.Fluxes.{IsFluxList, AreGains, IsFlowBy, window_
 use crate::rows::Row;
 use word_image::Rule;
 
-/// The greatest number of words of m + range - 2 letters. For example, there are 128 words of seven letters of two
-/// states.
+/// The greatest number of words of m + range - 2 letters. For example, two states have 128 words of seven letters.
 pub const MOST_FLOWS: usize = 128;
 
-/// The greatest number of words of m + range - 1 letters.
+/// The greatest number of windows of m + range - 1 letters.
 const MOST_WINDOWS: usize = 256;
 
-/// A number for each word of m + range - 2 letters, by the word's value, followed by zeros.
+/// A number for each word of m + range - 2 letters, by the word's value. The numbers after them are 0.
 pub type Flux = [i64; MOST_FLOWS];
 
-/// The gain of each window of m + range - 1 letters, by the window's value, followed by zeros.
+/// The gain of each window of m + range - 1 letters, by the window's value. The numbers after them are 0.
 type Gains = [i64; MOST_WINDOWS];
 
-/// Returns the flux of these weights of words of `range` letters that is 0 for the word of zeros (Hattori and Takesue
-/// 1991). Returns None if the rule doesn't keep the sum of the weights. The weights are from -2^56 to 2^56.
+/// Returns the flux of these weights of words of `range` letters, with the number 0 for the word of zeros (Hattori and
+/// Takesue 1991). Returns None if the rule doesn't keep the sum of the weights. The weights are from -2^56 to 2^56.
 pub fn flux(rule: &Rule, range: u8, weights: &Row) -> Option<Flux>
     requires some { 1 ≤ range }
     requires few { rule.now.states ^ range ≤ 16 }
@@ -43,7 +48,7 @@ pub fn flux(rule: &Rule, range: u8, weights: &Row) -> Option<Flux>
     }
 }
 
-/// Returns whether the rule keeps the sum of these weights of words of `range` letters on every ring.
+/// Returns whether each ring has the same sum of these weights of words of `range` letters as its image.
 pub(crate) fn is_kept(rule: &Rule, range: u8, weights: &Row) -> bool
     requires some { 1 ≤ range }
     requires few { rule.now.states ^ range ≤ 16 }
@@ -53,7 +58,7 @@ pub(crate) fn is_kept(rule: &Rule, range: u8, weights: &Row) -> bool
     flux(rule, range, weights).is_some()
 }
 
-/// Returns for each window of m + range - 1 letters, by its value, the gain of this window.
+/// Returns the gain of each window of m + range - 1 letters, by the window's value.
 fn gains(rule: &Rule, range: u8, weights: &Row) -> Gains
     requires some { 1 ≤ range }
     requires few { rule.now.states ^ range ≤ 16 }
@@ -102,8 +107,8 @@ fn image_value(rule: &Rule, range: u8, window: u16) -> u8
     word
 }
 
-/// Returns the only numbers that can be a flux with 0 for the word of zeros. The number of a word of `letters`
-/// letters is the negative of the sum of the gains along the walk from the word of zeros to this word.
+/// Returns the only numbers that can be a flux with the number 0 for the word of zeros. The number of a word of
+/// `letters` letters is minus the sum of the gains along the walk from the word of zeros to this word.
 fn numbers(k: u16, letters: u8, gains: &Gains) -> Flux
     requires states { 2 ≤ k }
     requires few { k ^ (letters + 1) ≤ 256 }
@@ -124,7 +129,8 @@ fn numbers(k: u16, letters: u8, gains: &Gains) -> Flux
 }
 
 /// Returns whether these numbers are a flux: whether the gain of each window is the number of its first letters minus
-/// the number of its last letters. A window has one letter more than `letters`, the number of letters of a word.
+/// the number of its last letters. A window has `letters` + 1 letters, and the first and the last `letters` of them
+/// have a number.
 fn flow_by(k: u16, letters: u8, gains: &Gains, flux: &Flux) -> bool
     requires states { 2 ≤ k }
     requires few { k ^ (letters + 1) ≤ 256 }

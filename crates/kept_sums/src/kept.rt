@@ -1,4 +1,5 @@
-//! Finds all sums that a rule keeps.
+//! Finds all sums that a rule keeps. A row gives a weight to each word of `range` letters. A rule keeps the sum of a
+//! row if the words around each ring weigh as much as the words around its image.
 ghost use Rattle.std.specs.Prelude.{◌≡◌, ◌≢◌, ℕ, ◌+◌, ◌-◌, ◌*◌, ◌^◌, ◌<◌, ◌≤◌, length, take, set, true, pos, ◌<ℤ◌};
 ghost use Rattle.word_image.specs.Rings.{IsRing};
 ghost use Rattle.kept_sums.specs.Rows.{IsUnit};
@@ -12,21 +13,21 @@ use crate::rows::{MOST_WORDS, Row, gain};
 use crate::steps::{Rows, last_gain, narrow};
 use word_image::Rule;
 
-/// The sums that a rule keeps: for each word that doesn't begin with the letter 0 a row of weights or a ring.
+/// The sums that a rule keeps. For each word that doesn't begin with the letter 0 there is a row of weights or a ring.
 #[repr(C)]
 #[derive(Clone, Copy, Debug)]
 pub struct KeptSums {
-    /// The rows, each at the place of the first word to which the row gives a weight. All other rows are zeros.
+    /// The rows, each at the place of the first word to which it gives a weight other than 0. All other rows are zeros.
     pub rows: Rows,
-    /// For each word the length of the ring that shows that there is no row at the word's place, or 0 if there is no
-    /// ring at this place.
+    /// For each word the length of its ring, or 0 if it has no ring. The ring shows that no row begins at the word's
+    /// place.
     pub counts: [u8; MOST_WORDS],
-    /// For each word the letters of its ring, followed by any numbers.
+    /// For each word the letters of its ring. The numbers after them don't matter.
     pub rings: [[u8; LONGEST]; MOST_WORDS],
 }
 
-/// Returns the sums before any ring is tested: for each word that doesn't begin with the letter 0 a row that gives
-/// the weight 1 to this word and 0 to all others.
+/// Returns the sums before any ring is tested. For each word that doesn't begin with the letter 0 there is a row that
+/// gives the weight 1 to this word and the weight 0 to all others.
 fn start(rule: &Rule, range: u8) -> KeptSums
     requires some { 1 ≤ range }
     requires few { rule.now.states ^ range ≤ 16 }
@@ -46,7 +47,7 @@ fn start(rule: &Rule, range: u8) -> KeptSums
     }
 }
 
-/// Returns the row with the weight 1 at one place.
+/// Returns the row with the weight 1 at this place and the weight 0 at all others.
 fn unit(place: u8) -> Row
     requires { place < 16 }
     ensures { IsUnit place result }
@@ -56,9 +57,9 @@ fn unit(place: u8) -> Row
     row
 }
 
-/// Changes the rows so that the rule keeps their sums on this ring. If it didn't keep all of them before, one row
-/// becomes 0 and the ring is stored in its place. Most rings change nothing, so this works in place: a copy of the
-/// sums would cost more than the ring.
+/// Changes the rows so that this ring keeps the sums of all rows. If it doesn't keep all of them before, one row
+/// becomes 0, and the ring is stored in its place. Works in place: most rings change nothing, and a copy of the sums
+/// would cost more time than the ring.
 fn narrow_by_ring(rule: &Rule, range: u8, sums: &mut KeptSums, letters: &[u8; LONGEST], count: u8)
     requires few { rule.now.states ^ range ≤ 16 }
     requires stage { IsStage rule.now range sums.old.rows sums.old.counts sums.old.rings }
@@ -85,7 +86,8 @@ fn narrow_by_ring(rule: &Rule, range: u8, sums: &mut KeptSums, letters: &[u8; LO
     }
 }
 
-/// Returns the sums after the rows have been changed by all rings of `count` letters.
+/// Returns the sums after each ring of `count` letters has changed the rows. Then all these rings keep the sums of all
+/// rows.
 fn narrowed_by_rings(rule: &Rule, range: u8, sums: KeptSums, count: u8) -> KeptSums
     requires few { rule.now.states ^ range ≤ 16 }
     requires stage { IsStage rule.now range sums.rows sums.counts sums.rings }

@@ -14,20 +14,22 @@
 //! Rule 184 keeps the sum of its cells. Rule 14 doesn't, but it keeps the number of occurrences of 10 in a ring. Rule
 //! 204 keeps everything.
 //!
-//! If a rule keeps the sum of some weights, [`flux`] returns a number for each word of m + r - 2 letters. A window
-//! here has m + r - 1 letters, and its gain is the weight of its image minus the weight of its first r letters. The
-//! gain is the number of the window's first m + r - 2 letters minus the number of its last m + r - 2 letters. `flux`
-//! reads the numbers from the windows that begin with 0, and tests them on all windows.
+//! If a rule keeps the sum of some weights, [`flux`] returns a number for each word of m + r - 2 letters. A window here
+//! has m + r - 1 letters. Its gain is the weight of its image minus the weight of its first r letters. For each window,
+//! the gain is the number of its first m + r - 2 letters minus the number of its last m + r - 2 letters. `flux` finds
+//! the numbers from the windows that begin with 0, and tests them on all windows.
 //!
-//! [`kept_sums`] begins with one row for each word that doesn't begin with 0. It goes through the rings of at most 2
-//! (m + r) - 3 letters, shorter ones first, until each row that is left has a flux. The gain of a row by a ring is
+//! [`kept_sums`] begins with one row for each word that doesn't begin with 0. It goes through the rings of at most
+//! `2 (m + r) - 3` letters, shorter ones first, until each row that is left has a flux. The gain of a row by a ring is
 //! its sum on the image minus its sum on the ring. If some row has a gain other than 0, the last such row is called
-//! the pivot. Let v be the gain of the pivot. Each row b with gain u is replaced by v times b minus u times the
-//! pivot, divided by the greatest common divisor of the numbers. The pivot itself becomes 0, and the ring is stored
-//! in its place. The stored rings show that there are no other sums: all weights whose sums are kept on these rings
-//! are rational combinations of the rows and of trivial weights. No number is greater than 2^56: up to multiples, a
-//! row is the only solution of the conditions so far on one more place than there are conditions, and such conditions
-//! have a small solution.
+//! the pivot. Let v be the gain of the pivot. Each row b with gain u is replaced by v times b minus u times the pivot,
+//! divided by the greatest common divisor of the numbers. The pivot itself becomes 0, and the ring is stored in its
+//! place.
+//!
+//! The stored rings show that there are no other sums: all weights whose sums are kept on these rings are rational
+//! combinations of the rows and of trivial weights. No number of a row is greater than 2^56. The reason is that each
+//! stored ring is one condition, and the row has numbers at only one more place than there are conditions. Up to
+//! multiples the row is the only solution there, and such conditions have a small solution.
 //!
 //! It needs no memory, and takes time O(k^(2(m + r))) in the worst case, with at most 65,534 rings.
 #![tactic(auto)]

@@ -7,11 +7,11 @@ ghost use Rattle.kept_sums.specs.Stages.{IsCondition};
 
 use word_image::{Rule, first_place, ring_apply};
 
-/// The greatest length of a ring that is tested: 2 (m + range) - 3 at width 5 and range 4.
+/// The greatest length of a ring that is tested: 2 (m + range) - 3, for width m = 5 and range 4.
 pub const LONGEST: usize = 15;
 
-/// Returns the values of the words of `range` letters that begin at the places of a ring's image, and the values of
-/// the words that begin at the places of the ring. Both lists are followed by any numbers.
+/// Returns two lists of words of `range` letters, by their values: the words that begin at the places of the image of a
+/// ring, and the words that begin at the places of the ring. The numbers after them don't matter.
 pub(crate) fn words(rule: &Rule, range: u8, ring: &[u8]) -> ([u8; LONGEST], [u8; LONGEST])
     requires ring { IsRing rule.now.states ring.now }
     requires short { length ring.now ≤ 15 }
@@ -25,7 +25,7 @@ pub(crate) fn words(rule: &Rule, range: u8, ring: &[u8]) -> ([u8; LONGEST], [u8;
     (after, before)
 }
 
-/// Returns the values of the words of `range` letters that begin at the places of a ring, followed by zeros.
+/// Returns the values of the words of `range` letters that begin at the places of a ring. The numbers after them are 0.
 fn blocks(k: u8, range: u8, ring: &[u8]) -> [u8; LONGEST]
     requires ring { IsRing k ring.now }
     requires short { length ring.now ≤ 15 }
@@ -56,7 +56,7 @@ fn block(k: u8, range: u8, ring: &[u8], place: usize) -> u8
     word
 }
 
-/// Returns the image of a ring, followed by zeros.
+/// Returns the letters of the image of a ring. The numbers after them are 0.
 fn image_letters(rule: &Rule, ring: &[u8]) -> [u8; LONGEST]
     requires ring { IsRing rule.now.states ring.now }
     requires short { length ring.now ≤ 15 }
@@ -71,7 +71,7 @@ fn image_letters(rule: &Rule, ring: &[u8]) -> [u8; LONGEST]
     letters
 }
 
-/// Returns the word of `count` letters with this value, followed by zeros.
+/// Returns the word of `count` letters with this value. The numbers after its letters are 0.
 pub(crate) fn word_with(k: u8, count: u8, value: u64) -> [u8; LONGEST]
     requires some { 1 ≤ k }
     requires few { k ≤ 16 }

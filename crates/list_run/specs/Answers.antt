@@ -1,4 +1,6 @@
--- The status and the output that are right for the words of the command line. A beginning is the text of a rule in table form that may end after some letters of the table.
+-- The program lists all rules that have a property and whose tables begin with given letters. Its words are a property
+-- and a beginning: the text of a rule in table form that may end after some letters of the table. This file defines
+-- the right status and the right output.
 use Rattle.std.specs.Prelude.{◌≡◌, ℕ, List, [], ◌∷◌, codes}
 use Rattle.rule_text.specs.declared.text_fault.TextFault.{TextFault}
 use Rattle.rule_text.specs.declared.beginnings.Beginning.{Beginning}
@@ -19,17 +21,17 @@ name_of LeftClosing = codes "left"
 name_of Open = codes "open"
 name_of Conserving = codes "conserving"
 
--- the words are the word for this property and this text
+-- the words are the word for this property, followed by this text
 abbrev pub IsListing : List (List ℕ) → Property → List ℕ → Type 0
 IsListing words property text = words ≡ name_of property ∷ text ∷ []
 
--- the right status and output: a usage error if the words aren't a property and a text, a fault if the text isn't a beginning, and otherwise the list
+-- the right status and output: a usage error if the words aren't a property and a text, a fault if the text isn't a beginning, or else the list
 pub data IsAnswer (words : List (List ℕ)) : Status → List ℕ → Type 0 where
   Usage : ((property : Property) (text : List ℕ) → ¬ IsListing words property text) → IsAnswer words status.Usage usage_line
   RuleFault : (property : Property) (text : List ℕ) (f : TextFault) → IsListing words property text → IsBeginningFault text f → IsAnswer words status.RuleFault (fault_line f)
   Done : (property : Property) (text : List ℕ) (b : Beginning) (out : List ℕ) → IsListing words property text → IsBeginning text b → IsList property b out → IsAnswer words status.Done out
 
--- the output is a right output, or the lines of the first rules of the list
+-- the output is a right output, or it has only the lines of the first rules of the list
 pub data IsBegun (words : List (List ℕ)) (out : List ℕ) : Type 0 where
   Whole : (s : Status) → IsAnswer words s out → IsBegun words out
   SoFar : (property : Property) (text : List ℕ) (b : Beginning) → IsListing words property text → IsBeginning text b → IsListSoFar property b out → IsBegun words out

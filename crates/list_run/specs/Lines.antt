@@ -1,4 +1,5 @@
--- The lines that the program writes: the lines of a list of rules, and the lines for wrong words and for faults. A beginning is the text of a rule in table form that may end after some letters of the table.
+-- The lines that the program writes: the lines of a list of rules, and the lines for wrong words and for faults. A
+-- beginning is the text of a rule in table form that may end after some letters of the table.
 use Rattle.std.specs.Prelude.{◌≡◌, ℕ, ◌-◌, ◌^◌, List, [], ◌∷◌, ◌++◌, length, min, codes}
 use Rattle.std.specs.Fmt.{decimal}
 use Rattle.word_image.specs.LocalRules.{LocalRule}
@@ -22,11 +23,11 @@ fault_line f = line (codes "rule fault 1 " ++ fault_text f)
 abbrev pub with_table : LocalRule → List ℕ → LocalRule
 with_table shape table = record { states = shape.states; width = shape.width; offset = shape.offset; table = table }
 
--- the line of a listed rule, at the offset of the shape
+-- the line of the listed rule r, with the offset of the shape in place of its own
 abbrev pub rule_line : LocalRule → LocalRule → List ℕ
 rule_line shape r = line (printed_rule (with_table shape r.table))
 
--- the lines of all rules of a list, at the offset of the shape
+-- the lines of all rules of a list, with the offset of the shape
 abbrev pub rule_lines : LocalRule → List LocalRule → List ℕ
 rule_lines shape [] = []
 rule_lines shape (r ∷ rs) = rule_line shape r ++ rule_lines shape rs
@@ -39,7 +40,7 @@ count_line count = line (codes "rules " ++ decimal count)
 abbrev pub last_line : List LocalRule → List ℕ
 last_line rules = count_line (min (length rules) (2 ^ 64 - 1))
 
--- the bytes are the line of some table of this shape
+-- the bytes are the line of a rule of this shape with some table
 pub record IsLineOf (shape : LocalRule) (bytes : List ℕ) : Type 0 where
   pub table : List ℕ
   pub long : length table ≡ shape.states ^ shape.width

@@ -1,9 +1,9 @@
--- The statuses with which the program ends.
+-- The program ends with a status, which has an exit code. This file defines the codes.
 use Rattle.std.specs.Prelude.{ℕ, ⊤}
 use Rattle.list_run.specs.declared.status.Status.{Status}
 use Rattle.list_run.specs.declared.status.Status.TheVariants.{Done, Usage, RuleFault, WriteFault, Memory}
 
--- the number with which the program exits for a status
+-- the exit code of the program for a status
 abbrev pub code_of : Status → ℕ
 code_of Done = 0
 code_of Usage = 2

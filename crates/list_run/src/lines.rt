@@ -1,4 +1,5 @@
-//! The lines that the program writes: a fault of a beginning, a rule, and the number of rules.
+//! The lines that the program writes: the fault of a beginning, a rule, and the number of rules. A beginning is the
+//! text of a rule that may end after some letters of the table.
 ghost use Rattle.std.specs.Prelude.{◌≡◌, ◌^◌, IfOk, length, map, string_bytes};
 ghost use Rattle.std.specs.Prelude.{ℕ, ◌<◌, ◌-◌};
 ghost use Rattle.word_image.specs.LocalRules.{IsRule};
@@ -9,7 +10,7 @@ use rule_text::{TextFault, fault_kind, print};
 use std::alloc::{AllocError, Global};
 use word_image::{Rule, digit};
 
-/// Returns the line that reports the fault of a beginning. The only error is lack of memory.
+/// Returns the line with the fault of a beginning. The only error is lack of memory.
 pub fn fault_line(alloc: Global, fault: TextFault) -> Result<String, AllocError>
     ensures { IfOk result (λ text. string_bytes text ≡ fault_line fault) }
 {

@@ -1,4 +1,5 @@
-//! Writes each line of a list as soon as its rule is found.
+//! Writes a list of rules, each line as soon as its rule is found. A beginning gives the shape of the rules and the
+//! first letters of their tables.
 ghost use Rattle.std.specs.Prelude.{◌≡◌, ◌≢◌, ◌⊎◌, ℕ, ◌^◌, ◌<◌, ◌≤◌, List, ◌++◌, length, take, is_some, IfOk, OnOk, OnErr, Err};
 ghost use Rattle.std.specs.Io.KnownBytes.{Appends};
 ghost use Rattle.word_image.specs.LocalRules.{IsRule};
@@ -15,8 +16,9 @@ use rule_text::Beginning;
 use std::alloc::{AllocError, Global};
 use word_image::MOST_ENTRIES;
 
-/// Writes the list of all rules that have the property and the letters of the beginning: a line for each rule, and
-/// the number of rules. It allocates the memory for a line of a rule before it writes anything.
+/// Writes the list of all rules that have the property and the letters of the beginning: a line for each rule, and a
+/// line with the number of rules. Allocates the memory for the lines of rules before it writes anything. Only the last
+/// line needs more memory.
 pub fn write_list<T: Sink>(
     alloc: Global,
     property: Property,
@@ -78,7 +80,7 @@ fn write_rules<T: Sink>(
     Ok(count)
 }
 
-/// Returns the letters of a beginning, each at its window, and 255 at all other windows.
+/// Returns the letters of a beginning at their windows, and 255 at all other windows.
 fn given_letters(beginning: &Beginning) -> Letters
     ensures letters { AreGiven beginning.now result }
     ensures rule { IsRule beginning.now.rule }

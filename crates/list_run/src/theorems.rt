@@ -7,8 +7,8 @@ ghost use Rattle.rule_lists.specs.Tables.{HasLetters};
 ghost use Rattle.rule_lists.specs.declared.properties.Property.{Property};
 ghost use Rattle.list_run.specs.Lines.{with_table};
 
-/// Law: a listed rule has offset 0, and its line has the offset of the beginning. The rule that this line describes
-/// has the property. Each rule that has the offset of the beginning, the property and the given letters has a line.
+/// Law: a listed rule has offset 0, and its line has the offset of the beginning. The rule in the line has the property
+/// too. Each rule that has the offset of the beginning, the property and the given letters has a line.
 pub fn printed_rules_have_the_property()
     ensures printed { (property : Property) (shape r : LocalRule) (letters : List ℕ) → IsRule shape → IsListed property shape.states shape.width letters r
         → IsRule (with_table shape r.table) × Has property (with_table shape r.table) }

@@ -1,4 +1,5 @@
-//! The function `run`, which writes the list that the words of the command line ask for.
+//! The function `run`, which writes the list of rules that the words of the command line ask for. Its words are a
+//! property and the beginning of a table text.
 ghost use Rattle.std.specs.Prelude.{◌≡◌, ◌≢◌, ◌⊎◌, ◌∷◌, [], ℕ, ◌<◌, List, Err, length, take, map, is_some, string_bytes, IfOk, MatchOption};
 ghost use Rattle.std.specs.Io.KnownBytes.{Appends};
 ghost use Rattle.ca_io.specs.Faults.{Rose};
@@ -44,7 +45,7 @@ pub fn run<T: Sink>(alloc: Global, words: &[String], sink: &mut T) -> Status
     }
 }
 
-/// Writes the output that is right for the words, and returns the status that belongs to it.
+/// Writes the right output for the words, and returns the status that belongs to it.
 fn answer<T: Sink>(alloc: Global, words: &[String], sink: &mut T) -> Result<Status, Cut>
     ensures answered { IfOk result IsAnswered }
     ensures whole { IfOk result (λ status. (out : List ℕ) × IsAnswer (map string_bytes words.now) status out
@@ -77,7 +78,7 @@ fn answer<T: Sink>(alloc: Global, words: &[String], sink: &mut T) -> Result<Stat
     }
 }
 
-/// Returns the property and the text if the words are the name of a property and a text, and None otherwise.
+/// Returns the property and the text if the words are the name of a property and a text. Returns None otherwise.
 fn asked(words: &[String]) -> Option<(Property, &[u8])>
     ensures { MatchOption result
         ((property : Property) (text : List ℕ) → ¬ IsListing (map string_bytes words.now) property text)
@@ -89,7 +90,7 @@ fn asked(words: &[String]) -> Option<(Property, &[u8])>
     }
 }
 
-/// Returns the property with this name, or None if there is none.
+/// Returns the property with this name, or None if no property has this name.
 fn named(name: &str) -> Option<Property>
     ensures { MatchOption result
         ((property : Property) → ¬ (name_of property ≡ name.now))

@@ -47,7 +47,7 @@ pub fn evidence(cert: &Cert) -> (&SurjectivePart, &InjectivePart, [&SidePart; 2]
     )
 }
 
-/// Returns the rule and the weights of verdicts, and the five answers: surjective, injective, right, left and
+/// Returns the rule and the weights of these verdicts, and the five answers: surjective, injective, right, left and
 /// conserving.
 pub fn verdicts(of: &Verdicts) -> (&Rule, &Weights, [bool; 5]) {
     (
@@ -122,8 +122,8 @@ pub fn cert_faults(fault: ShapeFault) -> [CertFault; 2] {
     [CertFault::Format(fault), CertFault::Memory(AllocError)]
 }
 
-/// Returns a refusal for a fault of the text, and one refusal for each kind of condition on claims of ranks, on
-/// listed sets and on listed pairs.
+/// Returns a refusal for a fault of the text, and a refusal for each kind of condition on claims, on listed sets and on
+/// listed pairs. A claim is a bound of the rank of a pair of nodes.
 pub fn list_refusals(
     fault: ShapeFault,
     side: Side,

@@ -81,9 +81,9 @@ pub fn print(alloc: Global, tail: &Tail) -> Result<Vec<u8>, AllocError> {
     tail_config::print(alloc, tail)
 }
 
-/// Returns a preimage of a configuration: the place of its middle, and its three parts. If there is none, returns as
-/// the inner error the first stretch of the configuration that is an orphan: its number of left periods, its number
-/// of right periods, and the orphan.
+/// Returns a preimage of a configuration: the place of its middle, and its three parts. If there is none, the inner
+/// error is the first part of the configuration that is an orphan: its number of left periods, its number of right
+/// periods, and its word.
 pub fn preimage(
     alloc: Global,
     rule: &Rule,

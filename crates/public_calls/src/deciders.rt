@@ -35,8 +35,8 @@ pub fn twins(
     }
 }
 
-/// Returns the least look-ahead on the right and the least look-ahead on the left, each only if the rule closes on
-/// this side.
+/// Returns the least look-ahead on the right and the least look-ahead on the left. Each is None if the rule doesn't
+/// close on this side.
 pub fn look_aheads(rule: &Rule, ranks: &Ranks) -> (Option<u16>, Option<u16>)
     requires { ranks.now ≡ rule.now }
 {
@@ -90,7 +90,8 @@ pub fn ring(ring: &SmallRing) -> &[u8] {
     ring.letters()
 }
 
-/// Returns the least erasable pair, or None if the rule is surjective.
+/// Returns the least erasable pair, or None if the rule is surjective. An erasable pair is two words that can replace
+/// each other in any configuration without a change of the image.
 pub fn erasable(
     alloc: Global,
     rule: &Rule,
@@ -102,7 +103,8 @@ pub fn erasable(
     }
 }
 
-/// Returns the list of all pairs that the first pairs on the right reach.
+/// Returns the list of all pairs of nodes to which two walks with equal labels lead that left one node by different
+/// letters.
 pub fn reached(alloc: Global, pairs: &Pairs) -> Result<SetList, AllocError> {
     eden_law::reached(alloc, pairs)
 }

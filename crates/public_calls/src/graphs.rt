@@ -1,4 +1,7 @@
 //! Functions that call the public functions of `debruijn`, `image_subsets`, `orphan_search` and `image_minimal`.
+//!
+//! The family of a graph has the sets of nodes to which words lead from the set of all nodes. The cover list has the
+//! set of all nodes, and each set of the family that contains no other set of the family.
 
 ghost use Rattle.std.specs.Prelude.{◌<◌, ◌≡◌, Contains, length, IfOk};
 ghost use Rattle.word_image.specs.LocalRules.{node_count};
@@ -37,7 +40,7 @@ pub fn step(graph: &Graph, set: u16, a: u8) -> u16
     image_subsets::step(graph, set, a)
 }
 
-/// Explores a graph, and returns the family of sets of nodes that it finds, and their number.
+/// Explores a graph, and returns its family of sets of nodes and the number of these sets.
 pub fn family(alloc: Global, graph: &Graph) -> Result<(Family, u32), AllocError> {
     let mut family = Family::new(alloc)?;
     family.explore(graph);
@@ -45,8 +48,8 @@ pub fn family(alloc: Global, graph: &Graph) -> Result<(Family, u32), AllocError>
     Ok((family, count))
 }
 
-/// Returns the set at place `i` of a family. If an earlier set leads to it, returns the place of this earlier set and
-/// the label, too.
+/// Returns the set at place `i` of a family. If a step leads to it from an earlier set, returns the place of this
+/// earlier set and the label of the step, too.
 pub fn found(family: &Family, i: u32) -> (u16, Option<(u32, u8)>)
     requires { i < length family.now.sets }
 {

@@ -1,4 +1,7 @@
 //! Functions that call the public functions of `pair_graph`, `pair_rank` and `least_walk`.
+//!
+//! In the marked graph each pair of nodes occurs twice, without a mark and with it. A step on two different letters
+//! sets the mark.
 
 ghost use Rattle.std.specs.Prelude.{◌≡◌, ◌<◌, ◌*◌, length};
 ghost use Rattle.word_image.specs.LocalRules.{node_count};
@@ -37,7 +40,8 @@ pub fn steps(pairs: &Pairs, p: u16, a: u8, b: u8) -> (Option<u16>, Option<u16>, 
     )
 }
 
-/// Returns the set of all pairs after one trim: forward, backward, and the same two by the slow plain trims.
+/// Returns four sets of pairs: all pairs after one forward trim and after one backward trim, and the same two by the
+/// slow plain trims. A trim removes the pairs from which no step leads into the set.
 pub fn trims(pairs: &Pairs) -> [PairSet; 4] {
     let all = PairSet::all(pairs);
     [
@@ -67,13 +71,12 @@ pub fn ranks(rule: &Rule) -> Ranks {
     Ranks::of(rule)
 }
 
-/// Returns the rule whose ranks these are.
+/// Returns the rule to which these ranks belong.
 pub fn ranked(ranks: &Ranks) -> &Rule {
     ranks.rule()
 }
 
-/// Returns the forward rank and the backward rank of the pair of nodes u and v. None stands for a pair without a
-/// finite rank.
+/// Returns the forward rank and the backward rank of the pair of nodes u and v. None means that the rank isn't finite.
 pub fn rank(ranks: &Ranks, u: u8, v: u8) -> (Option<u16>, Option<u16>)
     requires first { u < node_count ranks.now }
     requires second { v < node_count ranks.now }
@@ -81,12 +84,12 @@ pub fn rank(ranks: &Ranks, u: u8, v: u8) -> (Option<u16>, Option<u16>)
     (ranks.forward(u, v), ranks.backward(u, v))
 }
 
-/// Makes a walker, which can search for walks between marked pairs.
+/// Makes a walker, which can search for walks between pairs of the marked graph.
 pub fn walker(alloc: Global) -> Result<Walker, AllocError> {
     Walker::new(alloc)
 }
 
-/// Returns the letters of the least walk between two marked pairs, or None if there is no walk.
+/// Returns the letters of the least walk between two pairs of the marked graph, or None if there is no walk.
 pub fn walk<'a>(walker: &'a mut Walker, pairs: &Pairs, from: u16, to: u16) -> Option<&'a [u8]>
     requires from { from < 2 * pair_count pairs.now }
     requires to { to < 2 * pair_count pairs.now }

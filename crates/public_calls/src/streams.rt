@@ -42,7 +42,7 @@ pub fn plain(bytes: Vec<u8>) -> (PlainSource, NullSink) {
     (PlainSource::new(bytes), NullSink::new())
 }
 
-/// Makes a source over a reader and a sink over a writer, as the program has them at its two ends.
+/// Makes a source over a reader and a sink over a writer, as the program uses them.
 pub fn edges<R: Read, W: Write>(reader: R, writer: W) -> (StdSource<R>, StdSink<W>) {
     (StdSource::new(reader), StdSink::new(writer))
 }

@@ -1,4 +1,6 @@
--- Properties that no rule with some fixed letters in its table has, whatever the other letters are.
+-- A search fixes some letters of a rule's table: the list `letters` has a number for each window, and a number below k
+-- fixes the letter of its window. This file says when the fixed letters exclude a property: no rule with these letters
+-- has the property, whatever its other letters are.
 use Rattle.std.specs.Prelude.{ℕ, List}
 use Rattle.word_image.specs.LocalRules.{LocalRule}
 use Rattle.word_image.specs.declared.side.Side.{Side}
@@ -7,10 +9,10 @@ use Rattle.rule_lists.specs.Properties.{Has}
 use Rattle.rule_lists.specs.Completions.{IsCompletion}
 use Rattle.rule_lists.specs.declared.properties.Property.{Property}
 
--- no rule with the fixed letters has the property
+-- no rule of k states and width m that has the fixed letters has the property
 abbrev pub Bars : Property → ℕ → ℕ → List ℕ → Type 0
 Bars property k m letters = (s : LocalRule) → IsCompletion k m letters s → ¬ Has property s
 
--- no rule with the fixed letters is closing on this side
+-- no rule of k states and width m that has the fixed letters is closing on this side
 abbrev pub BarsClosing : Side → ℕ → ℕ → List ℕ → Type 0
 BarsClosing side k m letters = (s : LocalRule) → IsCompletion k m letters s → ¬ IsClosing side s

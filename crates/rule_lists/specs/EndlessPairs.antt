@@ -1,4 +1,7 @@
--- Pairs of nodes from which steps by fixed letters of a table lead on without end, forward on the right and backward on the left. The list `letters` has a number for each window, and the number fixes a letter if it is below the number of states.
+-- A search fixes some letters of a rule's table: the list `letters` has a number for each window, and a number below
+-- the number of states fixes the letter of its window. A fixed step leads from a pair of nodes to a pair of nodes
+-- along two windows that have the same fixed letter. This file defines the pairs from which fixed steps continue
+-- without end: forward on the right, backward on the left. A node is a word of m - 1 letters, by its value.
 use Rattle.std.specs.Prelude.{◌≡◌, ◌≢◌, ℕ, ◌^◌, ◌<◌, ◌⊎◌, List, slice_index}
 use Rattle.word_image.specs.LocalRules.{LocalRule, node_count}
 use Rattle.word_image.specs.Ends.{window_with}
@@ -7,7 +10,7 @@ use Rattle.word_image.specs.declared.side.Side.{Side}
 use Rattle.pair_laws.specs.FirstWindows.{with_end, end_pair}
 use Rattle.word_image.specs.declared.side.Side.TheVariants.{Right, Left}
 
--- two letters a and b lead from pair p to pair q along two windows that have the same fixed letter; of the rule r only the number of states and the width matter
+-- a fixed step: the letters a and b lead from the two nodes of p to the two nodes of q, along windows with the same fixed letter; only the states and the width of r matter
 pub record IsFixedStep (r : LocalRule) (letters : List ℕ) (p q : ℕ) : Type 0 where
   pub a : ℕ
   pub b : ℕ
@@ -18,16 +21,16 @@ pub record IsFixedStep (r : LocalRule) (letters : List ℕ) (p q : ℕ) : Type 0
   pub one : slice_index letters (window_with Right r (first_of r p) a) ≡ slice_index letters (window_with Right r (second_of r p) b)
   pub to : pair_of r (next r (first_of r p) a) (next r (second_of r p) b) ≡ q
 
--- fixed letters lead in one step from pair p to pair q on the right, and from q to p on the left
+-- a fixed step leads from pair p to pair q on the right, or from q to p on the left
 abbrev pub FixedLeadsOn : Side → LocalRule → List ℕ → ℕ → ℕ → Type 0
 FixedLeadsOn Right r letters p q = IsFixedStep r letters p q
 FixedLeadsOn Left r letters p q = IsFixedStep r letters q p
 
--- each pair of the set has two equal nodes, or a step by fixed letters leads from it on this side to a pair of the set
+-- each pair of the set has two equal nodes, or a fixed step leads on this side from it to a pair of the set
 abbrev pub AreEndlessOn : Side → LocalRule → List ℕ → (ℕ → Type 0) → Type 0
 AreEndlessOn side r letters Set = (p : ℕ) → Set p → (p < pair_count r) × ((first_of r p ≡ second_of r p) ⊎ ((q : ℕ) × FixedLeadsOn side r letters p q × Set q))
 
--- the window w and the window with the letter a in place of the letter at its end on this side are different, they have the same fixed letter, and the pair of the nodes at their ends on this side is in the set
+-- replacing the letter of the window w at its end on this side by a gives another window with the same fixed letter; the pair of the two nodes at this end is in `Set`
 pub record IsFixedEndless (side : Side) (r : LocalRule) (letters : List ℕ) (Set : ℕ → Type 0) (w a : ℕ) : Type 0 where
   pub window : w < r.states ^ r.width
   pub letter : a < r.states
@@ -37,7 +40,7 @@ pub record IsFixedEndless (side : Side) (r : LocalRule) (letters : List ℕ) (Se
   pub inside : with_end side r w a < r.states ^ r.width
   pub endless : Set (end_pair side r w a)
 
--- two different letters lead from one node to the two nodes of pair p, along two windows that have the same fixed letter
+-- from one node, two different letters lead to the two nodes of the pair p, along windows with the same fixed letter
 pub record IsFixedFirst (r : LocalRule) (letters : List ℕ) (p : ℕ) : Type 0 where
   pub node : ℕ
   pub a : ℕ

@@ -1,4 +1,7 @@
--- The rules that a search returns, call by call. A search has a question: a shape, a property, an order of the windows and fixed letters. A rule is listed if it has the shape, the property and the fixed letters.
+-- A search returns rules call by call. Its question has a shape, a property, an order of the windows and fixed
+-- letters. A rule is listed if it has the shape, the property and the fixed letters. The listed rules come by
+-- ascending rank: the rank of a rule is the number whose digits are the letters of its table, in the order of the
+-- windows.
 use Rattle.std.specs.Prelude.{◌≡◌, ℕ, ◌+◌, ◌-◌, ◌^◌, List, Option, Some, None, IfSome, MatchOption}
 use Rattle.word_image.specs.LocalRules.{LocalRule}
 use Rattle.rule_lists.specs.Ranks.{IsOrder, rank}
@@ -8,30 +11,30 @@ use Rattle.rule_lists.specs.Calls.{IsAfter}
 use Rattle.rule_lists.specs.declared.asked.Asked.{Asked}
 use Rattle.rule_lists.specs.declared.search.Search.{Search}
 
--- the number of windows of the shape
+-- the number of windows of the shape, which is also the length of a table
 abbrev pub size_of : Asked → ℕ
 size_of a = a.shape.now.states ^ a.shape.now.width
 
--- the order in the question has each window of the shape once
+-- the order of the question has each window of the shape exactly once
 abbrev pub IsOrdered : Asked → Type 0
 IsOrdered a = IsOrder (size_of a) a.order.now
 
--- the first numbers are letters, one for each window of the shape
+-- the list begins with a letter for each window of the shape
 abbrev pub AreEntries : Asked → List ℕ → Type 0
 AreEntries a entries = IsTable a.shape.now.states (size_of a) entries
 
--- no rule of the shape that has these letters at the first n windows of the order and each fixed letter has the property
+-- no rule of the shape has the property, the fixed letters, and these letters at the first n windows of the order
 abbrev pub AreForbidden : Asked → List ℕ → ℕ → Type 0
 AreForbidden a entries n = Forbids a.property a.shape.now.states a.shape.now.width a.begin.now a.order.now entries n
 
--- the result is the first listed rule for which From holds, or None if there is none
+-- `next` is the first listed rule for which `From` holds, or None if `From` holds for no listed rule
 abbrev pub IsFirstListed : Asked → (LocalRule → Type 0) → Option LocalRule → Type 0
 IsFirstListed a From next =
     MatchOption next
     (NoneIs a.property a.shape.now.states a.shape.now.width a.begin.now From)
     (IsFirst a.property a.shape.now.states a.shape.now.width a.begin.now a.order.now From)
 
--- the result is the first listed rule after the last rule, or the first of all if there is no last rule; it is None if there is no such rule
+-- `next` is the first listed rule after the rule `last`, or the first of all if `last` is None; `next` is None if no such rule exists
 abbrev pub IsNextListed : Asked → Option LocalRule → Option LocalRule → Type 0
 IsNextListed a last next = IsFirstListed a (IsAfter a.shape.now.states a.order.now last) next
 
@@ -40,22 +43,22 @@ pub record HasShape (a : Asked) (r : LocalRule) : Type 0 where
   pub states : r.states ≡ a.shape.now.states
   pub width : r.width ≡ a.shape.now.width
 
--- the search has this question and continues after the last rule, or it is at its beginning if there is no last rule
+-- the search has this question and continues after the rule `last`; if `last` is None, it begins with the first listed rule
 abbrev pub IsBehind : Asked → Option LocalRule → Search → Type 0
 IsBehind a last s = (s.asked ≡ a) × (s.last ≡ last)
 
--- the search can go on: its windows are in an order, and the rule after which it continues has the shape of the question
+-- the search can continue: its order has each window exactly once, and the rule after which it continues has the shape of the question
 pub record CanGoOn (s : Search) : Type 0 where
   pub ordered : IsOrdered s.asked
   pub fits : IfSome s.last (HasShape s.asked)
 
--- a call of the search s returned the next listed rule, and the search t continues after this rule; if no listed rule is left, t continues where s does
+-- a call of the search s returned `next`, the next listed rule, and the search t continues after this rule; if no rule is left, `next` is None, and t continues where s does
 pub record GivesNext (s : Search) (next : Option LocalRule) (t : Search) : Type 0 where
   pub asked : t.asked ≡ s.asked
   pub listed : IsNextListed s.asked s.last next
   pub last : MatchOption next (t.last ≡ s.last) (λ r. t.last ≡ Some r)
 
--- how many ranks are greater than the rank of the last rule: all of them if there is no last rule
+-- how many ranks are greater than the rank of the rule `last`; if there is no last rule, the number of all ranks
 abbrev pub ranks_left : Asked → Option LocalRule → ℕ
 ranks_left a None = a.shape.now.states ^ size_of a
 ranks_left a (Some r) = a.shape.now.states ^ size_of a - (rank a.shape.now.states a.order.now r.table + 1)

@@ -1,4 +1,5 @@
-//! Tests whether known letters of a table rule out a property, whatever the other letters are.
+//! Tests whether known letters of a table rule out a property, whatever the other letters are. A hint is a walk of
+//! pairs of nodes that may show this. Unproved code finds hints, and the functions here test them.
 ghost use Rattle.std.specs.Prelude.{◌≡◌, ◌≢◌, ◌^◌, ◌<◌, ◌≤◌, ℕ, IsTrue, ◌-◌, length, slice_index};
 ghost use Rattle.word_image.specs.LocalRules.{IsRule, most_windows};
 ghost use Rattle.rule_lists.specs.Searches.{AreEntries, AreForbidden, IsOrdered, size_of};
@@ -16,9 +17,8 @@ use crate::tables::Entries;
 use crate::walks::{has_one_node, is_round, is_tail};
 use word_image::{Rule, Side};
 
-/// Returns true only if no listed rule has the letters of the table at the first n windows of the order. The hints
-/// must already have all of these letters except the last one. The result may be false although there is no such
-/// rule.
+/// Returns true only if no listed rule has the letters of the table at the first n windows of the order. May return
+/// false although no listed rule has them. The hints must have been told all of these letters except the last one.
 pub(crate) fn forbids(asked: &Asked, entries: &Entries, n: u16, hints: &mut Hints) -> bool
     requires order { IsOrdered asked.now }
     requires table { AreEntries asked.now entries.now }
@@ -35,7 +35,8 @@ pub(crate) fn forbids(asked: &Asked, entries: &Entries, n: u16, hints: &mut Hint
     bars(asked.property, asked.shape, &letters, hints.last())
 }
 
-/// Returns whether the table differs from a fixed letter at the last of the first n windows of the order.
+/// Returns whether the last of the first n windows of the order has a fixed letter, and the table has another letter
+/// there.
 fn has_other(asked: &Asked, entries: &Entries, n: u16) -> bool
     requires within { n ≤ length asked.now.order.now }
     ensures rule { IsRule asked.now.shape.now }
@@ -65,7 +66,7 @@ fn standing(begin: &Letters, order: &[u8], entries: &Entries, n: u16) -> Letters
     letters
 }
 
-/// Tests a hint. Returns true only if no rule with the letters in `letters` has the property.
+/// Tests a hint. Returns true only if no rule with these letters has the property.
 fn bars(property: Property, shape: &Rule, letters: &Letters, hint: &Hint) -> bool
     ensures { IsTrue result → Bars property shape.now.states shape.now.width letters.now }
 {
@@ -79,8 +80,8 @@ fn bars(property: Property, shape: &Rule, letters: &Letters, hint: &Hint) -> boo
     }
 }
 
-/// Tests a hint that no rule with these letters is surjective. Returns whether the links of the hint show that the
-/// letters lead from a node with itself, first by two different letters, to a pair of two equal nodes.
+/// Tests a hint that no rule with these letters is surjective. Returns whether the walk of the hint shows that the
+/// letters lead from a pair of two equal nodes, first by two different letters, to a pair of two equal nodes.
 fn is_lost(shape: &Rule, letters: &Letters, hint: &Hint) -> bool
     ensures { IsTrue result → IsLost shape.now.states shape.now.width letters.now }
 {
@@ -94,9 +95,9 @@ fn is_lost(shape: &Rule, letters: &Letters, hint: &Hint) -> bool
     is_tail(Side::Right, shape, letters, hint.predecessors(), pair)
 }
 
-/// Tests a hint that no rule with these letters is injective. Returns true if `is_lost` returns true. Otherwise
-/// returns whether the links of the hint show that the letters lead from a pair of two different nodes around a loop
-/// back to this pair.
+/// Tests a hint that no rule with these letters is injective. Returns true if `is_lost` returns true. Otherwise returns
+/// whether the walk of the hint shows that the letters lead from a pair of two different nodes around a loop back to
+/// this pair.
 fn bars_injective(shape: &Rule, letters: &Letters, hint: &Hint) -> bool
     ensures { IsTrue result → Bars Injective shape.now.states shape.now.width letters.now }
 {
@@ -113,9 +114,9 @@ fn bars_injective(shape: &Rule, letters: &Letters, hint: &Hint) -> bool
     is_round(Side::Right, shape, letters, hint.successors(), pair)
 }
 
-/// Tests a hint that no rule with these letters closes on this side. Returns true if the links of the hint show two
-/// things about its pair. The letters lead to the pair from a node with itself, first by two different letters. The
-/// pair has two equal nodes, or the letters lead from it around a loop back to it.
+/// Tests a hint that no rule with these letters closes on this side. Returns true if the walk of the hint shows two
+/// things. The letters lead from a pair of two equal nodes, first by two different letters, to the pair of the hint.
+/// And the pair of the hint has two equal nodes, or the letters lead from it around a loop back to it.
 fn bars_closing(side: Side, shape: &Rule, letters: &Letters, hint: &Hint) -> bool
     ensures { IsTrue result → BarsClosing side shape.now.states shape.now.width letters.now }
 {
@@ -132,8 +133,7 @@ fn bars_closing(side: Side, shape: &Rule, letters: &Letters, hint: &Hint) -> boo
     is_round(side, shape, letters, hint.successors(), pair)
 }
 
-/// Tests a hint that no rule with these letters is open. Returns true if the hint shows that no rule with these
-/// letters closes on the side of the hint.
+/// Tests a hint that no rule with these letters is open: a hint that no such rule closes on the side of the hint.
 fn bars_open(shape: &Rule, letters: &Letters, hint: &Hint) -> bool
     ensures { IsTrue result → Bars Open shape.now.states shape.now.width letters.now }
 {

@@ -1,15 +1,15 @@
 //! The edges of the windows whose letters are known, and steps along these edges.
 use word_image::{EdgeRows, MOST_ENTRIES, MOST_NODES, MOST_STATES, Rule, Side};
 
-/// The edges of the windows whose letters are known: forward edges on the right side, backward edges on the left. Its
-/// functions have no contracts, since everything that is found with them is tested afterwards.
+/// The edges of the windows whose letters are known: forward edges on the right side, backward edges on the left. The
+/// functions have no contracts, since every result that is found with them is tested afterwards.
 #[derive(Drop)]
 pub(crate) struct Edges {
     /// For each window the node at which its edge begins.
     from: [u8; MOST_ENTRIES],
     /// For each window the node at which its edge ends.
     to: [u8; MOST_ENTRIES],
-    /// How much the value of a window grows if the node at which its edge begins grows by one.
+    /// How much the value of a window grows if the number of the node at which its edge begins grows by one.
     node_step: u8,
     /// How much the value of a window grows if the letter of its edge grows by one.
     letter_step: u8,

@@ -1,4 +1,6 @@
-//! Finds what fixed letters say about the flux of a conserving rule.
+//! Finds what fixed letters say about the fluxes of conserving rules. A flux has a number for each node. For each
+//! window, the letter of the rule minus the first letter of the window is the number of the first node minus the number
+//! of the last node.
 ghost use Rattle.std.specs.Prelude.{◌≡◌, ◌+◌, ◌*◌, ◌^◌, ◌<◌, ◌≤◌, ℕ, ℤ, List, slice_index};
 ghost use Rattle.word_image.specs.LocalRules.{node_count, most_nodes, most_windows};
 ghost use Rattle.rule_lists.specs.Forests.{AreKnown, AreLevels, AreUpTo, GainsWith, IsMoved};
@@ -6,8 +8,8 @@ ghost use Rattle.rule_lists.specs.Forests.{AreKnown, AreLevels, AreUpTo, GainsWi
 use crate::letters::Letters;
 use word_image::{MOST_NODES, Rule, Side};
 
-/// Trees of nodes, with a level for each node. Two nodes of the same tree have levels that differ by the same amount
-/// as the numbers of these nodes in each flux of each conserving rule with the fixed letters.
+/// Trees of nodes, with a level for each node. Two nodes of the same tree have levels that differ by as much as the
+/// numbers of these nodes in each flux of each conserving rule with the fixed letters.
 #[derive(Clone, Copy, Debug)]
 pub(crate) struct Forest {
     /// For each node the number of its tree.
@@ -20,7 +22,7 @@ pub(crate) struct Forest {
 /// most 16 nodes and 16 letters.
 const MOST_RISE: u32 = 1 << 20;
 
-/// Returns the forest in which each window with a fixed letter has joined the trees of its two nodes.
+/// Returns the forest after each window with a fixed letter has joined the trees of its two nodes.
 pub(crate) fn forest_of(shape: &Rule, letters: &Letters) -> Forest
     ensures known { AreKnown shape.now letters.now result.trees result.levels }
     ensures small { AreUpTo (most_windows * 1048576) result.levels }
@@ -64,8 +66,8 @@ fn with_letter(shape: &Rule, letters: &Letters, window: u16, forest: &Forest) ->
     with_window(shape, window, letter, forest)
 }
 
-/// Returns the forest after this window has joined the trees of its two nodes. The letter for the window minus the
-/// first letter of the window is the number of its first node in a flux minus the number of its last node.
+/// Returns the forest after this window has joined the trees of its first and its last node. `letter` is the letter of
+/// the rule at this window, and determines how the levels of the two nodes differ.
 fn with_window(shape: &Rule, window: u16, letter: u8, forest: &Forest) -> Forest
     requires window { window < shape.now.states ^ shape.now.width }
     requires small { AreUpTo (window * 1048576) forest.now.levels }

@@ -1,4 +1,5 @@
-//! Hints that known letters rule out a property, found letter by letter.
+//! Finds hints letter by letter. A hint is a walk of pairs of nodes which shows that the known letters of a table rule
+//! out a property.
 ghost use Rattle.std.specs.Prelude.{◌≤◌, length};
 ghost use Rattle.word_image.specs.LocalRules.{most_windows};
 
@@ -10,8 +11,8 @@ use crate::rounds::Rounds;
 use crate::tables::Entries;
 use word_image::{MOST_ENTRIES, Rule, Side};
 
-/// Finds hints on one side. For each number of known letters it stores the pairs to which these letters lead, so that
-/// it only looks at the last letter. It has no contract: each hint is tested before it is used.
+/// Finds hints on one side. It keeps the pairs to which the letters so far lead, so it only has to follow the last
+/// letter. It has no contract: each hint is tested before it is used.
 #[derive(Drop)]
 pub(crate) struct Hint {
     /// The property that the hints may rule out.
@@ -20,20 +21,20 @@ pub(crate) struct Hint {
     pub(crate) side: Side,
     /// The known letters, by the values of the windows, and 255 at all other windows.
     letters: Letters,
-    /// How many windows of the order have a known letter.
+    /// How many windows, from the first one of the order on, have a known letter.
     placed: u16,
-    /// Whether the fixed letters give a hint.
+    /// Whether the fixed letters give a hint without any other letter.
     begun: bool,
-    /// The pairs to which the known letters lead.
+    /// The pairs of nodes to which the known letters lead.
     reach: Reach,
-    /// The search for loops, with the loop that it found last.
+    /// The search for loops of pairs, with the loop that it found last.
     rounds: Rounds,
     /// The number of the pair in the last hint. This pair has two equal nodes or is on a loop.
     pair: u8,
 }
 
 impl Hint {
-    /// Makes the hints for which only the fixed letters are known.
+    /// Makes the hints of a search that hasn't set any letter: only the fixed letters are known.
     fn of(side: Side, asked: &Asked) -> Hint {
         let shape = asked.shape;
         let mut hint = Hint {
@@ -61,19 +62,19 @@ impl Hint {
         u16::from(self.pair)
     }
 
-    /// Returns for each pair the pair from which a step first led to it.
+    /// Returns for each pair the pair before it: the pair from which a step first led to it.
     pub(crate) fn predecessors(&self) -> &Links {
         &self.reach.before
     }
 
-    /// Returns for each pair of the last loop the next pair on the loop.
+    /// Returns for each pair of the last loop the pair after it on the loop.
     pub(crate) fn successors(&self) -> &Links {
         &self.rounds.after
     }
 
-    /// Adds the letter at the last of the first n windows of the order. The letters at the windows before have been
-    /// added earlier. Returns whether there is a hint that all these letters and the fixed letters rule out the
-    /// property. Looks for loops only if `looking` is true.
+    /// Adds the letter at the last of the first n windows of the order. The letters at the windows before it must have
+    /// been added. Returns whether these letters and the fixed letters give a hint that the property is ruled out.
+    /// Looks for loops only if `looking` is true.
     fn see(&mut self, asked: &Asked, entries: &Entries, n: u16, looking: bool) -> bool
         requires within { n ≤ length asked.now.order.now }
         requires few { length asked.now.order.now ≤ most_windows }
@@ -121,8 +122,8 @@ impl Hint {
         false
     }
 
-    /// Returns the number of a pair on a loop that the last known letter closes, or None if it closes none. The loop
-    /// must rule out the property. For example, no loop rules out that a rule is surjective.
+    /// Returns the number of a pair on a loop that the last known letter closes, or None if it closes no loop that
+    /// rules out the property. For example, no loop rules out that a rule is surjective.
     fn round(&mut self, window: u8, letter: u8) -> Option<u8> {
         let from = self.reach.edges.first_node(window);
         let nodes = match self.property {
@@ -136,20 +137,20 @@ impl Hint {
     }
 }
 
-/// The hints that a search keeps from step to step and from rule to rule. They only change how soon the search finds
-/// a rule, and not which rule it finds.
+/// The hints that a search keeps while it fills tables. They only change how soon the search finds a rule, and not
+/// which rule it finds.
 #[derive(Drop)]
 pub struct Hints {
     /// The hints on the left side for left-closing rules, and on the right side for all other properties.
     first: Hint,
     /// The hints on the left side for open rules, and None for all other properties.
     second: Option<Hint>,
-    /// Whether `see` looked last at the hints in `second`.
+    /// Whether `see` looked last at the hints in `second`, not in `first`.
     turned: bool,
 }
 
 impl Hints {
-    /// Makes the hints for which only the fixed letters are known.
+    /// Makes the hints of a search that hasn't set any letter: only the fixed letters are known.
     pub(crate) fn of(asked: &Asked) -> Hints {
         let side = match asked.property {
             Property::LeftClosing => Side::Left,
@@ -177,10 +178,10 @@ impl Hints {
         }
     }
 
-    /// Adds the letter at the last of the first n windows of the order. The letters at the windows before must have
-    /// been added earlier. Returns whether there is a hint that all these letters and the fixed letters rule out the
-    /// property. Looks for loops only if `looking` is true. Always returns true for conserving rules, since their
-    /// test uses no hints.
+    /// Adds the letter at the last of the first n windows of the order. The letters at the windows before it must have
+    /// been added. Returns whether these letters and the fixed letters give a hint that the property is ruled out.
+    /// Looks for loops only if `looking` is true. Always returns true for conserving rules, since their test uses no
+    /// hints.
     pub(crate) fn see(&mut self, asked: &Asked, entries: &Entries, n: u16, looking: bool) -> bool
         requires within { n ≤ length asked.now.order.now }
         requires few { length asked.now.order.now ≤ most_windows }
@@ -199,7 +200,7 @@ impl Hints {
         false
     }
 
-    /// Returns the hints of the side at which `see` looked last.
+    /// Returns the hints on the side where `see` looked last.
     pub(crate) fn last(&self) -> &Hint {
         match &self.second {
             Some(second) if self.turned => second,

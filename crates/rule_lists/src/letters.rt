@@ -1,4 +1,4 @@
-//! Fixed letters of a table.
+//! Letters of a table that are fixed in advance.
 ghost use Rattle.std.specs.Prelude.{◌≡◌, ◌<◌, IsTrue, slice_index};
 ghost use Rattle.word_image.specs.LocalRules.{most_windows};
 

@@ -1,4 +1,4 @@
-//! The properties of rules for which rules can be listed.
+//! The properties by which rules can be listed.
 ghost use Rattle.std.specs.Prelude.{◌≡◌, ◌↔◌, IsTrue};
 ghost use Rattle.rule_lists.specs.Properties.{Has};
 ghost use Rattle.tail_config.specs.Tails.{IsOpen};
@@ -13,7 +13,7 @@ use pair_graph::Pairs;
 use pair_rank::Endless;
 use word_image::{Rule, Weights};
 
-/// A property of rules for which rules can be listed.
+/// A property by which rules can be listed.
 #[derive(Clone, Copy, Debug, PartialEq, Eq)]
 pub enum Property {
     /// Every word has a preimage.
@@ -58,7 +58,7 @@ fn keeps_sums(rule: &Rule) -> bool
     is_conserving(rule, &Weights::own(rule.k()))
 }
 
-/// Returns the endless pairs of a rule.
+/// Returns the pairs of nodes at which two walks of any length with equal labels begin, and those at which they end.
 fn endless(rule: &Rule) -> Endless
     ensures { result ≡ rule.now }
 {

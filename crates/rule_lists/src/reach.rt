@@ -1,39 +1,40 @@
-//! The pairs of nodes to which known letters lead from a node with itself.
+//! Two walks with equal labels leave a node by two different letters. This file finds the pairs of nodes to which such
+//! walks lead, along windows whose letters are known.
 ghost use Rattle.std.specs.Prelude.{◌<◌};
 
 use crate::edges::{Edges, bit, first_node};
 use crate::letters::Letters;
 use word_image::{MOST_NODES, MOST_PAIRS, Rule, Side};
 
-/// For each pair of nodes the number of another pair.
+/// For each pair of nodes, by its number, the number of another pair: the pair before it or after it on a walk.
 pub(crate) type Links = [u8; MOST_PAIRS];
 
-/// How many numbers of known letters there are: from 0 to 256.
+/// The length of a list with a place for each number of known letters, from 0 to 256.
 const MOST_LEVELS: usize = 257;
 
-/// The pairs of nodes to which known letters lead from a node with itself, first by two different letters. They are
-/// in the order in which they were found. One more known letter only adds pairs at the end, and one letter less
-/// removes these pairs.
+/// The pairs of nodes that have been found. Known letters lead to each of them from a pair of two equal nodes, first by
+/// two different letters. The pairs are in the order in which they were found. One more known letter adds pairs at the
+/// end, and the pairs are removed again if this letter is taken back.
 #[derive(Drop)]
 pub(crate) struct Reach {
     /// The edges of the windows whose letters are known.
     pub(crate) edges: Edges,
     /// For each found pair the number of the pair from which a step first led to it.
     pub(crate) before: Links,
-    /// For each node the set of nodes with which it forms a found pair.
+    /// For each node u the set of nodes v for which (u, v) or (v, u) is a found pair.
     rows: [u16; MOST_NODES],
     /// The found pairs in their order. Only one of (u, v) and (v, u) is in the list.
     found: [(u8, u8); MOST_PAIRS],
     /// The number of found pairs.
     count: u8,
-    /// The number of found pairs whose steps have been followed.
+    /// The number of found pairs from which the steps have been followed.
     looked: u8,
-    /// For each number of known letters the number of found pairs.
+    /// `counts[n]` is the number of pairs that were found from the first n known letters.
     counts: [u8; MOST_LEVELS],
 }
 
 impl Reach {
-    /// Makes the list of pairs for no known letters.
+    /// Makes the list of pairs if no letter is known: it is empty.
     pub(crate) fn of(side: Side, shape: &Rule) -> Reach {
         Reach {
             edges: Edges::of(side, shape),
@@ -46,14 +47,15 @@ impl Reach {
         }
     }
 
-    /// Stores the number of found pairs for the letters at the first n windows of the order.
+    /// Stores how many pairs were found from the letters at the first n windows of the order.
     pub(crate) fn settle(&mut self, n: u16)
         requires { n < 257 }
     {
         self.counts[usize::from(n)] = self.count;
     }
 
-    /// Removes the pairs that were found after the letters at the first n windows of the order were known.
+    /// Takes back the letters after the first n windows of the order: removes the pairs that were found from these
+    /// letters.
     pub(crate) fn go_back(&mut self, n: u16)
         requires { n < 257 }
     {
@@ -66,7 +68,7 @@ impl Reach {
         self.count = kept;
     }
 
-    /// Returns the set of this node and of all nodes with which it forms a found pair.
+    /// Returns the set that has this node and each node with which it forms a found pair.
     pub(crate) fn partners(&self, node: u8) -> u16 {
         self.rows[usize::from(node % 16)] | bit(node)
     }

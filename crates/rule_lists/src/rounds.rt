@@ -1,23 +1,24 @@
-//! Loops of pairs of different nodes: walks that return to the pair at which they begin.
+//! Finds loops of pairs of different nodes: walks that return to the pair at which they begin. A step leads from a pair
+//! to a pair along two edges with the same known letter.
 use crate::edges::{Edges, bit, first_node};
 use crate::letters::Letters;
 use crate::reach::Links;
 use word_image::{MOST_NODES, MOST_PAIRS};
 
-/// More steps than a search takes. There are at most 120 pairs of different nodes, and at most 256 pairs can come
-/// after each of them.
+/// A limit on the steps of a search, which no search reaches. There are at most 120 pairs of different nodes, and at
+/// most 256 pairs can come after each of them.
 const MOST_TURNS: u16 = 40_000;
 
-/// A pair on the walk, and the next pairs that haven't been tried.
+/// A pair on the walk, and which pairs after it haven't been tried yet.
 #[derive(Clone, Copy)]
 struct Stop {
     /// The two nodes of the pair.
     pair: (u8, u8),
-    /// The least letter at the first node that hasn't been tried.
+    /// The least letter at the first node that hasn't been tried yet.
     letter: u8,
     /// The first node of the pairs to which the last tried letter leads.
     to: u8,
-    /// The second nodes of those pairs to which the last tried letter leads and which haven't been tried.
+    /// The set of the second nodes of these pairs, without the pairs that have been tried.
     rest: u16,
 }
 
@@ -32,7 +33,7 @@ pub(crate) struct Rounds {
     depth: u8,
     /// For each node the set of nodes with which it forms a pair of the walk.
     open: [u16; MOST_NODES],
-    /// For each node the set of nodes with which it forms a pair after which all next pairs have been tried.
+    /// For each node the set of nodes with which it forms a finished pair: all pairs after it have been tried.
     done: [u16; MOST_NODES],
 }
 
@@ -79,8 +80,8 @@ impl Rounds {
         None
     }
 
-    /// Continues the walk in all possible ways until it closes a loop. Returns the number of a pair on the loop, or
-    /// None if no way closes a loop.
+    /// Continues the walk, and goes back if it can't continue, until it closes a loop. Returns the number of a pair on
+    /// the loop, or None if no walk closes a loop.
     fn walk(&mut self, edges: &Edges, letters: &Letters) -> Option<u8> {
         for _ in 0..MOST_TURNS {
             if self.depth == 0 {
@@ -113,8 +114,7 @@ impl Rounds {
         self.open[usize::from(pair.1 % 16)] |= bit(pair.0);
     }
 
-    /// Tries the next pair after the last pair of the walk: adds it to the walk, unless all pairs after it have been
-    /// tried before.
+    /// Tries the next pair after the last pair of the walk. Adds it to the walk unless it is finished.
     fn go_on(&mut self, top: u8, stop: Stop) {
         let end = first_node(stop.rest);
         self.stops[usize::from(top)].rest = stop.rest & !bit(end);
@@ -133,8 +133,8 @@ impl Rounds {
         self.done[usize::from(v % 16)] |= bit(u);
     }
 
-    /// Takes the next letter of the last pair that leads to pairs. Returns whether one of these pairs is on the walk,
-    /// which closes a loop.
+    /// Takes the next letter on which steps lead from the last pair of the walk. Returns whether one of these steps
+    /// leads to a pair on the walk, which closes a loop.
     fn turn(&mut self, edges: &Edges, letters: &Letters, top: u8) -> bool {
         let stop = self.stops[usize::from(top)];
         for letter in stop.letter..edges.k() {
@@ -157,8 +157,8 @@ impl Rounds {
         false
     }
 
-    /// Stores for each pair of the walk the next pair, after the last letter has closed a loop. Returns the number of
-    /// the pair to which the walk has come back.
+    /// Stores for each pair of the walk the next pair, after a step has closed a loop. Returns the number of the pair
+    /// to which the walk has come back.
     fn closed(&mut self, edges: &Edges, top: u8) -> u8 {
         let stop = self.stops[usize::from(top)];
         let back = stop.rest & self.open[usize::from(stop.to % 16)];
@@ -172,8 +172,7 @@ impl Rounds {
         edges.pair(pair.0, pair.1)
     }
 
-    /// Stores that `next` comes after `pair` on the walk, and that the reversed `next` comes after the reversed
-    /// `pair`.
+    /// Stores that `next` comes after `pair` on the walk. Does so also for the two pairs with their nodes exchanged.
     fn link(&mut self, edges: &Edges, pair: (u8, u8), next: (u8, u8)) {
         let (here, turned) = (edges.pair(pair.0, pair.1), edges.pair(pair.1, pair.0));
         self.after[usize::from(here)] = edges.pair(next.0, next.1);

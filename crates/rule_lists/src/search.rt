@@ -1,4 +1,4 @@
-//! The search for the next listed rule.
+//! The search for the next listed rule: the next rule that has a shape, a property and some fixed letters.
 ghost use Rattle.std.specs.Prelude.{◌≡◌, ◌^◌, ◌<◌, ◌≤◌, ℕ, None, Some, IfSome, IsNone, slice_index, pos};
 ghost use Rattle.word_image.specs.LocalRules.{IsShape, IsRule};
 ghost use Rattle.rule_lists.specs.Tables.{IsTable, IsPast};
@@ -21,7 +21,7 @@ use word_image::{MOST_ENTRIES, Rule};
 pub struct Search<'a> {
     /// The question that the search answers.
     asked: Asked<'a>,
-    /// The hints for the letters of the last table.
+    /// The hints from the letters of the last table. A hint shows that letters rule out the property.
     hints: Hints,
     /// The rule after which the search continues, or None if it begins at the least rank.
     last: Option<Rule>,
@@ -80,8 +80,8 @@ impl<'a> Iterator for Search<'a> {
     }
 }
 
-/// Returns the listed rule of least rank after the rule `last`, or from the least rank on if `last` is None. Returns
-/// None if there is no such rule.
+/// Returns the listed rule of least rank after the rule `last`. If `last` is None, returns the listed rule of least
+/// rank. Returns None if there is no such rule.
 fn next_listed(asked: &Asked, last: &Option<Rule>, hints: &mut Hints) -> Option<Rule>
     requires order { IsOrdered asked.now }
     requires shape { IfSome last.now (HasShape asked.now) }
@@ -101,8 +101,8 @@ fn first_rule(asked: &Asked, hints: &mut Hints) -> Option<Rule>
     rule_from(asked, entries_of(asked.shape), Some(0), hints)
 }
 
-/// Returns the listed rule of least rank whose rank is greater than the rank of this rule, or None if there is no
-/// such rule.
+/// Returns the listed rule of least rank among those whose rank is greater than the rank of this rule, or None if there
+/// is none.
 fn rule_after(asked: &Asked, rule: &Rule, hints: &mut Hints) -> Option<Rule>
     requires order { IsOrdered asked.now }
     requires shape { HasShape asked.now rule.now }
@@ -114,7 +114,7 @@ fn rule_after(asked: &Asked, rule: &Rule, hints: &mut Hints) -> Option<Rule>
     rule_from(asked, entries, next, hints)
 }
 
-/// Returns the letters of a rule's table, followed by any numbers.
+/// Returns the letters of a rule's table. The numbers after them don't matter.
 fn entries_of(rule: &Rule) -> Entries
     ensures letters { (v : ℕ) → v < rule.now.states ^ rule.now.width → slice_index result v ≡ slice_index rule.now.table v }
     ensures table { IsTable rule.now.states (rule.now.states ^ rule.now.width) result }
@@ -126,9 +126,8 @@ fn entries_of(rule: &Rule) -> Entries
     entries
 }
 
-/// Let `first` be n, and compare only the letters at the first n windows of the order. Returns the first listed rule,
-/// by rank, whose letters there are the letters of `start` or come after them. Returns None if there is no such rule,
-/// or if `first` is None.
+/// Returns the first listed rule, by rank, whose letters at the first n windows of the order are the letters of `start`
+/// or come after them. Here n is the number in `first`. Returns None if there is no such rule, or if `first` is None.
 fn rule_from(asked: &Asked, start: Entries, first: Option<u16>, hints: &mut Hints) -> Option<Rule>
     requires order { IsOrdered asked.now }
     requires table { AreEntries asked.now start }
@@ -146,7 +145,8 @@ fn rule_from(asked: &Asked, start: Entries, first: Option<u16>, hints: &mut Hint
     None
 }
 
-/// Returns the rule of the table if all n windows are filled and the rule is listed, and None otherwise.
+/// Returns the rule of the table if all windows are filled and the rule is listed, and None otherwise. n is the number
+/// of windows that are filled.
 fn found(asked: &Asked, entries: &Entries, n: u16) -> Option<Rule>
     requires order { IsOrdered asked.now }
     requires table { AreEntries asked.now entries.now }
@@ -178,10 +178,9 @@ fn filled(k: u8, m: u8, entries: &Entries) -> Rule
     Rule::from_fn(k, m, 0, |window| entries[usize::from(window)])
 }
 
-/// Makes one step of a search after the letters at the first n windows of the order are known. It adds the letter 0
-/// at the next window. If the table is complete or its letters rule out the property, it replaces the letters by the
-/// next ones instead. Returns at how many windows the letters are known afterwards, or None if there are no next
-/// letters.
+/// Makes one step of a search after the letters at the first n windows of the order are known. Adds the letter 0 at the
+/// next window. If the table is complete or its letters rule out the property, it replaces the letters by the next ones
+/// instead. Returns how many windows have known letters afterwards, or None if there are no next letters.
 fn step(asked: &Asked, entries: &mut Entries, n: u16, hints: &mut Hints) -> Option<u16>
     requires order { IsOrdered asked.now }
     requires table { AreEntries asked.now entries.old }

@@ -1,4 +1,4 @@
-//! Tests whether fixed letters rule out that a rule conserves the sum of every ring.
+//! Tests whether fixed letters rule out that a rule conserves the sum of the letters of every ring.
 ghost use Rattle.std.specs.Prelude.{◌≡◌, ◌*◌, ◌^◌, ◌<◌, IsTrue};
 ghost use Rattle.word_image.specs.LocalRules.{most_windows};
 ghost use Rattle.rule_lists.specs.Bars.{Bars};
@@ -22,8 +22,8 @@ pub(crate) fn bars_conserving(shape: &Rule, letters: &Letters) -> bool
     false
 }
 
-/// Returns whether this window shows that no rule with the fixed letters is conserving. This is the case if its nodes
-/// are in the same tree, and the letter that their levels demand isn't below k or isn't the fixed letter.
+/// Returns whether this window shows that no rule with the fixed letters is conserving. It does if its nodes are in the
+/// same tree of the forest, and the letter that the levels of the nodes demand isn't below k or isn't the fixed letter.
 fn has_no_letter(shape: &Rule, letters: &Letters, forest: &Forest, window: u16) -> bool
     requires window { window < shape.now.states ^ shape.now.width }
     requires known { AreKnown shape.now letters.now forest.now.trees forest.now.levels }

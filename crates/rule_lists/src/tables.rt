@@ -1,4 +1,4 @@
-//! Tables of letters that are filled window by window.
+//! Tables of letters that a search fills window by window.
 ghost use Rattle.std.specs.Prelude.{◌≡◌, ◌+◌, ◌-◌, ◌*◌, ◌^◌, ◌<◌, ◌≤◌, ◌↔◌, ℕ, List, IfSome, IsTrue, length, slice_index};
 ghost use Rattle.word_image.specs.LocalRules.{most_windows};
 ghost use Rattle.rule_lists.specs.Ranks.{IsOrder, rank_of_first};
@@ -7,10 +7,10 @@ ghost use Rattle.rule_lists.specs.Tables.{IsTable, HasLetters, IsPast};
 use crate::letters::Letters;
 use word_image::MOST_ENTRIES;
 
-/// The letters of a table, by the values of the windows, followed by any numbers.
+/// The letters of a table, by the values of the windows. The numbers after them don't matter.
 pub(crate) type Entries = [u8; MOST_ENTRIES];
 
-/// Returns whether a table has all letters that are fixed at the windows below `size`.
+/// Returns whether a table has each letter that is fixed at a window below `size`.
 pub(crate) fn has_letters(k: u8, begin: &Letters, entries: &Entries, size: u16) -> bool
     requires { size ≤ most_windows }
     ensures { IsTrue result ↔ HasLetters k size begin.now entries.now }
@@ -23,8 +23,8 @@ pub(crate) fn has_letters(k: u8, begin: &Letters, entries: &Entries, size: u16) 
     true
 }
 
-/// Replaces the letters at the first n windows of the order by the next letters in the order of ranks. Returns at how
-/// many windows the letters are known afterwards, at most n, or None if there are no next letters.
+/// Replaces the letters at the first n windows of the order by the next letters, in the order of ranks. Returns how
+/// many windows have known letters afterwards, at most n, or None if there are no next letters.
 pub(crate) fn advance(k: u8, order: &[u8], entries: &mut Entries, n: u16) -> Option<u16>
     requires states { 2 ≤ k }
     requires order { (size : ℕ) × (size ≤ most_windows) × IsOrder size order.now }

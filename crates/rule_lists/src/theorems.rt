@@ -40,30 +40,30 @@ pub fn parts_add_up()
         → IsListed property k m (slice_set begin w a) r → IsListed property k m (slice_set begin w b) r → a ≡ b }
 {}
 
-/// Law: suppose that fixed letters lead from a node with itself, first by two different letters, to a pair of two
-/// equal nodes. Then two different words with the same ends have the same image under each rule with these letters,
+/// Law: suppose that fixed letters lead from a pair of two equal nodes, first by two different letters, to a pair of
+/// two equal nodes. Then two different words with the same ends have the same image under each rule with these letters,
 /// so no such rule is surjective.
 pub fn fixed_erasable_pair_forbids_surjective()
     ensures { (r s : LocalRule) (letters : List ℕ) (p : ℕ) → IsRule r → IsFixedReached r letters p → first_of r p ≡ second_of r p → IsCompletion r.states r.width letters s → ¬ IsSurjective s }
 {}
 
-/// Law: suppose that fixed letters lead on for ever from a pair of two different nodes, both forward and backward.
-/// Then no rule with these letters is injective.
+/// Law: suppose that fixed letters lead from a pair of two different nodes to further pairs without end, both forward
+/// and backward. Then no rule with these letters is injective.
 pub fn fixed_endless_nodes_forbid_injective()
     ensures { (r s : LocalRule) (letters on back : List ℕ) (p : ℕ) → IsRule r → AreEndlessOn Right r letters (Contains on) → AreEndlessOn Left r letters (Contains back)
         → Contains on p → Contains back p → first_of r p ≢ second_of r p → IsCompletion r.states r.width letters s → ¬ IsInjective s }
 {}
 
-/// Law: suppose that the two nodes of a window are in the same tree of a forest for the fixed letters. Then their
-/// levels determine the letter that each conserving rule with the fixed letters gives for this window.
+/// Law: suppose that the two nodes of a window are in the same tree of a forest for the fixed letters. Then the levels
+/// of the two nodes determine the letter that each conserving rule with the fixed letters gives for this window.
 pub fn levels_give_letters_of_conserving()
     ensures { (r s : LocalRule) (letters trees levels : List ℕ) (w : ℕ) → IsRule r → AreKnown r letters trees levels → IsCompletion r.states r.width letters s → IsConserving (λ a. a) s → w < r.states ^ r.width
         → slice_index trees (w / r.states) ≡ slice_index trees (w % node_count r) → slice_index s.table w + slice_index levels (w % node_count r) ≡ w / node_count r + slice_index levels (w / r.states) }
 {}
 
 /// Law: suppose that two windows with the same fixed letter differ only in the letter at their end on this side, and
-/// that fixed letters lead on for ever from the pair of the nodes at their ends. Then no rule with these letters
-/// closes on this side.
+/// that fixed letters lead from the pair of the nodes at this end to further pairs without end. Then no rule with these
+/// letters closes on this side.
 pub fn fixed_endless_first_pair_forbids_closing()
     ensures { (side : Side) (r s : LocalRule) (letters on : List ℕ) (w a : ℕ) → IsRule r → AreEndlessOn side r letters (Contains on) → IsFixedEndless side r letters (Contains on) w a
         → IsCompletion r.states r.width letters s → ¬ IsClosing side s }

@@ -1,4 +1,5 @@
--- How many letters of the image a determined window may have.
+-- A window (n, c) proves that a rule is injective: n letters of an image determine the letter at place c of each
+-- preimage. This file limits n.
 use Rattle.std.specs.Prelude.{◌≤◌, ⊤}
 use Rattle.inverse_window.specs.FirstWindows.{most_window}
 use Rattle.cert_values.specs.Evidence.{InjectiveEvidence}

@@ -1,4 +1,5 @@
--- The verdicts of a rule on six properties, if each letter weighs its own value, and all these verdicts as one number.
+-- The verdicts on six properties of a rule whose letters weigh their own values, each yes or no, and all these
+-- verdicts as one byte.
 use Rattle.std.specs.Prelude.{ℕ, ◌+◌, ◌*◌, ◌&&◌}
 use Rattle.std.specs.Int.{from_bool}
 use Rattle.word_image.specs.LocalRules.{LocalRule}
@@ -7,7 +8,7 @@ use Rattle.cert_conditions.specs.declared.verdicts.Verdicts.{Verdicts}
 use Rattle.cert_conditions.specs.Accepted.{AreTrue}
 use Rattle.rule_verdicts.specs.declared.truths.Truths.{Truths}
 
--- the verdicts on a rule in the form in which a certificate gives them
+-- the verdicts on a rule, in the form that a certificate has
 abbrev pub said_of : LocalRule → Truths → Verdicts
 said_of r t = record {
   rule = r;

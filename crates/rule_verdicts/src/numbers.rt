@@ -1,4 +1,4 @@
-//! The verdicts of rules with consecutive numbers, one byte for each rule.
+//! The verdicts on rules with consecutive Wolfram numbers, as one byte for each rule.
 ghost use Rattle.std.specs.Prelude.{◌≡◌, ℕ, ◌+◌, ◌-◌, ◌^◌, ◌<◌, ◌≤◌, None, Some, length, reverse, slice_index, sum, MatchResult};
 ghost use Rattle.word_image.specs.LocalRules.{IsRule, IsWord, value, most_windows};
 ghost use Rattle.rule_text.specs.RuleTexts.{rule_of_table};
@@ -9,9 +9,9 @@ use flux_conserve::{is_mean, letter_sum};
 use rule_text::{TextFault, numbered};
 use word_image::MOST_ENTRIES;
 
-/// Writes the verdicts of the rules of k states, width m and offset 0 with consecutive numbers, starting at `first`.
-/// Byte i is `Truths::byte` of the rule with the number first + i. If some number is the number of no rule, it
-/// returns the first fault and writes nothing. It needs no memory.
+/// Writes the verdicts on rules with consecutive numbers, starting at `first`. The rules have k states, width m and
+/// offset 0. Byte i is `Truths::byte` of the rule with the number first + i. If some number isn't the number of a rule,
+/// returns the first fault and writes nothing. Needs no memory.
 pub fn verdict_bytes(k: u8, m: u8, first: u128, bytes: &mut [u8]) -> Result<(), TextFault>
     requires { 1 ≤ length bytes.old }
     ensures { MatchResult result
@@ -30,7 +30,7 @@ pub fn verdict_bytes(k: u8, m: u8, first: u128, bytes: &mut [u8]) -> Result<(), 
     Ok(())
 }
 
-/// Returns the first fault of consecutive numbers whose last number is 2^128 or more. No rule has such a number.
+/// Returns the first fault of a range of numbers that ends at 2^128 or more. No rule has such a number.
 pub fn fault_past_all(k: u8, m: u8) -> TextFault
     ensures { (first count : ℕ) → 2 ^ 128 ≤ first + count - 1 → numbers_fault k m first count ≡ Some result }
 {

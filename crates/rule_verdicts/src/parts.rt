@@ -1,4 +1,8 @@
-//! The evidence for one verdict: functions that turn the result of a decider into a part of a certificate.
+//! Functions that turn the result of a decider into a part of a certificate: the evidence for one verdict.
+//!
+//! The cover list of a surjective rule has the set of all nodes, and each minimal set of last nodes of the preimages of
+//! a word. Its reached pairs are the pairs of nodes to which two walks with equal labels lead that left one node by
+//! different letters.
 ghost use Rattle.std.specs.Prelude.{◌≡◌, length, slice_index, take, true, IfOk};
 ghost use Rattle.word_image.specs.LocalRules.{LocalRule, IsRule, node_count};
 ghost use Rattle.word_image.specs.Words.{IsSurjective};
@@ -55,7 +59,7 @@ pub fn injectivity(alloc: Global, rule: &Rule) -> Result<InjectivePart, AllocErr
     injective_part(alloc, &pairs, &ranks, &mut walker)
 }
 
-/// Returns the same as `injectivity`, for the rule with these pairs of nodes and these ranks.
+/// Returns the same as `injectivity`, for a rule whose pairs of nodes and ranks are known.
 pub(crate) fn injective_part(
     alloc: Global,
     pairs: &Pairs,
@@ -78,7 +82,7 @@ pub(crate) fn injective_part(
     }
 }
 
-/// Returns the evidence for closing on a side as a part of a certificate.
+/// Turns the look-ahead or the split that a decider found into a part of a certificate.
 pub(crate) fn side_part(found: Closing) -> SidePart
     ensures right { (r : LocalRule) → IsRightAnswer r found → IsRightPart r (side_of result) × IsOver r.states result }
     ensures left { (r : LocalRule) → IsLeftAnswer r found → IsLeftPart r (side_of result) × IsOver r.states result }
@@ -101,7 +105,7 @@ pub(crate) fn sum_part(alloc: Global, rule: &Rule, weights: &Weights) -> Result<
     }
 }
 
-/// Returns the flux with the first numbers of this array, one number for each node of the rule.
+/// Returns the flux that has the first numbers of the array `flows`, one number for each node of the rule.
 fn flux_row(alloc: Global, rule: &Rule, flows: &[i32; MOST_NODES]) -> Result<FluxRow, AllocError>
     ensures row { IfOk result (λ row. row ≡ take (node_count rule.now) flows.now) }
     ensures rule { IsRule rule.now }
@@ -117,8 +121,8 @@ fn ring_word(alloc: Global, ring: &SmallRing) -> Result<Word, AllocError>
     Ok(Word::of(ring.letters().to_vec(alloc)?))
 }
 
-/// Returns the evidence about surjectivity for a certificate of this version, for the rule with these pairs of nodes.
-/// `orphan` is the least orphan of the rule, or None if the rule is surjective.
+/// Returns the evidence about surjectivity for a certificate of this version. `pairs` are the pairs of nodes of the
+/// rule. `orphan` is the least orphan of the rule, or None if the rule is surjective.
 pub(crate) fn surjective_part(
     alloc: Global,
     version: CertVersion,
@@ -154,7 +158,7 @@ fn list_part(
     Ok(SurjectivePart::Sets(covers(alloc, pairs.graph())?))
 }
 
-/// Returns the cover list of a surjective rule.
+/// Returns the cover list of the surjective rule with this graph.
 fn covers(alloc: Global, graph: &Graph) -> Result<SetList, AllocError>
     requires { IsSurjective graph.now }
     ensures { IfOk result (IsCoverList graph.now) }

@@ -1,4 +1,4 @@
-//! The type `Truths`: the verdicts of a rule, if each letter weighs its own value.
+//! The type `Truths`: the verdicts on a rule without evidence. Each letter weighs its own value.
 ghost use Rattle.std.specs.Prelude.{◌≡◌, ◌↔◌, ◌&&◌, slice_index, IsTrue};
 ghost use Rattle.word_image.specs.LocalRules.{LocalRule, IsRule};
 ghost use Rattle.word_image.specs.Words.{IsSurjective};
@@ -16,7 +16,7 @@ use pair_graph::Pairs;
 use pair_rank::Endless;
 use word_image::{Rule, Weights};
 
-/// The verdicts of a rule, if each letter weighs its own value.
+/// The verdicts on a rule, if each letter weighs its own value.
 #[derive(Clone, Copy, Debug, PartialEq, Eq)]
 pub struct Truths {
     /// Whether every word has a preimage.
@@ -32,7 +32,7 @@ pub struct Truths {
 }
 
 impl Truths {
-    /// Decides all questions about a rule. Needs no memory.
+    /// Decides the verdicts on a rule. Needs no memory.
     pub fn of(rule: &Rule) -> Truths
         ensures { AreTruths rule.now result }
     {
@@ -55,8 +55,8 @@ impl Truths {
         Truths::past_sum(k, m, table)
     }
 
-    /// Returns the verdicts of the rule of k states, width m and offset 0 with this table. It may be called only if
-    /// the letters of the table have the same mean as the letters 0 to k - 1.
+    /// Returns the verdicts on the rule of k states, width m and offset 0 with this table. It may be called only if the
+    /// letters of the table have the same mean as the letters 0 to k - 1.
     pub(crate) fn past_sum(k: u8, m: u8, table: &[u8]) -> Truths
         requires { IsRule (texts.rule_of_table k m table.now) }
         ensures { AreTruths (texts.rule_of_table k m table.now) result }
@@ -68,7 +68,7 @@ impl Truths {
         decided(&rule_of_table(k, m, table), even)
     }
 
-    /// Returns the verdicts whose byte is this byte.
+    /// Returns the verdicts for which the method `byte` returns this byte.
     pub fn from_byte(byte: u8) -> Truths
         ensures { (t : Truths) → byte ≡ byte_of t → result ≡ t }
     {
@@ -81,8 +81,7 @@ impl Truths {
         }
     }
 
-    /// Returns the verdicts of a rule that isn't surjective. All of them are no, except that `conserving` is the
-    /// given verdict.
+    /// Returns the verdicts on a rule that isn't surjective. All of them are no, except `conserving`, which is given.
     pub fn not_surjective(conserving: bool) -> Truths
         ensures { (r : LocalRule) → IsRule r → ¬ IsSurjective r → (IsTrue conserving ↔ IsConserving (slice_index (own_weights r.states)) r) → AreTruths r result }
     {

@@ -1,4 +1,5 @@
-//! The family of rule 106, worked out by hand. It has the sets of nodes to which words lead.
+//! The sets of nodes to which words lead from the set of all nodes, for rule 106, worked out by hand. They are called
+//! the family of the rule.
 
 use crate::known_rules::RULE_106;
 use debruijn::Graph;

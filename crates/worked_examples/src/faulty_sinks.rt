@@ -23,8 +23,8 @@ fn failed_calls_and_small_rooms(rt: HostRuntime) -> Result<(), Fail> {
     Ok(())
 }
 
-/// Checks that `orphan 110` writes the first `count` bytes of its output to a sink that can take only so many. The
-/// status is `WriteFault` if this isn't the whole output, and otherwise `Done`.
+/// Checks that `orphan 110` writes the first `count` bytes of its output to a sink that can take no more. The status is
+/// `WriteFault` if these bytes aren't the whole output, and otherwise `Done`.
 fn takes_first_bytes(
     rt: &impl Abort,
     alloc: Global,

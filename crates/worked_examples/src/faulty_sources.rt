@@ -12,7 +12,7 @@ use std::test::Fail;
 const ACCEPTED: &str =
     "accepted 2:2:0:t0101\nsurjective yes\ninjective yes\nright yes\nleft yes\nopen yes\nconserving yes\n";
 
-/// Returns a certificate of the shift to the left by one cell, as `certify` writes it.
+/// Returns the certificate of the shift to the left by one cell that `certify` writes.
 fn certificate(alloc: Global) -> Result<Vec<u8>, AllocError> {
     let mut source = PlainSource::new(Vec::new(alloc));
     let output = sink(alloc, 1 << 10, 1 << 10, Vec::new(alloc))?;

@@ -1,6 +1,6 @@
-//! Least walks between marked pairs of nodes. In the marked graph each pair of nodes occurs twice, without a mark and
-//! with it. A step on two different letters sets the mark. The expected walks come from lists of all walks, with
-//! shorter walks first, and walks of the same length in dictionary order.
+//! Least walks between marked pairs of nodes: the shortest ones, and the first of these in dictionary order. In the
+//! marked graph each pair of nodes occurs twice, without a mark and with it. A step on two different letters sets the
+//! mark. The expected walks come from lists of all walks.
 
 use crate::known_rules::{RULE_110, RULE_170, RULE_184, SUM_OF_TWO};
 use least_walk::Walker;

@@ -1,5 +1,5 @@
-//! Steps forward and back from every pair of nodes on all letters, and steps in the marked graph. There each pair of
-//! nodes occurs twice, without a mark and with it. A step on two different letters sets the mark.
+//! Steps forward and back from every pair of nodes on all letters, and steps in the marked graph. In this graph each
+//! pair of nodes occurs twice, without a mark and with it. A step on two different letters sets the mark.
 
 use crate::known_rules::{RULE_110, SUM_OF_TWO};
 use pair_graph::Pairs;
@@ -7,9 +7,9 @@ use std::process::Abort;
 use std::test::Fail;
 use word_image::Rule;
 
-/// Checks for each pair p that steps undo each other. If p leads to a pair q, the step back from q on the first
-/// letters of the nodes of p leads to p. If a step back from p leads to a pair q, the step from q on the last letters
-/// of the nodes of p leads to p.
+/// Checks for each pair p that forward and back steps undo each other. If p leads to a pair q, the step back from q on
+/// the first letters of the nodes of p leads to p. If a step back from p leads to a pair q, the step from q on the last
+/// letters of the nodes of p leads to p.
 fn undoes_steps(rt: &impl Abort, pairs: &Pairs, first_letters: &[u8]) {
     let k = pairs.rule().k();
     let nodes = u16::from(pairs.rule().nodes());

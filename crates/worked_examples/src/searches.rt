@@ -1,5 +1,5 @@
-//! Searches for orphans, one rule after another with the same search. No contract can say that a search finds memory
-//! and so takes place, or what an earlier run leaves behind. The expected verdicts are well known or follow by hand.
+//! Tests that one search can look for orphans of one rule after another. No contract says that there is memory for a
+//! search, or what an earlier run leaves behind. The expected verdicts are well known or follow by hand.
 
 use crate::known_rules::{RULE_106, RULE_110};
 use orphan_search::{Outcome, Search};

@@ -1,5 +1,5 @@
 //! Tests of sources and sinks, for facts that no contract can state: that there is memory, and what a reader and a
-//! writer of std do.
+//! writer of Rust's standard library do.
 
 use ca_io::{
     Failed, InputFault, MemSink, MemSource, NullSink, PlainSource, Sink, Source, StdSink,

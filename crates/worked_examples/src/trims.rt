@@ -63,7 +63,8 @@ fn size(set: &PairSet, pairs: &Pairs) -> u16
     size
 }
 
-/// Returns the set after one round of trims on a side, first by the fast trim, then by the slow plain trim.
+/// Returns the set after one round of trims on a side: first the result of the fast trim, then the result of the slow
+/// plain trim.
 fn round(set: &PairSet, pairs: &Pairs, side: Side) -> (PairSet, PairSet)
     requires { length set.now ≡ pair_count pairs.now }
     ensures first { length result.0 ≡ pair_count pairs.now }
