@@ -1,4 +1,8 @@
 //! The tests whether a rule closes on a side, without the look-ahead or the split that shows it.
+//!
+//! A node is a word of m - 1 letters. A first pair on the right consists of two nodes that two different letters reach
+//! from the same node, along edges with equal labels. A pair is endless if walks of every length with equal labels
+//! begin at its nodes. On the left side, edges are followed backward.
 
 ghost use Rattle.std.specs.Prelude.{◌^◌, ◌<◌, ◌↔◌, ℕ, IsBitSet, IsTrue};
 ghost use Rattle.word_image.specs.LocalRules.{node_count, most_nodes};
@@ -40,8 +44,8 @@ fn closes(side: Side, endless: &Endless) -> bool
     true
 }
 
-/// Returns whether this window and some other window have an endless first pair at their ends. The two windows have
-/// equal labels and differ only in the letter at their end on this side.
+/// Returns whether this window and some other window end with an endless first pair. The two windows must have equal
+/// labels and differ only in the letter at their end on this side. The pair consists of their nodes at this end.
 fn is_endless_at(side: Side, endless: &Endless, window: u16) -> bool
     requires { window < endless.now.states ^ endless.now.width }
     ensures { IsTrue result ↔ IsEndlessAt side endless.now window }
@@ -54,8 +58,8 @@ fn is_endless_at(side: Side, endless: &Endless, window: u16) -> bool
     false
 }
 
-/// Returns whether this window, and the window that differs from it by having `letter` at its end on this side, have
-/// an endless first pair of nodes at their ends.
+/// Returns whether this window and a second window end with an endless first pair. The second window has `letter` at
+/// its end on this side, and otherwise the same letters.
 fn is_endless_with(side: Side, endless: &Endless, window: u16, letter: u8) -> bool
     requires window { window < endless.now.states ^ endless.now.width }
     requires letter { letter < endless.now.states }
@@ -67,8 +71,8 @@ fn is_endless_with(side: Side, endless: &Endless, window: u16, letter: u8) -> bo
     endless_nodes(side, endless, u) >> v & 1 == 1
 }
 
-/// Returns the nodes v for which the pair (u, v) is endless on this side: forward on the right, backward on the left.
-/// Bit v stands for node v.
+/// Returns the set of the nodes v for which the pair (u, v) is endless on this side: forward on the right, backward on
+/// the left. Bit v stands for node v.
 fn endless_nodes(side: Side, endless: &Endless, u: u8) -> u16
     requires { u < node_count endless.now }
     ensures { (v : ℕ) → v < most_nodes → (IsBitSet result v ↔ IsEndless (Together side endless.now u v)) }

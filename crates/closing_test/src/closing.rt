@@ -1,4 +1,8 @@
-//! Decides whether a rule closes on a side, with evidence.
+//! Decides whether a rule closes on a side, with evidence: a look-ahead if it does, and a split if it doesn't.
+//!
+//! A right look-ahead is a number n for which m - 1 letters of a word and the next n letters of its image determine the
+//! next letter of the word. A right split consists of two different configurations with the same image that agree far
+//! to the left. A Tail is a configuration with a left period, a middle and a right period.
 
 ghost use Rattle.std.specs.Prelude.{◌≡◌, IfOk};
 ghost use Rattle.closing_test.specs.Closing.{IsRightAnswer, IsLeftAnswer};
@@ -21,9 +25,9 @@ pub enum Closing {
     Split(Tail, Tail),
 }
 
-/// Returns the least right look-ahead if the rule is right-closing, and otherwise its least normal right split, as
-/// Tails whose middles and periods have at most 512 letters. `ranks` must be the ranks of the rule. The only error is
-/// lack of memory.
+/// Returns the least right look-ahead if the rule is right-closing, and otherwise its least normal right split. The
+/// split consists of two Tails whose middles and periods have at most 512 letters. `ranks` must be the ranks of the
+/// rule. The only error is lack of memory.
 pub fn right(
     alloc: Global,
     rule: &Rule,
@@ -54,9 +58,9 @@ pub fn right_over(
     Ok(Closing::Split(first, second))
 }
 
-/// Returns the least left look-ahead if the rule is left-closing, and otherwise its least normal left split, as Tails
-/// whose middles and periods have at most 512 letters. `ranks` must be the ranks of the rule. The only error is lack
-/// of memory.
+/// Returns the least left look-ahead if the rule is left-closing, and otherwise its least normal left split. The split
+/// consists of two Tails whose middles and periods have at most 512 letters. `ranks` must be the ranks of the rule. The
+/// only error is lack of memory.
 pub fn left(
     alloc: Global,
     rule: &Rule,

@@ -1,4 +1,6 @@
-//! First pairs, found from two windows that differ only in the letter at their end on one side.
+//! First pairs, found from two windows that differ only in the letter at their end on one side. A first pair on the
+//! right consists of two nodes that two different letters reach from the same node, along edges with equal labels. On
+//! the left side the edges are followed backward.
 
 ghost use Rattle.std.specs.Prelude.{◌≡◌, ◌^◌, ◌<◌, MatchOption};
 ghost use Rattle.word_image.specs.LocalRules.{IsRule};
@@ -7,8 +9,8 @@ ghost use Rattle.closing_test.specs.Sides.{IsFound};
 
 use word_image::{Rule, Side};
 
-/// Returns the node at the end of this window and the node at the end of the window with `letter` at its end. Returns
-/// None if the two windows are equal or have different labels. So the two nodes are a first pair.
+/// Returns the first pair of two windows: the node at the end of `window`, and the node at the end of the window that
+/// has `letter` at its end instead. Returns None if the two windows are equal or have different labels.
 pub fn first_nodes(side: Side, rule: &Rule, window: u16, letter: u8) -> Option<(u8, u8)>
     requires window { window < rule.now.states ^ rule.now.width }
     requires letter { letter < rule.now.states }
@@ -23,7 +25,7 @@ pub fn first_nodes(side: Side, rule: &Rule, window: u16, letter: u8) -> Option<(
     Some((node, side.end_node(rule, other)))
 }
 
-/// Returns the window that has `letter` at its end on this side, and otherwise the same letters as `window`.
+/// Returns the window that has `letter` at its end on this side and otherwise the letters of `window`.
 fn with_end(side: Side, rule: &Rule, window: u16, letter: u8) -> u16
     requires window { window < rule.now.states ^ rule.now.width }
     requires letter { letter < rule.now.states }

@@ -19,14 +19,15 @@
 //! least left look-ahead is 1.
 //!
 //! A split is stored as two Tails (crate tail_config). The Tail `L|M|R` has the left period L, the middle M, which
-//! begins at place 0, and the right period R. The marked graph has each of the N² pairs of nodes twice, without a
-//! mark and with it. These are its states. A step on two different letters sets the mark. A normal right split
-//! consists of two walks in the marked graph. The first walk leads from the pair of the node of zeros with itself to
-//! a state, and spells the middles. The second walk leads from that state back to its pair, with the mark, and spells
-//! the right periods. The left periods are 0. A split with fewer steps in both walks together is less. Of two splits
-//! with the same number of steps, the split with the shorter middle is less, and then the dictionary order of the
-//! pairs of letters decides. For each of the 2 N² states the least walks give the least split with this state between
-//! its two walks. The least of these splits is the least of all.
+//! begins at place 0, and the right period R. The marked graph has each of the N² pairs of nodes twice, without a mark
+//! and with it. These are its states. A step on two different letters sets the mark.
+//!
+//! A normal right split consists of two walks in the marked graph. The first walk leads from the pair of the node of
+//! zeros with itself to a state, and spells the middles. The second walk leads from that state back to its pair, with
+//! the mark, and spells the right periods. The left periods are 0. A split with fewer steps in both walks together is
+//! less. Of two splits with the same number of steps, the split with the shorter middle is less, and then the
+//! dictionary order of the pairs of letters decides. For each of the 2 N² states the least walks give the least split
+//! with this state between its two walks. The least of these splits is the least of all.
 //!
 //! Under rule 110 the pairs of letters (1, 1), (0, 1), (0, 1) lead from the pair of 00 with itself to the pair of 00
 //! and 11, with the mark, and (0, 1) leads from there back to it. The image of `0|100|0`, and of `0|111|1`, is 1

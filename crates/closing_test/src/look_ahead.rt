@@ -1,4 +1,9 @@
 //! Finds the least look-aheads of a rule.
+//!
+//! A number n is a right look-ahead if m - 1 letters of a word and the next n letters of its image determine the next
+//! letter of the word. A first pair consists of two nodes that two different letters reach from the same node, along
+//! edges with equal labels. Its rank is the greatest length of two walks with equal labels that begin at its nodes. A
+//! pair without a greatest length is endless. On the left side everything is mirrored.
 
 ghost use Rattle.std.specs.Prelude.{◌≡◌, ◌^◌, ◌<◌, ◌≤◌, ◌↔◌, ℕ, IsSome, IfSome, IfNone, MatchOption};
 ghost use Rattle.word_image.specs.LocalRules.{IsRule, mirrored};
@@ -61,8 +66,8 @@ fn least_ahead(side: Side, rule: &Rule, ranks: &Ranks) -> Option<u16>
     Some(ahead)
 }
 
-/// Returns 2 more than the greatest rank of a first pair that this window forms with another window, or 1 if it forms
-/// none. Returns None if such a pair is endless. The nodes of the pair are the ends of the two windows.
+/// Returns 2 more than the greatest rank of a first pair that this window forms with another window. The nodes of the
+/// pair are the ends of the two windows. Returns 1 if there is no such pair, and None if such a pair is endless.
 fn ahead_at(side: Side, rule: &Rule, ranks: &Ranks, window: u16) -> Option<u16>
     requires ranks { ranks.now ≡ rule.now }
     requires window { window < rule.now.states ^ rule.now.width }
@@ -76,8 +81,8 @@ fn ahead_at(side: Side, rule: &Rule, ranks: &Ranks, window: u16) -> Option<u16>
     Some(ahead)
 }
 
-/// Returns 2 more than the rank of the first pair that this window forms with the window that has `letter` at its
-/// end, or 1 if they form none. Returns None if the pair is endless.
+/// Returns 2 more than the rank of the first pair that this window forms with the window that has `letter` at its end.
+/// Returns 1 if they don't form a first pair, and None if the pair is endless.
 fn ahead_with(side: Side, rule: &Rule, ranks: &Ranks, window: u16, letter: u8) -> Option<u16>
     requires ranks { ranks.now ≡ rule.now }
     requires window { window < rule.now.states ^ rule.now.width }

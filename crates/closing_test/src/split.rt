@@ -1,4 +1,10 @@
 //! Finds the least normal right split of a rule.
+//!
+//! A right split consists of two different configurations with the same image that agree far to the left. The marked
+//! graph has each pair of nodes twice, without a mark and with it. These are its states. A step on two different
+//! letters sets the mark. A normal right split consists of two walks in this graph. The middle leads from the pair of
+//! the node of zeros with itself to some state, and the period leads from there back to the pair of this state, with
+//! the mark.
 
 ghost use Rattle.std.specs.Prelude.{◌≡◌, ◌+◌, ◌*◌, ◌<◌, ◌≤◌, All, IfOk, IfSome, map};
 ghost use Rattle.least_walk.specs.Queues.{most_steps};
@@ -42,8 +48,8 @@ pub fn least_split(
 }
 
 /// Returns the walks of the least normal right split, or None if there is no such split. For each state of the marked
-/// graph it looks at one split at most. States with short middles come first, so that later searches for periods are
-/// short. The only error is lack of memory.
+/// graph it looks at one split at most. It looks at states with short middles first, so that later searches for periods
+/// are short. The only error is lack of memory.
 fn least_walks(
     alloc: Global,
     pairs: &Pairs,
@@ -61,9 +67,9 @@ fn least_walks(
     Ok(best)
 }
 
-/// Looks only at states of the marked graph from which a single step leads back to the pair of nodes of the state,
-/// with the mark. Returns the walks of the least split at one of these states. Returns None if there is no such
-/// split. A small split keeps later searches for longer periods short. The only error is lack of memory.
+/// Looks only at states from which a single step leads back to the state's pair of nodes, with the mark. Returns the
+/// walks of the least split that has one of these states between its two walks, or None if there is no such split. This
+/// small split keeps later searches for longer periods short. The only error is lack of memory.
 fn short_walks(
     alloc: Global,
     pairs: &Pairs,
@@ -88,8 +94,9 @@ fn short_walks(
     Ok(best)
 }
 
-/// Returns the Tail of the first letters, or of the second letters, of the pairs of letters of two walks. Its left
-/// period is the letter 0. The only error is lack of memory.
+/// Returns the Tail of the first letters, or of the second letters, of the steps of two walks. The letters of the first
+/// walk are its middle, and the letters of the second walk are its right period. Its left period is the letter 0. The
+/// only error is lack of memory.
 fn tail_of(alloc: Global, k: u8, walks: &Walks, letter: Letter) -> Result<Tail, AllocError>
     requires least { 2 ≤ k }
     requires most { k ≤ most_states }
@@ -105,7 +112,8 @@ fn tail_of(alloc: Global, k: u8, walks: &Walks, letter: Letter) -> Result<Tail, 
     }
 }
 
-/// Returns the first letter, or the second letter, of each pair of letters. The only error is lack of memory.
+/// Returns the first letter, or the second letter, of each step. A step is a pair of letters (a, b), stored as 16
+/// a + b. The only error is lack of memory.
 fn letters(alloc: Global, steps: &[u8], letter: Letter) -> Result<Vec<u8>, AllocError>
     ensures { IfOk result (λ letters. letters.items ≡ map (letter_of letter) steps.now) }
 {

@@ -1,4 +1,6 @@
-//! Splits, stored as two walks of pairs of nodes.
+//! Splits, stored as two walks of pairs of nodes. A split consists of two different configurations with the same image.
+//! The states of the marked graph are the pairs of nodes, without a mark and with it. A step on two different letters
+//! sets the mark.
 
 ghost use Rattle.std.specs.Prelude.{◌≡◌, ◌*◌, ◌+◌, ◌<◌, ◌≤◌, ◌↔◌, IfOk, IsTrue, MatchOption, length};
 ghost use Rattle.std.specs.Option.{SomeIff};
@@ -11,14 +13,14 @@ use least_walk::{MOST_STEPS, WalkTree, Walker};
 use pair_graph::Pairs;
 use std::alloc::{AllocError, Global};
 
-/// Two walks of pairs of letters, where the pair (a, b) is a * 16 + b. They form two Tails with the same image. Each
-/// Tail has the left period 0, the letters of the first walk as its middle, and the letters of the second walk as its
-/// right period.
+/// Two walks, which form two Tails with the same image. Each step is a pair of letters (a, b), stored as a * 16 + b.
+/// The first Tail has the letters a, and the second Tail the letters b. Both have the left period 0, the letters of the
+/// first walk as middle, and the letters of the second walk as right period.
 #[derive(Debug, Drop)]
 pub struct Walks {
     /// The walk from the pair of the node of zeros with itself, without a mark, to a state of the marked graph.
     pub middle: Vec<u8>,
-    /// The walk from that state back to its pair of nodes, with the mark.
+    /// The walk from the state at which `middle` ends back to the pair of nodes of this state, with the mark.
     pub period: Vec<u8>,
     ghost short_middle: { length middle.items ≤ most_steps },
     ghost short_period: { length period.items ≤ most_steps },
@@ -47,9 +49,9 @@ impl Walks {
             .is_gt()
     }
 
-    /// Returns the walks of the least normal split at a state, or None if it isn't less than `best`, the least split
-    /// so far. `middles` has the least walks from the pair of the node of zeros with itself. The only error is lack
-    /// of memory.
+    /// Returns the walks of the least normal split that has the marked pair `state` between its two walks. Returns None
+    /// if there is no such split, or if it isn't less than `best`, the least split so far. `middles` has the least
+    /// walks from the pair of the node of zeros with itself. The only error is lack of memory.
     pub fn earlier(
         alloc: Global,
         pairs: &Pairs,
@@ -93,9 +95,9 @@ impl Walks {
         }
     }
 
-    /// Returns how many steps the period after a middle of this length may have, so that the split can still be less
-    /// than `best`, the least split so far. Of two splits with the same number of letters the split with the longer
-    /// middle is greater.
+    /// Returns the greatest number of steps of a period that can still make a split less than `best`, the least split
+    /// so far. `middle` is the number of steps before the period. Of two splits with the same number of steps, the
+    /// split with the longer middle is greater.
     fn most_steps(best: &Option<Walks>, middle: usize) -> usize
         ensures { MatchOption best.now (result ≡ most_steps) (λ walks. IsMostAfter walks middle result) }
     {

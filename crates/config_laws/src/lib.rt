@@ -4,7 +4,10 @@
 //!
 //! The image of a configuration has at each place the letter that the rule gives for the window of this place. Two
 //! configurations are near each other if they agree from -n to n for a large n. In this sense a map is open, or its
-//! images are dense. Two configurations agree far to the left if they agree at every place to the left of some place.
+//! images are dense. Two configurations agree far to the left if they agree at every place to the left of some place. A
+//! node is a word of m - 1 letters. A split consists of two different configurations with the same image that agree far
+//! to the left (a right split) or far to the right (a left split). A rule closes on a side if it has no split on this
+//! side.
 //!
 //! Rule 90, the sum of the two neighbours, closes on both sides: every configuration near the image of x is the image
 //! of a configuration near x. Rule 30 is surjective and has a right split: its images are dense, but its map isn't
@@ -16,14 +19,14 @@
 //! configurations as for configurations with periodic tails. Surjective means that the images are dense. Conserving
 //! means that finite configurations keep their sums.
 //!
-//! A rule that closes on both sides is open. Let n be a right look-ahead and l = m - 2 + n. Suppose that a walk from
-//! a node writes a word of l letters, which means that its edges have these labels. Then for each letter b some walk
-//! from the node writes this word followed by b. The reason is a count. Take a word x of l + m - 1 letters that
-//! begins with the node, and a letter b. Put b into x right after the node. The image of the longer word has l + 1
-//! letters. By the look-ahead it determines b and the image of x. So walks from the node write at least as many words
-//! of l + 1 letters as there are words that consist of an image of such an x and a letter. No other words of l + 1
-//! letters can be written, so none of these words is missed. Hence a configuration that agrees with an image at l
-//! places can be followed to the right for ever, and with a left look-ahead to the left.
+//! A rule that closes on both sides is open. Let n be a right look-ahead and l = m - 2 + n. A walk writes the labels of
+//! its edges. Suppose that a walk from a node writes a word of l letters. Then for each letter b some walk from the
+//! node writes this word followed by b. The reason is a count. Take a word x of l + m - 1 letters that begins with the
+//! node, and a letter b. Put b into x right after the node. The image of the longer word has l + 1 letters. By the
+//! look-ahead it determines b and the image of x. So walks from the node write at least as many words of l + 1 letters
+//! as there are words that consist of an image of such an x and a letter. No other words of l + 1 letters can be
+//! written, so none of these words is missed. Hence a configuration that agrees with an image at l places can be
+//! followed to the right for ever, and with a left look-ahead to the left.
 //!
 //! Conversely, suppose that an open rule has a right split. From the node before the split, two walks write the same
 //! word. Each walk can be continued by anything, for example by a walk back to the node and then by the split again.
@@ -37,9 +40,12 @@
 //! periodic configuration is periodic. To see this, take the nodes of x at places that are one period of the image
 //! apart. Among k^(m - 1) + 1 of these nodes two are equal. Repeat the part of x between these two for ever, and you
 //! have a periodic preimage z. Suppose that x differs from z on the right. Take z to the left of a node and x to the
-//! right of it, and move the node by one period of z, by two, and so on. All these configurations have the same
-//! image, and all differ, so there are too many. Two equal nodes in a preimage of a ring that is repeated often
-//! enough give a ring, too: its image is the first ring, repeated a few times.
+//! right of it, and move the node by one period of z, by two, and so on. All these configurations have the same image,
+//! and all differ, so there are too many.
+//!
+//! Each ring, repeated often enough, is the image of a ring. Take a preimage of a long repetition. Two of its nodes
+//! that are whole repetitions apart are equal. The part between them is a ring, and its image is the first ring,
+//! repeated a few times.
 //!
 //! No law uses the law of the excluded middle. That a surjective rule maps onto all configurations can't be proved
 //! without a part of this law, and `surjective_is_onto` says which part.
@@ -72,8 +78,9 @@ pub fn injective_everywhere()
     ensures window { (r : LocalRule) (n c : ℕ) (x y : Config) (i : ℤ) → IsRule r → IsDetermined r n c → IsConfig r.states x → IsConfig r.states y → run (image_of r x) i n ≡ run (image_of r y) i n → x (i +ℤ r.offset +ℤ pos c) ≡ y (i +ℤ r.offset +ℤ pos c) }
 {}
 
-/// Law: a rule closes on a side if and only if no two different configurations that agree far out on the other side
-/// have the same image. The reason is a look-ahead on this side.
+/// Law: a rule closes on the right if and only if no two different configurations that agree far to the left have the
+/// same image. It closes on the left if and only if no two that agree far to the right have the same image. The reason
+/// is a look-ahead: m - 1 letters of a configuration and n letters of its image determine the next letter.
 pub fn closing_everywhere()
     ensures right { (r : LocalRule) → IsRule r → (IsRightClosing r ↔ IsRightClosingMap r) }
     ensures left { (r : LocalRule) → IsRule r → (IsLeftClosing r ↔ IsLeftClosingMap r) }
@@ -82,7 +89,7 @@ pub fn closing_everywhere()
 {}
 
 /// Law (the Garden of Eden theorem for all configurations): a rule is surjective if and only if no two different
-/// configurations that agree far out on both sides have the same image.
+/// configurations that agree far to the left and far to the right have the same image.
 pub fn surjective_is_preinjective_everywhere()
     ensures { (r : LocalRule) → IsRule r → (IsSurjective r ↔ IsPreinjectiveMap r) }
 {}
@@ -98,9 +105,11 @@ pub fn surjective_is_dense()
     ensures { (r : LocalRule) → IsRule r → (IsSurjective r ↔ IsDenseMap r) }
 {}
 
-/// Law: if `OneOfTwo` holds, a rule is surjective if and only if each configuration is an image. The reason is
-/// compactness. `OneOfTwo` is a form of the lesser limited principle of omniscience and follows from the law of the
-/// excluded middle. It is also necessary: it holds if every surjective rule maps onto all configurations.
+/// Law: if `OneOfTwo` holds, a rule is surjective if and only if each configuration is an image. `OneOfTwo` is a form
+/// of the lesser limited principle of omniscience. It speaks of two tests of natural numbers, each of which passes at n
+/// if it passes at n + 1. If at each number at least one test passes, then one of the tests passes at all numbers.
+/// `OneOfTwo` follows from the law of the excluded middle. It is also necessary: it holds if every surjective rule maps
+/// onto all configurations.
 pub fn surjective_is_onto()
     ensures exactly { OneOfTwo → (r : LocalRule) → IsRule r → (IsSurjective r ↔ IsOntoMap r) }
     ensures onto { (r : LocalRule) → IsRule r → IsOntoMap r → IsSurjective r }
@@ -115,7 +124,7 @@ pub fn surjective_is_onto_repeating()
 {}
 
 /// Law: a rule is surjective if and only if each ring, repeated l times for some l, is the image of a ring. For a
-/// surjective rule some l of at most k^(m - 1) is enough. A rule is surjective if and only if each periodic
+/// surjective rule some l from 1 to k^(m - 1) is enough. A rule is surjective if and only if each periodic
 /// configuration is the image of a periodic configuration (Hedlund 1969).
 pub fn surjective_on_rings()
     ensures exactly { (r : LocalRule) → IsRule r → (IsSurjective r ↔ IsOntoRings r) }
@@ -124,11 +133,10 @@ pub fn surjective_on_rings()
     ensures periodic { (r : LocalRule) → IsRule r → (IsSurjective r ↔ IsOntoPeriodic r) }
 {}
 
-/// Law: a rule is surjective if and only if each preimage of a periodic configuration is periodic. If the rule is
-/// surjective, the preimage has as a period l periods of the image, for some l of at most k^(m - 1). If the rule is
-/// injective, each period of the image is a period of the preimage (Hedlund 1969). Rule 90 reaches the bound
-/// k^(m - 1) = 4: the configuration of ones has period 1, and it is the image of 0 0 1 1 repeated for ever, which has
-/// period 4.
+/// Law: a rule is surjective if and only if each preimage of a periodic configuration is periodic (Hedlund 1969).
+/// Suppose that the image has period p. If the rule is surjective, the preimage has period l p for some l from 1 to
+/// k^(m - 1). If the rule is injective, the preimage has period p. Rule 90 reaches the bound k^(m - 1) = 4: the
+/// configuration of ones has period 1, and it is the image of 0 0 1 1 repeated for ever, which has period 4.
 pub fn periodic_preimages()
     ensures exactly { (r : LocalRule) → IsRule r → (IsSurjective r ↔ HasPeriodicPreimages r) }
     ensures period { (r : LocalRule) (x : Config) (p : ℕ) → IsRule r → IsSurjective r → IsConfig r.states x → HasPeriod p (image_of r x)
@@ -136,29 +144,29 @@ pub fn periodic_preimages()
     ensures injective { (r : LocalRule) (x : Config) (p : ℕ) → IsRule r → IsInjective r → IsConfig r.states x → HasPeriod p (image_of r x) → HasPeriod p x }
 {}
 
-/// Law: suppose that a rule closes on a side, and that a configuration agrees far out on the other side with the
-/// image of x. Then the configuration is the image of a configuration that agrees with x far out on the other side. A
-/// rule with this property is called continuing on the side.
+/// Law: if a rule is right-closing, it is right-continuing. This means: if a configuration agrees far to the left with
+/// the image of x, it is the image of a configuration that agrees far to the left with x. The same is true for the left
+/// side, with configurations that agree far to the right.
 pub fn closing_is_continuing()
     ensures right { (r : LocalRule) → IsRule r → IsRightClosing r → IsRightContinuingMap r }
     ensures left { (r : LocalRule) → IsRule r → IsLeftClosing r → IsLeftContinuingMap r }
 {}
 
-/// Law: a rule closes on both sides if and only if its map is open (Hedlund 1969). An open map is uniformly open: how
-/// near a configuration must be to the image of x, to be the image of a configuration near x, doesn't depend on x.
-/// Under an open map each configuration is an image.
+/// Law: a rule closes on both sides if and only if its map is open (Hedlund 1969). An open map is uniformly open: for
+/// every n there is an l, which doesn't depend on x. Every configuration that agrees with the image of x from -l to l
+/// is the image of a configuration that agrees with x from -n to n. Under an open map each configuration is an image.
 pub fn open_is_open_map()
     ensures exactly { (r : LocalRule) → IsRule r → (IsOpen r ↔ IsOpenMap r) }
     ensures evenly { (r : LocalRule) → IsRule r → (IsOpen r ↔ IsEvenlyOpenMap r) }
     ensures onto { (r : LocalRule) → IsRule r → IsOpen r → IsOntoMap r }
 {}
 
-/// Law: a rule keeps the sums of rings if and only if it has a flux (Hattori and Takesue 1991). Suppose that phi is a
-/// flux, and compare n consecutive cells of a configuration with the n cells of its image for the windows that begin
-/// at these cells. The weight of these cells of the image, minus the weight of the cells of the configuration, is the
-/// difference of the numbers that phi gives to the nodes at the two ends. So a rule keeps the sums of rings if and
-/// only if it keeps the sums of finite configurations. Another equivalent property: each change of finitely many
-/// letters changes the weight of the image by the same amount as the weight of the letters.
+/// Law: a rule keeps the sums of rings if and only if it has a flux (Hattori and Takesue 1991). A flux gives a number
+/// to each node. Take n consecutive cells of a configuration, and the n cells of its image for the windows that begin
+/// at these cells. The weight of the cells of the image minus the weight of the cells of the configuration is a
+/// difference: the number of the node at the first cell minus the number of the node after the last cell. Two more
+/// properties are equivalent to keeping the sums of rings. The rule keeps the sums of finite configurations. Each
+/// change of finitely many letters changes the weight of the image by the same amount as the weight of the letters.
 pub fn conserving_everywhere()
     ensures has_flux { (weight : ℕ → ℕ) (r : LocalRule) → IsRule r → (IsConserving weight r ↔ ((phi : List ℤ) × IsFlux weight r phi)) }
     ensures flux { (weight : ℕ → ℕ) (r : LocalRule) (phi : List ℤ) (x : Config) (i : ℤ) (n : ℕ) → IsRule r → IsFlux weight r phi → IsConfig r.states x → (pos (weight_on weight (image_of r x) i n) -ℤ pos (weight_on weight x (i +ℤ r.offset) n)) ≡ (flow_under r phi x i -ℤ flow_under r phi x (i +ℤ pos n)) }
@@ -166,8 +174,8 @@ pub fn conserving_everywhere()
     ensures changes { (weight : ℕ → ℕ) (r : LocalRule) → IsRule r → (IsConserving weight r ↔ KeepsChanges weight r) }
 {}
 
-/// Law: a determined window has an inverse map. The map after the rule takes each configuration to itself, and so
-/// does the rule after the map.
+/// Law: a determined window has an inverse map. If you apply the rule and then the map, or the map and then the rule,
+/// each configuration is mapped to itself.
 pub fn inverse_everywhere()
     ensures back { (r : LocalRule) (n c : ℕ) (g : WindowMap) (x : Config) → IsRule r → IsDetermined r n c → IsInverseMap r n c g → IsConfig r.states x → mapped g (image_of r x) ≡ x }
     ensures forth { (r : LocalRule) (n c : ℕ) (g : WindowMap) (x : Config) → IsRule r → IsDetermined r n c → IsInverseMap r n c g → IsConfig r.states x → image_of r (mapped g x) ≡ x }
@@ -183,8 +191,8 @@ pub fn injective_is_bijective()
 {}
 
 /// Law: a composition of two rules is surjective, injective, closing on a side or open if and only if both rules are.
-/// It conserves the sums that both rules conserve. Here a rule is called the composition of two rules if its image of
-/// each word is the second rule's image of the first rule's image, and if its width and its offset fit.
+/// It conserves the sums that both rules conserve. A rule is called a composition of two rules if its image of each
+/// word is the second rule's image of the first rule's image. Its width and its offset must fit, too.
 pub fn composed_everywhere()
     ensures surjective { (r s t : LocalRule) → IsRule r → IsRule s → IsRule t → IsOneAfter r s t → (IsSurjective t ↔ (IsSurjective r × IsSurjective s)) }
     ensures injective { (r s t : LocalRule) → IsRule r → IsRule s → IsRule t → IsOneAfter r s t → (IsInjective t ↔ (IsInjective r × IsInjective s)) }

@@ -1,4 +1,7 @@
 //! The de Bruijn graph of a rule, stored in tables.
+//!
+//! A node is a word of m - 1 letters, and an edge is a window of m letters. Its label is the letter that the rule gives
+//! for the window. Bit u of a set of nodes says whether node u is in the set.
 
 ghost use Rattle.std.specs.Prelude.{◌≡◌, ◌<◌, ℕ, List, [], ◌∷◌, ◌++◌, IsBitSet};
 ghost use Rattle.word_image.specs.LocalRules.{IsRule, node_count};
@@ -6,7 +9,8 @@ ghost use Rattle.word_image.specs.LocalRules.{IsRule, node_count};
 use std::marker::Model;
 use word_image::{EdgeRows, MOST_NODES, Rule, Side, edge_rows, step, union_of_rows};
 
-/// The de Bruijn graph of a rule. In contracts it is the rule. Steps are looked up in tables that `of` fills once.
+/// The de Bruijn graph of a rule. Contracts treat a value of this type as the rule. `of` fills tables once, and every
+/// later step is looked up in them.
 #[derive(Clone, Copy, Debug)]
 pub struct Graph {
     // The rule of the graph. Its table has the labels of all edges: the label of the edge that leads from node u on
@@ -71,7 +75,7 @@ impl Graph {
         self.rule.nodes()
     }
 
-    /// Returns the node at the end of the edge that leads from node `u` along the letter `a`.
+    /// Returns the node to which the letter `a` leads from node `u`: the last m - 1 letters of `u` followed by `a`.
     pub fn next(&self, u: u8, a: u8) -> u8
         requires node { u < node_count self.now }
         requires letter { a < self.now.states }
@@ -81,8 +85,8 @@ impl Graph {
         Side::Right.end_node(&self.rule, Side::Right.window_with(&self.rule, u, a))
     }
 
-    /// Returns the label of the edge that leads from node `u` along the letter `a`: the letter that the rule gives
-    /// for the window of `u` followed by `a`.
+    /// Returns the label of the edge that leaves node `u` on the letter `a`: the letter that the rule gives for the
+    /// window of `u` followed by `a`.
     pub fn label(&self, u: u8, a: u8) -> u8
         requires node { u < node_count self.now }
         requires letter { a < self.now.states }
@@ -92,7 +96,8 @@ impl Graph {
         self.rule.at(Side::Right.window_with(&self.rule, u, a))
     }
 
-    /// Returns, for each label and node, the set of nodes to which the edges with that label lead from the node.
+    /// Returns the sets of nodes to which edges lead: for each label and each node, the ends of the edges with this
+    /// label that leave this node.
     pub fn edges(&self) -> &EdgeRows
         ensures edges { AreEdgeRows Side.Right self.now result.now }
         ensures rule { IsRule self.now }
@@ -117,9 +122,9 @@ impl Graph {
         self.rule.all_nodes()
     }
 
-    /// Returns the nodes to which edges with the label `a` lead from the nodes of `set`. Suppose that `set` has the
-    /// last nodes of all preimages of a word. Then the result has the last nodes of all preimages of the word
-    /// followed by `a`.
+    /// Returns the nodes to which edges with the label `a` lead from the nodes of `set`. If `set` has the last nodes of
+    /// all preimages of a word, the result has the last nodes of all preimages of the word followed by `a`. The last
+    /// node of a word consists of its last m - 1 letters.
     pub fn step(&self, set: u16, a: u8) -> u16
         requires { a < self.now.states }
         ensures step { IsStep self.now set a result }

@@ -9,20 +9,21 @@
 //! Rule 0 gives 0 everywhere, so 00000 and 00100 can replace each other. The rule that gives 1 only for the window 11
 //! has the erasable pair 000 and 010. Rule 90, the sum of the two neighbours modulo 2, has none.
 //!
-//! Two words with the same image spell a walk of pairs of nodes in the de Bruijn graph. The marked graph has each
-//! pair of nodes twice, without a mark and with it, and a step on two different letters sets the mark. The pairs of
-//! letters of an erasable pair spell a node with itself and then a walk in the marked graph. The walk leads from the
-//! pair of this node with itself, without the mark, to the pair of some node with itself, with the mark. So the least
-//! erasable pair is the least of these walks over all nodes, each after the letters of its first node.
+//! Two words with the same image spell a walk of pairs of nodes in the de Bruijn graph. The marked graph has each pair
+//! of nodes twice, without a mark and with it, and a step on two different letters sets the mark. An erasable pair
+//! begins with the letters of a node, in both words. The other letters spell a walk in the marked graph. It leads from
+//! the pair of this node with itself, without the mark, to the pair of some node with itself, with the mark. So the
+//! least erasable pair is the least of these walks over all nodes, each after the letters of its first node.
 //!
-//! A first pair on the right consists of two different nodes that two different letters reach from the same node,
-//! along edges with equal labels. A pair of nodes is reached if steps of `follow` (crate pair_graph) lead to it from
-//! a first pair on the right. A pair list is a list of pairs of two different nodes that has all first pairs on the
-//! right, and each pair to which a step leads from a pair of the list. A rule is surjective if and only if no reached
-//! pair has two equal nodes. Then the list of the reached pairs is a pair list, which proves that the rule is
-//! surjective. Under the rule that gives 1 only for the window 11, the letters 0 and 1 lead from node 0 to the first
-//! pair of the nodes 0 and 1. From both of these nodes the letter 0 leads to node 0, each time with the label 0: the
-//! rule isn't surjective.
+//! A first pair on the right consists of two different nodes that two different letters reach from the same node, along
+//! edges with equal labels. A pair of nodes is reached if steps of `follow` (crate pair_graph) lead to it from a first
+//! pair on the right. A pair list is a list of pairs of two different nodes. It has all first pairs on the right, and
+//! each pair to which a step leads from a pair of the list.
+//!
+//! A rule is surjective if and only if no reached pair has two equal nodes. Then the list of the reached pairs is a
+//! pair list, which proves that the rule is surjective. Under the rule that gives 1 only for the window 11, the letters
+//! 0 and 1 lead from node 0 to the first pair of the nodes 0 and 1. From both of these nodes the letter 0 leads to node
+//! 0, each time with the label 0: the rule isn't surjective.
 //!
 //! [`is_surjective`] stores the reached pairs as one set of nodes for each node. The steps from all pairs of a node u
 //! on a letter a form one step of a set, on the label that a has at u. The test ends at the first pair of two equal
@@ -34,7 +35,7 @@
 //! windows, but six words of four letters have the image 0 0, and there are four nodes.
 //!
 //! If there are N = k^(m - 1) nodes, [`erasable`] takes time **O(N^3·k)** in operations on rows and O(N^2) memory: N
-//! searches in a graph of 2·N^2 states, of which later ones end early. For a surjective rule it searches nothing.
+//! searches in a graph of 2·N^2 states. Later searches end early. For a surjective rule it searches nothing.
 //! [`reached`] takes time **O(N^2·k^2)** and memory for N^2 pairs. [`is_surjective`] takes time **O(N^3·k)** at most,
 //! and no memory. The tests of a table take time **O(N·k^2)** at most.
 #![tactic(auto)]

@@ -1,4 +1,8 @@
 //! The test whether a rule is surjective by its reached pairs, which are stored as one set of nodes for each node.
+//!
+//! A first pair on the right consists of two different nodes that two different letters reach from the same node, along
+//! edges with equal labels. A step from a pair follows two edges with equal labels, one from each node. A pair is
+//! reached if steps lead to it from a first pair.
 ghost use Rattle.std.specs.Prelude.{◌≡◌, ◌≢◌, ◌^◌, ◌<◌, ◌≤◌, ◌↔◌, ℕ, IsTrue, IsFalse, MatchOption, slice_index};
 ghost use Rattle.word_image.specs.LocalRules.{node_count, most_nodes};
 ghost use Rattle.word_image.specs.Graphs.{next, HasBit};
@@ -9,8 +13,8 @@ ghost use Rattle.eden_law.specs.ReachedRows.{LeadsApart, LeadsBeside, AreNodeRow
 use debruijn::Graph;
 use word_image::MOST_NODES;
 
-/// A set of pairs of nodes as rows: row u is the set of the nodes v for which the pair (u, v) is in the set of pairs.
-/// Bit v of a row stands for node v.
+/// The rows of a set of pairs of nodes: row u is the set of the nodes v for which the pair (u, v) is in the set of
+/// pairs. Bit v of a row stands for node v.
 type Rows = [u16; MOST_NODES];
 
 /// Returns whether the rule of this graph is surjective: whether no reached pair has two equal nodes. A rule that
@@ -32,7 +36,8 @@ pub fn is_surjective(graph: &Graph) -> bool
     true
 }
 
-/// Adds to `found` the first pairs on the right to which two letters lead from this node.
+/// Adds to `found` the first pairs that begin at this node: the pairs to which two different letters lead from it,
+/// along edges with equal labels.
 fn add_firsts(graph: &Graph, node: u8, found: &mut Rows)
     requires node { node < node_count graph.now }
     requires rows { AreNodeRows graph.now found.old }
@@ -45,8 +50,8 @@ fn add_firsts(graph: &Graph, node: u8, found: &mut Rows)
     }
 }
 
-/// Follows the steps from the pairs in `found` and adds the pairs that they reach. Stops when all steps have been
-/// followed, or when one leads to a pair of two equal nodes. Returns true if no step leads to such a pair.
+/// Follows the steps from the pairs in `found`, and adds the pairs that they reach, until all steps have been followed.
+/// Then returns true. Stops and returns false if a step leads to a pair of two equal nodes.
 fn follow_all(graph: &Graph, found: &mut Rows, followed: &mut Rows) -> bool
     requires { IsRowSearch graph.now found.old followed.old }
     ensures search { IsTrue result → IsRowSearch graph.now found.new followed.new }
@@ -64,7 +69,7 @@ fn follow_all(graph: &Graph, found: &mut Rows, followed: &mut Rows) -> bool
     true
 }
 
-/// Returns the first node u for which a pair (u, v) has been found whose steps haven't been followed yet, or None if
+/// Returns the first node u that has a pair (u, v) in `found` whose steps haven't been followed yet. Returns None if
 /// there is no such node.
 fn open_row(nodes: u8, found: &Rows, followed: &Rows) -> Option<u8>
     requires { nodes ≤ most_nodes }
@@ -78,8 +83,8 @@ fn open_row(nodes: u8, found: &Rows, followed: &Rows) -> Option<u8>
     None
 }
 
-/// Adds the pairs to which steps lead from the pairs of `node` with the nodes of `set`. Stops and returns false if
-/// one of the added pairs has two equal nodes. Otherwise returns true.
+/// Follows the steps from the pairs of `node` with each node of `set`, and adds the pairs to which they lead. Stops and
+/// returns false if one of these pairs has two equal nodes. Otherwise returns true.
 fn add_steps(graph: &Graph, node: u8, set: u16, found: &mut Rows) -> bool
     requires node { node < node_count graph.now }
     requires set { set < 2 ^ node_count graph.now }

@@ -1,4 +1,5 @@
-//! The test whether as many words have the image 0 0 as there are nodes, as under every surjective rule.
+//! The test whether as many words have the image 0 0 as there are nodes, which are the words of m - 1 letters. This is
+//! true for every surjective rule.
 ghost use Rattle.std.specs.Prelude.{◌≡◌, ◌==◌, ℕ, ◌+◌, ◌*◌, ◌<◌, ◌≤◌, ◌↔◌, length, slice_index, IsTrue};
 ghost use Rattle.word_image.specs.LocalRules.{LocalRule, IsRule, most_nodes, most_states, most_windows};
 ghost use Rattle.word_image.specs.Words.{IsSurjective};
@@ -39,7 +40,7 @@ fn zero_edges(k: u8, nodes: u8, table: &[u8]) -> [u8; MOST_NODES]
     edges
 }
 
-/// Returns how many of the k letters of the table from the place `first` on are 0.
+/// Returns how many of k letters of the table are 0: the letters that begin at the place `first`.
 fn zeros_from(k: u8, table: &[u8], first: usize) -> u8
     requires states { k ≤ most_states }
     requires within { first + k ≤ length table.now }

@@ -1,5 +1,8 @@
-//! The gains of windows along the walks to node 0, and the test whether they form a flux. The gain of a window is the
-//! weight of the letter that the rule gives for the window, minus the weight of the window's first letter.
+//! The gains of windows along the walks to node 0, and the test whether they form a flux.
+//!
+//! A node is a word of m - 1 letters. The gain of a window is the weight of the letter that the rule gives for the
+//! window, minus the weight of the window's first letter. A flux has a number for each node. The gain of each window is
+//! the number of its first m - 1 letters minus the number of its last m - 1 letters.
 ghost use Rattle.std.specs.Prelude.{◌≡◌, ◌-◌, ◌^◌, ◌<◌, ◌↔◌, ◌≤ℤ◌, length, slice_index, IsTrue, pos, negsuc, ◌++◌, replicate};
 ghost use Rattle.word_image.specs.LocalRules.{node_count, most_nodes};
 ghost use Rattle.word_image.specs.Rings.{IsFlux};
@@ -8,8 +11,8 @@ ghost use Rattle.ring_laws.proofs.FluxWindows.{window_gain, FlowsAt};
 
 use word_image::{MOST_NODES, Rule, Side, Weights};
 
-/// Returns for each node the sum of the gains along the walk from the node that reads m - 1 letters 0. The numbers of
-/// the nodes are followed by zeros.
+/// Returns a number for each node: the sum of the gains along the walk from the node that reads m - 1 letters 0. Zeros
+/// follow the numbers of the nodes.
 pub(crate) fn walk_flows(rule: &Rule, weights: &Weights) -> [i32; MOST_NODES]
     requires { length weights.now ≡ rule.now.states }
     ensures { result ≡ walk_gains (slice_index weights.now) rule.now ++ replicate (most_nodes - node_count rule.now) (pos 0) }
@@ -64,8 +67,8 @@ pub(crate) fn is_flux(rule: &Rule, weights: &Weights, numbers: &[i32]) -> bool
     true
 }
 
-/// Returns whether the gain of a window is the number of its first node minus the number of its last node. These are
-/// the nodes of its first and of its last m - 1 letters.
+/// Returns whether the gain of a window is the number of its first m - 1 letters minus the number of its last m - 1
+/// letters. `numbers` has a number for each word of m - 1 letters.
 fn flows(rule: &Rule, weights: &Weights, numbers: &[i32], window: u16) -> bool
     requires letters { length weights.now ≡ rule.now.states }
     requires nodes { length numbers.now ≡ node_count rule.now }
@@ -77,8 +80,9 @@ fn flows(rule: &Rule, weights: &Weights, numbers: &[i32], window: u16) -> bool
     i64::from(window_flow(rule, weights, window)) == i64::from(first) - i64::from(last)
 }
 
-/// Returns whether the gain of a window is the gain of the walk from its first node minus the gain of the walk from
-/// its last node. Both walks read m - 1 letters 0.
+/// Returns whether the gain of a window is the gain of the walk from its first node minus the gain of the walk from its
+/// last node. The first node has the first m - 1 letters of the window, and the last node its last m - 1 letters. Both
+/// walks read m - 1 letters 0.
 pub(crate) fn walks_flow(rule: &Rule, weights: &Weights, window: u16) -> bool
     requires letters { length weights.now ≡ rule.now.states }
     requires window { window < rule.now.states ^ rule.now.width }

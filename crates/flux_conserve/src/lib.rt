@@ -12,9 +12,9 @@
 //! letters 0. So a rule is conserving if and only if these numbers are a flux, and they are the only flux with
 //! phi(0) = 0.
 //!
-//! Under rule 184 each 1 moves to the right if there is a 0. If each letter weighs its own value, its flux is 0 0 0
-//! -1. For the window 1 1 0 it gives 0, one less than the first letter, and phi(11) - phi(10) is -1. For the window
-//! 0 1 1 it gives 1, one more than the first letter, and phi(01) - phi(11) is 1. If 0 weighs 1 and 1 weighs 4, the
+//! Under rule 184 each 1 moves to the right if there is a 0. If each letter weighs its own value, the flux is 0 0 0 -1.
+//! For the window 1 1 0 the rule gives 0, one less than the first letter, and phi(11) - phi(10) is -1. For the window 0
+//! 1 1 the rule gives 1, one more than the first letter, and phi(01) - phi(11) is 1. If 0 weighs 1 and 1 weighs 4, the
 //! flux is 0 0 0 -3. Rule 232 gives the majority of three cells. The ring 0 0 1 becomes 0 0 0, and all lesser rings
 //! keep their weights.
 //!

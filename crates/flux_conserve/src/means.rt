@@ -1,5 +1,5 @@
 //! Properties of the table of every conserving rule: the mean of its letters, and the letters for the first and the
-//! last window.
+//! last window. A rule is conserving if every ring has the same sum as its image.
 ghost use Rattle.std.specs.Prelude.{◌≡◌, ◌+◌, ◌-◌, ◌*◌, ◌<◌, ◌≤◌, ◌↔◌, length, slice_index, sum, IsTrue};
 ghost use Rattle.word_image.specs.LocalRules.{LocalRule, IsRule, most_windows};
 ghost use Rattle.word_image.specs.Rings.{IsConserving};

@@ -1,4 +1,5 @@
-//! Finds the least ring that doesn't keep its sum.
+//! Finds the least ring that doesn't keep its sum. A ring is a word that is read in a circle. It keeps its sum if the
+//! letters of its image have the same sum of weights as its own letters.
 ghost use Rattle.std.specs.Prelude.{◌≡◌, ℕ, ◌+◌, ◌-◌, ◌*◌, ◌^◌, ◌<◌, ◌≤◌, length, slice_index, IfSome, IfNone};
 ghost use Rattle.word_image.specs.LocalRules.{IsRule, IsWord, value};
 ghost use Rattle.word_image.specs.Rings.{IsConserving, IsLeastLossyRing};
@@ -10,7 +11,7 @@ use word_image::{Rule, Weights, keeps_sum};
 /// The greatest possible length of the least ring that doesn't keep its sum: 2m - 1 letters at width 5.
 pub const LONGEST_RING: usize = 9;
 
-/// A ring of 1 to 9 letters. In contracts it is the list of its letters.
+/// A ring of 1 to 9 letters. Contracts treat it as the list of its letters.
 #[derive(Debug, Drop)]
 pub struct SmallRing {
     // The number of letters of the ring.
@@ -40,8 +41,8 @@ impl SmallRing {
     }
 }
 
-/// Returns the least ring, in the order of words, that doesn't keep its sum. It may be called only for a rule that
-/// isn't conserving. The ring has at most 2m - 1 letters.
+/// Returns the least ring, in the order of words, that doesn't keep its sum. There must be such a ring: the rule isn't
+/// conserving. The least ring has at most 2m - 1 letters.
 pub(crate) fn first_lossy_ring(rule: &Rule, weights: &Weights) -> SmallRing
     requires letters { length weights.now ≡ rule.now.states }
     requires lossy { ¬ IsConserving (slice_index weights.now) rule.now }

@@ -1,4 +1,5 @@
-//! Decides whether a rule is conserving, with evidence.
+//! Decides whether a rule is conserving, with evidence. A rule is conserving if every ring has the same sum of weights
+//! as its image. A flux proves it: a number for each node, which is a word of m - 1 letters.
 ghost use Rattle.std.specs.Prelude.{◌≡◌, ◌↔◌, length, slice_index, IsTrue};
 ghost use Rattle.word_image.specs.Rings.{IsConserving};
 ghost use Rattle.flux_conserve.specs.Keepings.{IsShown, IsShort, has_flux};
@@ -17,9 +18,8 @@ pub enum Keeping {
     Ring(SmallRing),
 }
 
-/// Returns the flux that is 0 at node 0 if the rule is conserving under these weights of its letters: if every ring
-/// has the same sum as its image. Otherwise returns the least ring whose image has another sum. It has at most 2m - 1
-/// letters.
+/// Returns the flux that is 0 at node 0 if the rule is conserving under these weights of its letters. Otherwise returns
+/// the least ring whose image has another sum. This ring has at most 2m - 1 letters.
 pub fn conserve(rule: &Rule, weights: &Weights) -> Keeping
     requires { length weights.now ≡ rule.now.states }
     ensures conserving { IsTrue (has_flux result) ↔ IsConserving (slice_index weights.now) rule.now }

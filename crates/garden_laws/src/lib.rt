@@ -8,17 +8,17 @@
 //! So some word has no preimage, for example 101. The sum of two cells modulo 2 has no erasable pair, since the first
 //! letter of a word and its image determine all other letters.
 //!
-//! Both directions are proved by counting. Let N = k^(m - 1), q = k^l - 1 and j = q N. Then q^j N is less than k^(j
-//! l): among the words of j blocks of l letters, few avoid a given block. If an orphan, which is a word without a
-//! preimage, has l letters, no image of j blocks contains it. So two words with the same ends have the same image. If
-//! an erasable pair has l letters, the words that avoid one of its two words already give all images. So some word
-//! has no preimage.
+//! Both directions of the theorem are proved by counting words that consist of j blocks of l letters. Let
+//! N = k^(m - 1), q = k^l - 1 and j = q N. Only q^j of these words avoid a given block, and q^j N is less than k^(j l).
+//! First suppose that an orphan, which is a word without a preimage, has l letters. Every image avoids the orphan, so
+//! there are few images. Hence two words with the same ends have the same image. Now suppose that the words of an
+//! erasable pair have l letters. The words that avoid one of these two words already give all images, so there are few
+//! images. Hence some word has no preimage.
 //!
-//! An erasable pair is also a walk of pairs of nodes of the de Bruijn graph. A first pair on the right consists of
-//! two nodes that two different letters reach from the same node, along edges with equal labels. A pair of nodes is
-//! reached if walks with equal labels lead to it from a first pair on the right. A pair list is a list of pairs of
-//! two different nodes that has all first pairs on the right and each pair to which a step leads from a pair of the
-//! list.
+//! An erasable pair is also a walk of pairs of nodes of the de Bruijn graph. A first pair on the right consists of two
+//! nodes that two different letters reach from the same node, along edges with equal labels. A pair of nodes is reached
+//! if walks with equal labels lead to it from a first pair on the right. A pair list is a list of pairs of two
+//! different nodes. It has all first pairs on the right, and each pair to which a step leads from a pair of the list.
 //!
 //! The functions of this crate do nothing. The contract of each function states a law. The lemmas only use
 //! definitions. Both the deciders and the checker of certificates use them.
@@ -39,7 +39,8 @@ ghost use Rattle.garden_laws.specs.Preimages.{IsBalanced};
 
 pub use tables::{conserving_has_mean, even_has_mean, surjective_is_even};
 
-/// Law (the Garden of Eden theorem): a rule is surjective if and only if it has no erasable pair.
+/// Law (the Garden of Eden theorem): a rule is surjective if and only if it has no erasable pair. An erasable pair
+/// consists of two different words of the same length with the same image and the same ends of m - 1 letters.
 pub fn surjective_erases_nothing()
     ensures { (r : LocalRule) → IsRule r → (IsSurjective r ↔ ((x y : List ℕ) → ¬ IsErasable r x y)) }
 {}
@@ -50,7 +51,7 @@ pub fn surjective_is_preinjective()
     ensures { (r : LocalRule) → IsRule r → (IsSurjective r ↔ IsPreinjective r) }
 {}
 
-/// Law: an injective rule is surjective (Amoroso and Patt 1972), and so is a rule that closes on a side.
+/// Law: an injective rule is surjective (Amoroso and Patt 1972). A rule that closes on a side is surjective, too.
 pub fn injective_or_closing_is_surjective()
     ensures injective { (r : LocalRule) → IsRule r → IsInjective r → IsSurjective r }
     ensures right { (r : LocalRule) → IsRule r → IsRightClosing r → IsSurjective r }
@@ -63,7 +64,7 @@ pub fn surjective_is_balanced()
 {}
 
 /// Law: a rule is surjective if and only if no reached pair of nodes has two equal nodes. A rule that has a pair list
-/// is surjective.
+/// is surjective. The head of this file defines both terms.
 pub fn surjective_reaches_no_equal_nodes()
     ensures reached { (r : LocalRule) → IsRule r → (IsSurjective r ↔ ((p : ℕ) → IsReached r p → first_of r p ≢ second_of r p)) }
     ensures list { (r : LocalRule) (pairs : List ℕ) → IsRule r → IsPairList r pairs → IsSurjective r }

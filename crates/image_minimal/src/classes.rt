@@ -1,5 +1,10 @@
-//! The type `Minimal`: the least automaton of a rule. A breadth-first search finds its classes. The words of a class
-//! have sets of last nodes with the same closure, so this closure stands for the class.
+//! The type `Minimal`: the least automaton of a rule.
+//!
+//! Two words are in the same class if, followed by any word, both are orphans or neither is. A node is a word of m - 1
+//! letters, and the last nodes of a word are the last m - 1 letters of its preimages. A word is read from a node if the
+//! labels of some walk from the node spell the word. The closure of a set of nodes is the greatest set that contains it
+//! and from which the same words are read. The words of a class have sets of last nodes with the same closure, so this
+//! closure stands for the class.
 
 ghost use Rattle.std.specs.Prelude.{◌≡◌, ◌+◌, ◌*◌, ◌<◌, ◌≤◌, ℕ, length, slice_get, slice_index, Some, IfOk};
 ghost use Rattle.word_image.specs.LocalRules.{LocalRule, IsRule, most_sets};
@@ -14,9 +19,9 @@ use std::alloc::{AllocError, Global};
 use std::marker::Model;
 use word_image::Rule;
 
-/// The least automaton of a rule. It has the classes of equivalent words, which are numbered in the order of their
-/// least words, and the class that follows each class on each letter. In contracts it is the rule, which has exactly
-/// one least automaton.
+/// The least automaton of a rule: the classes of equivalent words, and the class that follows each class on each
+/// letter. The classes are numbered in the order of their least words. Contracts treat the automaton as the rule, since
+/// a rule has exactly one least automaton.
 #[derive(Debug, Drop)]
 pub struct Minimal {
     // The steps between the sets of nodes of the rule.
@@ -59,7 +64,7 @@ pub fn one_least_automaton()
 {}
 
 impl Minimal {
-    /// Returns the number of classes, from 1 to 65,536. The contract also says that the rule has a least automaton.
+    /// Returns the number of classes, from 1 to 65,536. The contract also states that the rule has a least automaton.
     pub fn len(&self) -> u32
         ensures automaton { (a : Automaton) × IsLeastAutomaton self.now a }
         ensures len { (a : Automaton) → IsLeastAutomaton self.now a → result ≡ a.classes }
@@ -69,8 +74,8 @@ impl Minimal {
         self.classes.len()
     }
 
-    /// Returns the class that follows each class on each letter, first for class 0 and all letters, then for class 1,
-    /// and so on. These are `len` times `k` numbers.
+    /// Returns the class that follows each class on each letter. The list begins with the classes that follow class 0,
+    /// one for each letter. Then come the classes that follow class 1, and so on. The list has `len` times `k` numbers.
     pub fn rows(&self, alloc: Global) -> Result<Vec<u16>, AllocError>
         ensures { IfOk result (λ rows. (a : Automaton) → IsLeastAutomaton self.now a → rows.items ≡ a.next) }
     {
@@ -89,8 +94,8 @@ impl Minimal {
         Ok(rows)
     }
 
-    /// Returns the class that follows class `i` on the letter `a`: the class of a word of class `i` with this letter
-    /// appended.
+    /// Returns the class that follows class `i` on the letter `a`: if a word is in class `i`, the word followed by `a`
+    /// is in the result.
     pub fn next(&self, i: u32, a: u8) -> u32
         requires class { (m : Automaton) → IsLeastAutomaton self.now m → i < m.classes }
         requires letter { a < self.now.states }
@@ -122,7 +127,7 @@ impl Minimal {
     }
 }
 
-/// Returns the number of the class whose closure is the closure of this set.
+/// Returns the number of the class for a set of last nodes. This is the class whose closure is the closure of the set.
 fn class_of(closures: &[u16], classes: &Listed, set: u16) -> u16
     requires set { set < length closures.now }
     requires class { (j : ℕ) × (slice_get classes.now j ≡ Some (slice_index closures.now set)) }
@@ -132,7 +137,8 @@ fn class_of(closures: &[u16], classes: &Listed, set: u16) -> u16
     class.unwrap()
 }
 
-/// Finds the closures of all classes breadth first, starting with the closure of the set of all nodes.
+/// Returns the closures that stand for the classes, in the order of the classes. Finds them breadth first, starting
+/// with the set of all nodes.
 fn search(alloc: Global, subsets: &Subsets, closures: &[u16]) -> Result<Listed, AllocError>
     requires { AreClosures subsets.now closures.now }
     ensures { IfOk result (HasClasses subsets.now closures.now) }

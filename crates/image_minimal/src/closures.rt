@@ -1,4 +1,8 @@
 //! Functions that compute the unread sets, and the closure of each set of nodes.
+//!
+//! A word is read from a node if the labels of some walk from the node spell the word. An unread set consists of all
+//! nodes from which some word isn't read. The closure of a set of nodes is the intersection of all unread sets that
+//! contain it.
 
 ghost use Rattle.std.specs.Prelude.{◌+◌, ◌^◌, ◌<◌, IfOk};
 ghost use Rattle.word_image.specs.LocalRules.{node_count};
@@ -27,8 +31,8 @@ pub fn closures(alloc: Global, graph: &Graph) -> Result<Vec<u16>, AllocError>
     Ok(closures)
 }
 
-/// Returns the closure of a set that isn't unread. `closures` has the closures of all sets with greater numbers, so
-/// it has the closures of the sets with one node more.
+/// Returns the closure of a set that isn't unread. It is the intersection of the closures of the sets with one node
+/// more. `closures` has the closures of these sets, since it has those of all sets with greater numbers.
 fn closure_above(graph: &Graph, closures: &[u16], set: u16) -> u16
     requires set { set < 2 ^ node_count graph.now }
     requires closures { AreClosuresFrom graph.now (set + 1) closures.now }
@@ -61,7 +65,8 @@ fn unread_sets(alloc: Global, graph: &Graph) -> Result<Listed, AllocError>
     Ok(sets)
 }
 
-/// Returns the nodes from which all edges with the label `a` lead into the set.
+/// Returns the set of the nodes whose edges with the label `a` all end in the given set. A node without such edges is
+/// in the result, too.
 fn back(graph: &Graph, set: u16, a: u8) -> u16
     requires { a < graph.now.states }
     ensures { IsBack graph.now set a result }

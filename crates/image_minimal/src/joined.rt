@@ -1,5 +1,4 @@
-//! The type `Joined`: numbers in disjoint classes, of which two at a time are joined (union-find, Galler and Fischer
-//! 1964).
+//! The type `Joined`: numbers in disjoint classes, and the join of two classes (union-find, Galler and Fischer 1964).
 
 ghost use Rattle.std.specs.Prelude.{◌≡◌, ◌<◌, length, slice_index, IfOk};
 ghost use Rattle.std.specs.List.{range_with_len};
@@ -8,8 +7,8 @@ ghost use Rattle.image_minimal.specs.Joins.{IsFalling, IsOnWay, IsJoin};
 use std::alloc::{AllocError, Global};
 use std::marker::Model;
 
-/// Numbers in disjoint classes. In contracts it is the list of the parents of the numbers. The parent of a number is
-/// a lesser number of its class, or the number itself if it is the root of its class.
+/// Numbers in disjoint classes. The parent of a number is a lesser number of its class, or the number itself if it is
+/// the root of its class. Contracts treat a value of this type as the list of the parents of the numbers.
 #[derive(Debug, Drop)]
 pub struct Joined {
     parents: Vec<u32>,
@@ -54,7 +53,8 @@ impl Joined {
     }
 }
 
-/// Returns the root of the class of a number, and halves the path from the number to the root.
+/// Returns the root of the class of a number. On the way to the root, gives every second number its parent's parent as
+/// parent, so that later calls are faster.
 fn root(parents: &mut Vec<u32>, number: u32) -> u32
     requires number { number < length parents.old.items }
     requires falling { IsFalling parents.old.items }

@@ -2,12 +2,14 @@
 //! preimage under only one of two rules.
 //!
 //! An *orphan* is a word without a preimage. Two words are *equivalent* if, followed by any word, both are orphans or
-//! neither is. The *last nodes* of a word w are the last m - 1 letters of its preimages. A word z is *read* from a
-//! node if the labels of some walk from the node spell z. So w followed by z is an orphan if and only if z is read
-//! from none of the last nodes of w. For each word z, the set of the nodes from which z isn't read is called an
-//! *unread* set. The *closure* of a set is the intersection of all unread sets that contain it: the greatest set from
-//! which no other words are read. Two words are equivalent if and only if their sets of last nodes have the same
-//! closure.
+//! neither is. The classes of equivalent words are the states of the least automaton.
+//!
+//! A node is a word of m - 1 letters, and the *last nodes* of a word w are the last m - 1 letters of its preimages. A
+//! word z is *read* from a node if the labels of some walk from the node spell z. So w followed by z is an orphan if
+//! and only if z is read from none of the last nodes of w. For each word z, the set of the nodes from which z isn't
+//! read is called an *unread* set. The *closure* of a set is the intersection of all unread sets that contain it: the
+//! greatest set from which no other words are read. Two words are equivalent if and only if their sets of last nodes
+//! have the same closure.
 //!
 //! Steps backward from the empty set reach all unread sets. Then the closures are computed from the set of all nodes
 //! down to the empty set. An unread set is its own closure. The closure of any other set is the intersection of the
@@ -17,9 +19,9 @@
 //!
 //! Two rules are compared by links (Hopcroft and Karp 1971). A *link* is a pair of sets that the same word reaches
 //! under the two rules. The links are found breadth first. A pair of sets isn't made a link if earlier links already
-//! join its two sets. Each of these earlier links has a lesser word. If a word distinguishes the two sets of the
-//! pair, it also distinguishes the two sets of such a link. So the least word that is an orphan of exactly one rule
-//! leads to the first link with exactly one empty set.
+//! join its two sets. These earlier links have lesser words. If a word distinguishes the two sets of the pair, it also
+//! distinguishes the two sets of one of these links. So the least word that is an orphan of exactly one rule leads to
+//! the first link with exactly one empty set.
 //!
 //! Under the rule that gives 1 only for the window 11, the orphans are the words that contain 101. The word 01 isn't
 //! read from node 1, so the set 2, which contains only this node, is unread. The sets 0, 1 and 3 are unread, too, and

@@ -1,4 +1,5 @@
-//! The type `Link`: a pair of sets that the same word reaches under two rules.
+//! The type `Link`: a pair of sets that the same word reaches under two rules. A word reaches the set of its last
+//! nodes, which are the last m - 1 letters of its preimages.
 
 /// A set of nodes of the first rule and a set of nodes of the second rule, which the same word reaches.
 #[derive(Clone, Copy, Debug)]

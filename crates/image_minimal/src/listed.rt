@@ -8,7 +8,7 @@ ghost use Rattle.image_minimal.specs.Indexes.{IsInserted, IsPlaceOf};
 use std::alloc::{AllocError, Global};
 use std::marker::Model;
 
-/// A list of different sets of nodes. In contracts it is the list of their numbers.
+/// A list of different sets of nodes. Contracts treat it as the list of the sets' numbers.
 #[derive(Debug, Drop)]
 pub struct Listed {
     // The sets in their order.

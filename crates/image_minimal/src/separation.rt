@@ -1,4 +1,5 @@
-//! The function `separate`, which finds the least word that is an orphan of exactly one of two rules.
+//! The function `separate`, which finds the least word that is an orphan of exactly one of two rules. An orphan is a
+//! word without a preimage.
 
 ghost use Rattle.std.specs.Prelude.{◌≡◌, ◌≢◌, ◌↔◌, ◌∷◌, [], ◌++◌, ◌<◌, List, ℕ, length, slice_get, Some, IfOk, IsErrOf, MatchOption};
 ghost use Rattle.image_minimal.specs.ImageLanguages.{HaveSameOrphans, Separates};
@@ -30,9 +31,10 @@ impl From<AllocError> for SepFault {
     }
 }
 
-/// Returns the least word that is an orphan of exactly one of the rules, or None if they have the same orphans.
+/// Returns the least word that is an orphan of exactly one of the two rules, or None if the rules have the same
+/// orphans.
 ///
-/// For n sets under both rules together it takes time **O(n k log n)** and space **O(n)**.
+/// If n sets of nodes are reached under both rules together, this takes time **O(n k log n)** and space **O(n)**.
 pub fn separate(alloc: Global, first: &Rule, second: &Rule) -> Result<Option<Word>, SepFault>
     ensures states { IsErrOf result SepFault.States ↔ (first.now.states ≢ second.now.states) }
     ensures word { IfOk result (λ word. MatchOption word (HaveSameOrphans first.now second.now) (Separates first.now second.now)) }
@@ -45,9 +47,9 @@ pub fn separate(alloc: Global, first: &Rule, second: &Rule) -> Result<Option<Wor
     Ok(search(alloc, &one, &other)?)
 }
 
-/// Searches for the least word that is an orphan of exactly one rule. The rules have the same number of states. It
-/// follows links breadth first, with letters ascending, until a letter leads to two sets of which exactly one is
-/// empty.
+/// Searches for the least word that is an orphan of exactly one rule. Both rules have the same number of states. A link
+/// is a pair of sets of last nodes that the same word has under the two rules. The search follows links breadth first,
+/// with letters ascending, until a letter leads to two sets of which exactly one is empty.
 fn search(alloc: Global, first: &Subsets, second: &Subsets) -> Result<Option<Word>, AllocError>
     requires { first.now.states ≡ second.now.states }
     ensures { IfOk result (λ word. MatchOption word (HaveSameOrphans first.now second.now) (Separates first.now second.now)) }

@@ -1,4 +1,5 @@
-//! The type `Subsets`: the sets of nodes of a rule, and the steps between them.
+//! The type `Subsets`: the sets of nodes of a rule, and the steps between them. A step on a letter leads from a set to
+//! the ends of all edges that have this label and begin at a node of the set.
 
 ghost use Rattle.std.specs.Prelude.{◌≡◌, ◌^◌, ◌<◌, ℕ, slice_index, IfOk};
 ghost use Rattle.word_image.specs.LocalRules.{IsRule, node_count};
@@ -11,8 +12,8 @@ use std::alloc::{AllocError, Global};
 use std::marker::Model;
 use word_image::{MOST_STATES, Rule};
 
-/// The sets of nodes of a rule and their steps, which are the subset automaton of the rule. In contracts it is the
-/// rule.
+/// The sets of nodes of a rule and their steps, which are the subset automaton of the rule. Contracts treat a value of
+/// this type as the rule.
 #[derive(Debug, Drop)]
 pub struct Subsets {
     graph: Graph,
@@ -73,8 +74,8 @@ impl Subsets {
         self.graph.full()
     }
 
-    /// Returns for each letter the set to which the step of this set on the letter leads, in the order of the
-    /// letters.
+    /// Returns the step of a set on each letter, in the order of the letters: the set to which the edges with this
+    /// label lead.
     pub fn steps(&self, set: u16) -> [u16; MOST_STATES]
         requires { set < 2 ^ node_count self.now }
         ensures { (a : ℕ) → a < self.now.states → IsStep self.now set a (slice_index result a) }

@@ -1,4 +1,7 @@
 //! The family of a rule: its sets of last nodes, in the order in which a search finds them.
+//!
+//! The set of a word consists of the last nodes of its preimages, which are the last m - 1 letters of each word whose
+//! image it is. A step on the letter a leads from the set of a word to the set of this word followed by a.
 
 ghost use Rattle.std.specs.Prelude.{◌≡◌, ◌≢◌, ◌+◌, ◌*◌, ◌≤◌, ◌<◌, AllPairs, Contains, [], length, slice_index, slice_get, vec_capacity, Some, MatchOption, false, IfOk};
 ghost use Rattle.word_image.specs.LocalRules.{most_sets};
@@ -14,9 +17,10 @@ use debruijn::Graph;
 use std::alloc::{AllocError, Global};
 use std::marker::Model;
 
-/// The family of a rule: its sets of last nodes in the order of their least words, and for each set its parent. The
-/// parent of a set is the place of the set from which the search found it, and the letter of the step. In contracts a
-/// family is the list of sets and the list of their parents. `new` allocates all memory, less than 1 MB, once.
+/// The family of a rule: its sets of last nodes in the order of their least words, and the parent of each set. The
+/// search found a set by a step from an earlier set. The parent is the place of the earlier set, and the letter of the
+/// step. Contracts treat a family as the list of sets and the list of their parents. `new` allocates all memory, less
+/// than 1 MB, once.
 ///
 /// `explore` is the subset construction: breadth first, with letters ascending. It takes time **O(s k + 2^8 k)** for
 /// s sets, and **O(N 2^N)** more if no set is empty. If there are N nodes, s is at most 2^N, so at most 65,536.
@@ -134,8 +138,8 @@ impl Family {
     }
 }
 
-/// Adds the sets to which steps lead from the set at this place, if they are new. Stops at the empty set, and returns
-/// whether the empty set was found.
+/// Follows the steps from the set at this place, and appends each set to which they lead if the list doesn't have it
+/// yet. Stops after it has appended the empty set. Returns whether it has appended the empty set.
 fn expand(
     graph: &Graph,
     tables: &StepTables,

@@ -1,4 +1,5 @@
-//! The set of all nodes, and steps from the set of a word to the sets of the words that are one letter longer.
+//! The set of all nodes, and steps from the set of a word to the sets of the words that are one letter longer. The set
+//! of a word consists of the last m - 1 letters of each of its preimages.
 
 ghost use Rattle.std.specs.Prelude.{◌≡◌, ◌<◌, ℕ, List, [], ◌∷◌, ◌++◌};
 ghost use Rattle.word_image.specs.LocalRules.{IsRule};

@@ -11,17 +11,17 @@
 //!
 //! The family of a rule lists the different sets in the order of their least words, up to and including the empty set
 //! if there is one. Shorter words are less than longer ones. A breadth-first search from the set of all nodes, with
-//! letters ascending, finds the sets in this order. It finds each set first from the least place from which a step
-//! leads to the set.
+//! letters ascending, finds the sets in this order. The parent of a set is the place in the list from which the search
+//! finds the set. It is the least place from which a step leads to the set.
 //!
 //! Under rule 106 the family is 15, 13, 14, 9, 6, 5, 10, 1, 2, 12, 4, 8. No set is empty, so the rule is surjective.
-//! The sets 1, 2, 4 and 8 contain no other set. For such questions the sets that contain another set of the family
-//! are marked. The marks are bits: the mark on set s is bit s % 64 of the number s / 64 in a list of numbers, which
-//! are called rows.
+//! The sets 1, 2, 4 and 8 contain no other set. To find such sets quickly, a family has a mark on each set that
+//! contains another set of the family. The marks are bits in a list of numbers, which are called rows: the mark on set
+//! s is bit s % 64 of the row s / 64.
 //!
-//! If there are N = k^(m - 1) nodes, a family has at most 2^N sets. To explore s sets takes time **O(s k)**, **O(2^8
-//! k)** for the tables of steps, and, if no set is empty, **O(N 2^N)** for the marks of the sets that contain others,
-//! 64 sets at a time. Memory for all 2^16 sets is allocated once.
+//! If there are N = k^(m - 1) nodes, a family has at most 2^N sets. To explore s sets takes time **O(s k)**, and
+//! **O(2^8 k)** for the tables of steps. If no set is empty, the marks take **O(N 2^N)** more, for 64 sets at a time.
+//! Memory for all 2^16 sets is allocated once.
 #![tactic(auto)]
 
 mod family;

@@ -1,4 +1,5 @@
-//! Marks on the sets that contain another set of a family.
+//! Marks on the sets that contain another set of a family. A family is a list of sets of nodes. A set is a number below
+//! 2^16, whose bits are its nodes. The mark on set s is bit s % 64 of row s / 64.
 
 ghost use Rattle.std.specs.Prelude.{◌≡◌, ◌*◌, ◌^◌, ◌<◌, ◌≤◌, ◌↔◌, ◌⊎◌, ℕ, List, [], length, slice_index, vec_capacity, replicate, IsTrue, IfOk};
 ghost use Rattle.word_image.specs.LocalRules.{most_nodes};
@@ -9,8 +10,8 @@ use crate::rows::{MOST_ROWS, ROW, is_marked, spread, spread_from};
 use std::alloc::{AllocError, Global};
 use std::marker::Model;
 
-/// A mark on each set that contains another set of a family. In contracts it is a list of rows, with 64 marks in each
-/// row. `new` allocates all memory.
+/// A mark on each set that contains another set of a family. Contracts treat a value of this type as the list of its
+/// rows, which have 64 marks each. `new` allocates all memory.
 #[derive(Debug, Drop)]
 pub(crate) struct Marks {
     // A mark on each set that contains a set of the family. Each set of the family contains itself.
@@ -41,8 +42,8 @@ impl Marks {
         })
     }
 
-    /// Marks each set of the nodes below `n` that contains a set of the list `sets` other than itself. Removes all
-    /// earlier marks. Takes O(n 2^n) time.
+    /// Removes all earlier marks. Then marks each set of the nodes below `n` that contains a set of the list `sets`
+    /// other than itself. Takes O(n 2^n) time.
     pub fn mark(&mut self, sets: &Masks, n: u8)
         requires nodes { n ≤ most_nodes }
         requires sets { (i : ℕ) → i < length sets.now → slice_index sets.now i < 2 ^ n }
@@ -56,7 +57,7 @@ impl Marks {
         mark_beyond(&mut self.beyond, &self.above, n);
     }
 
-    /// Returns whether a set is marked, which means that it contains a set of the family other than itself.
+    /// Returns whether a set is marked. A marked set contains another set of the family.
     pub fn has(&self, set: u16) -> bool
         requires { set < 64 * length self.now }
         ensures { IsTrue result ↔ IsSetMarked self.now set }
@@ -105,7 +106,7 @@ fn mark_above(rows: &mut [u64], n: u8)
     }
 }
 
-/// Marks each set for which a node below `n` can be removed so that the remaining set is marked in `others`.
+/// Marks a set if it has a node below `n` and if the set without this node is marked in `others`.
 fn mark_beyond(rows: &mut [u64], others: &[u64], n: u8)
     requires nodes { n ≤ most_nodes }
     requires most { length others.now ≤ 1024 }

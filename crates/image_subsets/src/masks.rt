@@ -10,12 +10,12 @@ use std::alloc::{AllocError, Global};
 use std::marker::Model;
 use word_image::MOST_NODES;
 
-/// The number of sets that can be made of 16 nodes.
+/// The number of different sets of 16 nodes.
 pub const MOST_SETS: usize = 1 << MOST_NODES;
 
-/// A list of different sets. In contracts it is the list of these sets. `new` allocates all memory.
+/// A list of different sets of nodes. Contracts treat it as the plain list of the sets. `new` allocates all memory.
 ///
-/// It takes O(1) time to look up a set. To clear the list takes time proportional to its length.
+/// It takes O(1) time to look up a set. Clearing the list takes time proportional to its length.
 #[derive(Debug, Drop)]
 pub(crate) struct Masks {
     // The sets in their order.
@@ -70,7 +70,8 @@ impl Masks {
         &self.sets
     }
 
-    /// Returns rows of marks on all sets of sixteen nodes. A set is marked if and only if it is in the list.
+    /// Returns rows of marks on all sets of sixteen nodes. A set is marked if and only if it is in the list. The mark
+    /// on set s is bit s % 64 of row s / 64.
     pub fn rows(&self) -> &[u64]
         ensures rows { length result.now ≡ 1024 }
         ensures marked { (x : ℕ) → x < most_sets → (IsSetMarked result.now x ↔ Contains self.now x) }

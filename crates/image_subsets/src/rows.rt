@@ -12,7 +12,8 @@ pub const ROW: usize = 64;
 /// The number of rows for all sets of sixteen nodes.
 pub const MOST_ROWS: usize = (1 << MOST_NODES) / ROW;
 
-/// How many nodes tell the sets of one row apart: the nodes 0 to 5. All sets of a row have the same other nodes.
+/// The number of nodes in which the sets of one row can differ. These are the nodes 0 to 5. All sets of a row have the
+/// same other nodes.
 const LOW_NODES: u8 = 6;
 
 /// For each of the nodes 0 to 5, a row with a mark on each set that contains the node.
@@ -33,7 +34,7 @@ pub fn is_marked(rows: &[u64], set: u16) -> bool
     rows[usize::from(set / 64)] >> (set % 64) & 1 == 1
 }
 
-/// Removes the marks of these sets.
+/// Removes the marks of these sets. Also removes all other marks in the rows of these sets.
 pub fn unmark(rows: &mut [u64], sets: &[u16])
     requires { 1024 ≤ length rows.old }
     ensures { (x : ℕ) → IsSetMarked rows.new x → IsSetMarked rows.old x × ¬ Contains sets.now x }
@@ -43,7 +44,7 @@ pub fn unmark(rows: &mut [u64], sets: &[u16])
     }
 }
 
-/// Marks each set that contains node `u` if the set without `u` is marked.
+/// Marks each set that contains node `u` and for which the set without `u` is marked. Keeps all other marks.
 pub fn spread(rows: &mut [u64], u: u8)
     requires node { u < most_nodes }
     requires rows { length rows.old ≤ 1024 }
@@ -55,7 +56,8 @@ pub fn spread(rows: &mut [u64], u: u8)
     }
 }
 
-/// Marks each set that contains node `u` if the set without `u` is marked in `others`.
+/// Marks each set that contains node `u` and for which the set without `u` is marked in `others`. Keeps all other
+/// marks.
 pub fn spread_from(rows: &mut [u64], others: &[u64], u: u8)
     requires node { u < most_nodes }
     requires most { length others.now ≤ 1024 }
@@ -67,8 +69,8 @@ pub fn spread_from(rows: &mut [u64], others: &[u64], u: u8)
     }
 }
 
-/// Returns a row of marks on the sets of row `i`. A set is marked if it contains node `u` and the set without `u` is
-/// marked in `rows`.
+/// Returns the row of marks on the sets of row `i` that contain node `u` and for which the set without `u` is marked in
+/// `rows`.
 fn with_node(rows: &[u64], i: usize, u: u8) -> u64
     requires node { u < most_nodes }
     requires row { i < length rows.now }

@@ -1,4 +1,5 @@
-//! Steps of sets by two look-ups in tables: one for the nodes 0 to 7, and one for the nodes 8 to 15.
+//! Steps of sets of nodes by two look-ups in tables: one for the nodes 0 to 7, and one for the nodes 8 to 15. A step on
+//! a letter leads from a set to the ends of all edges that have this label and begin at a node of the set.
 
 ghost use Rattle.std.specs.Prelude.{◌≡◌, ◌+◌, ◌-◌, ◌*◌, ◌^◌, ◌<◌, ◌≤◌, ℕ, [], ◌++◌, map, length, slice_index, vec_len, vec_capacity, IfOk};
 ghost use Rattle.std.specs.Int.Bits.{bit_or};
@@ -14,12 +15,12 @@ use std::marker::Model;
 use std::simd::u16x16;
 use word_image::MOST_STATES;
 
-/// How many different sets can be made of eight nodes: each node is in the set or not.
+/// The number of different sets of eight nodes.
 const ROWS: usize = 256;
 
 /// The steps of all sets of the nodes 0 to 7, and of all sets of the nodes 8 to 15. A row has the steps of one set on
-/// all letters, with one lane for each letter. The steps of any set of nodes are the union of two rows. `new`
-/// allocates all memory, 16 KiB.
+/// all letters, with one lane for each letter. A set of nodes has a part in each table, and its steps are the union of
+/// the two rows. `new` allocates all memory, 16 KiB.
 #[derive(Debug, Drop)]
 pub struct StepTables {
     // The rows for the sets of the nodes 0 to 7.
@@ -51,7 +52,7 @@ impl StepTables {
         })
     }
 
-    /// Fills the tables with the steps of the sets of this graph's nodes, in O(2^8) time.
+    /// Fills the tables with the steps of all sets of this graph's nodes, in O(2^8) time.
     pub fn fill(&mut self, graph: &Graph)
         ensures { AreTables graph.now self.new }
     {
@@ -60,8 +61,8 @@ impl StepTables {
         fill(&mut self.high, graph, 8, nodes);
     }
 
-    /// Returns the steps of a set on all letters, in the order of the letters. The tables must have been filled for
-    /// the graph that has the nodes of the set.
+    /// Returns the steps of a set on all letters, in the order of the letters. The tables must have been filled for the
+    /// graph to which the nodes of the set belong.
     pub fn steps(&self, set: u16) -> [u16; MOST_STATES]
         requires { HasRows self.now set }
         ensures { (r : LocalRule) (a : ℕ) → AreTables r self.now → set < 2 ^ node_count r → a < r.states →
@@ -73,7 +74,7 @@ impl StepTables {
     }
 }
 
-/// Fills the rows with the steps of all sets of the nodes from `first` to `end - 1`. These are at most eight nodes.
+/// Fills the rows with the steps of all sets of the nodes from `first` to `end - 1`, which are at most eight nodes.
 fn fill(rows: &mut Vec<u16x16>, graph: &Graph, first: u8, end: u8)
     requires nodes { end ≤ node_count graph.now }
     requires few { end - first ≤ 8 }
@@ -88,7 +89,7 @@ fn fill(rows: &mut Vec<u16x16>, graph: &Graph, first: u8, end: u8)
     }
 }
 
-/// Appends for each row its union with `ends`. So the number of rows doubles.
+/// Doubles the number of rows: appends for each row its union with `ends`.
 fn double(rows: &mut Vec<u16x16>, ends: u16x16)
     requires { 2 * vec_len rows.old ≤ vec_capacity rows.old }
     ensures rows { rows.new.items ≡ rows.old.items ++ map (λ row. zip2 bit_or row ends) rows.old.items }
@@ -100,8 +101,8 @@ fn double(rows: &mut Vec<u16x16>, ends: u16x16)
     }
 }
 
-/// Returns for each label the set of nodes to which edges with this label lead from node `u`. Each lane has one
-/// label.
+/// Returns for each label the set of nodes to which edges with this label lead from node `u`. Lane a of the result is
+/// for the label a.
 fn ends_of(graph: &Graph, u: u8) -> u16x16
     requires { u < node_count graph.now }
     ensures rule { IsRule graph.now }

@@ -10,8 +10,8 @@ pub(crate) fn next_number(i: usize, count: usize) -> usize
     if i + 1 == count { 0 } else { i + 1 }
 }
 
-/// Returns the first place of the next row of a list, or 0 after the last row. The list has `count` numbers, in rows
-/// of `row` numbers. One row begins at `place`.
+/// Returns the place at which the next row of a list begins, or 0 after the last row. The list has `count` numbers, in
+/// rows of `row` numbers. The present row begins at `place`.
 pub(crate) fn next_row(place: usize, row: usize, count: usize) -> usize
     requires some { 0 < row }
     requires inside { place + row ≤ count }

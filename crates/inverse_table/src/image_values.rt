@@ -1,4 +1,5 @@
-//! The function `image_values`: the images of all words of one length.
+//! The function `image_values`: the images of all words of one length. The value of a word is the base-k number whose
+//! digits are its letters.
 ghost use Rattle.std.specs.Prelude.{◌≡◌, ℕ, ◌+◌, ◌*◌, ◌^◌, ◌<◌, ◌≤◌, ◌++◌, All, length, map, slice_range, vec_len, vec_capacity, IfOk};
 ghost use Rattle.inverse_table.specs.MapLimits.{most_map_entries};
 ghost use Rattle.inverse_table.specs.ImageValues.{AreImageValues};
@@ -19,9 +20,10 @@ pub(crate) fn image_values(alloc: Global, rule: &Rule, n: u16) -> Result<Vec<u16
     Ok(images)
 }
 
-/// `images` has the values of the images of all words of one length. Returns the values of the images of all words
-/// that have one letter more. The last nodes of the words repeat in their order, and so do the rows of the table. It
-/// isn't inlined, since otherwise the loop keeps more on the stack.
+/// Returns the values of the images of all words that are one letter longer. `images` has the values of the images of
+/// all words of one length, in the order of these words. In this order the last m - 1 letters of the words repeat, and
+/// so do the rows of the table, which have the k labels of one node. The function isn't inlined, since otherwise the
+/// loop keeps more on the stack.
 #[inline(never)]
 fn longer(alloc: Global, rule: &Rule, images: &[u16]) -> Result<Vec<u16>, AllocError>
     requires fits { All (λ image. image * rule.now.states + rule.now.states ≤ most_map_entries) images.now }
@@ -49,7 +51,8 @@ fn row_at(table: &[u8], place: usize, row: usize) -> &[u8]
     &table[place..place + row]
 }
 
-/// Appends the values of the images that are one letter longer: `first` plus each of these labels.
+/// Appends `first` plus each of these labels. If `first` is k times the value of an image, these are the values of the
+/// images with one more letter.
 fn push_all(values: &mut Vec<u16>, first: u16, labels: &[u8])
     requires fits { All (λ label. first + label < most_map_entries) labels.now }
     requires room { vec_len values.old + length labels.now ≤ vec_capacity values.old }

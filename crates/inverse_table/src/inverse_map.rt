@@ -81,8 +81,8 @@ impl InverseMap {
     }
 }
 
-/// Returns the map as a rule of width n, whose table has the letters of the map. A map with n = 1 becomes a rule of
-/// width 2 that ignores its second cell.
+/// Makes a rule of width n from an inverse map that reads n letters. The table of the rule has the letters of the map.
+/// A map with n = 1 becomes a rule of width 2 that ignores its second cell.
 ///
 /// If the rule would break limits of rules, returns the first of `Width`, `Nodes` and `Offset` that applies. It needs
 /// no memory.
@@ -97,8 +97,8 @@ pub fn as_rule(map: &InverseMap) -> Result<Rule, RuleFault>
     Ok(Rule::from_fn(map.k(), m, o, |window| letter_of(map, window)))
 }
 
-/// Returns the letter that the map gives for a window of its rule. If the map reads one letter, the second cell is
-/// ignored.
+/// Returns the letter that the rule made by `as_rule` gives for a window. If the map reads one letter, the second cell
+/// is ignored.
 fn letter_of(map: &InverseMap, window: u16) -> u8
     requires { window < map.now.states ^ (map_rule map.now).width }
     ensures { result ≡ slice_index (map_rule map.now).table window }

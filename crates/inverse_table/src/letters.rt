@@ -1,11 +1,12 @@
-//! Functions that read the letter at one place of all words of one length, by the images of the words.
+//! Finds the letter at one place of a word from the image of the word, for all words of one length. Words and images
+//! are given by their values. `images` has the image of each word.
 ghost use Rattle.std.specs.Prelude.{◌≡◌, ℕ, ◌+◌, ◌*◌, ◌%◌, ◌<◌, ◌≤◌, All, length, replicate, slice_index, MatchOption};
 ghost use Rattle.word_image.specs.LocalRules.{most_states};
 ghost use Rattle.inverse_table.specs.ImageValues.{AreUndetermined, AreReadBack, HasApart, IsRead, letter_by_unit};
 
 use crate::cycles::next_number;
 
-/// The entry for a letter that hasn't been read yet.
+/// The entry for an image whose letter hasn't been read yet.
 pub(crate) const UNREAD: u8 = 16;
 
 /// A place in words of the same length, which are given by their values.
@@ -30,9 +31,9 @@ impl Place {
     }
 }
 
-/// Writes for each image the letter at this place that the words with this image have. If two words with the same
-/// image have different letters there, it stops and returns two such words. The letter is the same for runs of `unit`
-/// words, and then it changes.
+/// Writes a letter for each image: the letter at this place of the words that have the image. If two words with the
+/// same image have different letters at this place, stops and returns two such words. The words are read in runs of
+/// `unit` words, which all have the same letter at this place.
 pub(crate) fn read_letters(
     letters: &mut [u8],
     images: &[u16],
@@ -56,9 +57,9 @@ pub(crate) fn read_letters(
     None
 }
 
-/// Writes `letter` for each image of the words of one run, which begins with the word `start`. All words of the run
-/// have this letter at the place. If another letter was already read for an image, it stops and returns the word of
-/// the run that has this image.
+/// Writes `letter` for the image of each word of a run. The run begins with the word `start`, and all its words have
+/// `letter` at the place. If another letter has already been written for an image, stops and returns the word of the
+/// run that has this image.
 fn read_run(
     letters: &mut [u8],
     images: &[u16],
@@ -87,8 +88,8 @@ fn read_run(
     None
 }
 
-/// Returns a word with the same image as this word and another letter at this place, or None if there is no such
-/// word.
+/// Returns a word that has the same image as the given word and another letter at this place. Returns None if there is
+/// no such word.
 fn other_apart(images: &[u16], word: usize, place: Place) -> Option<usize>
     requires word { word < length images.now }
     ensures { MatchOption result

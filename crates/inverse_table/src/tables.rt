@@ -1,4 +1,5 @@
-//! The function `table`, which computes the inverse map of a rule over a window.
+//! The function `table`, which computes the inverse map of a rule over a window. The window (n, c) stands for n letters
+//! of an image, and for the place c in the words of n + m - 1 letters that have these letters as image.
 ghost use Rattle.std.specs.Prelude.{◌≡◌, ◌+◌, ◌-◌, ◌^◌, ◌<◌, ◌≤◌, neg_ℤ, ◌-ℤ◌, pos, IfOk, IsOk, MatchResult, SomeIff};
 ghost use Rattle.inverse_table.specs.MapLimits.{most_map_entries, longest_window};
 ghost use Rattle.word_image.specs.LocalRules.{IsRule, word_of};
@@ -40,11 +41,12 @@ impl From<AllocError> for InvFault {
     }
 }
 
-/// Returns the inverse map of a rule over the window (n, c), for 1 ≤ n ≤ 480 and c ≤ n + m - 2. It has a letter for
-/// each word of n letters: the letter at place c of every preimage of the word, or 0 if the word has no preimage.
+/// Returns the inverse map of a rule over the window (n, c), for 1 ≤ n ≤ 480 and c ≤ n + m - 2. The map has a letter
+/// for each word of n letters: the letter at place c of every preimage of the word, or 0 if the word has no preimage.
 ///
-/// Returns `Wide` if there are more than 65,536 such words, and otherwise `NotDetermined` if the window isn't
-/// determined. Returns `Memory` if there isn't enough memory, whether the window is determined or not.
+/// Returns `Wide` if there are more than 65,536 words of n letters. Otherwise returns `NotDetermined` if the window
+/// isn't determined, that is, if two words with the same image differ at place c. Returns `Memory` if there isn't
+/// enough memory, whether the window is determined or not.
 pub fn table(alloc: Global, rule: &Rule, at: WindowAt) -> Result<InverseMap, InvFault>
     requires some { 1 ≤ at.n }
     requires most { at.n ≤ longest_window }
@@ -91,7 +93,7 @@ fn read_back(
     Ok(InverseMap::of(rule.k(), at.n, map_offset(rule, at.c), letters))
 }
 
-/// Returns the offset -o - c of the map for the letter at place c, if o is the offset of the rule.
+/// Returns the offset of the inverse map for the letter at place c. It is -o - c if o is the offset of the rule.
 fn map_offset(rule: &Rule, c: u16) -> i32
     ensures { result ≡ neg_ℤ rule.now.offset -ℤ pos c }
 {
@@ -108,7 +110,7 @@ fn word_count(rule: &Rule, n: u16) -> Option<usize>
     }
 }
 
-/// Returns the place c of words of n + m - 1 letters.
+/// Returns the place c of the window (n, c), as a place in words of n + m - 1 letters.
 fn place_of(rule: &Rule, at: WindowAt) -> Place
     requires inside { at.c ≤ at.n + rule.now.width - 2 }
     requires fits { rule.now.states ^ at.n ≤ most_map_entries }

@@ -10,20 +10,23 @@
 //! (1, 1) aren't, since 001 and 111 have the image 1. Rule 184 isn't injective: the rings 0011 and 0101 both become
 //! 1010, and no lesser words are twins.
 //!
-//! A node is a word of m - 1 letters, and there are N = k^(m - 1) nodes. The forward rank of two nodes is the
-//! greatest n for which two words with equal images of n letters begin with these nodes. The backward rank is the
-//! greatest n for which two such words end with these nodes. A finite rank is at most 119. If there is no greatest n,
-//! the two nodes are called endless, forward or backward.
+//! A node is a word of m - 1 letters, and there are N = k^(m - 1) nodes. The forward rank of two nodes is the greatest
+//! n for which two words with equal images of n letters begin with these nodes. The backward rank is the greatest n for
+//! which two such words end with these nodes. A finite rank is at most 119. If there is no greatest n, the two nodes
+//! are called endless, forward or backward. Their rank then counts as greater than every number.
 //!
-//! Cut two words with the same image at the place j = min(c, n). Their first j + m - 1 letters end with two nodes,
-//! and have equal images of j letters. Their letters from place j on begin with the same two nodes, and have equal
-//! images of n - j letters. So (n, c) is determined if and only if no two nodes differ in their letter at place
-//! c - j, have a backward rank of at least j and have a forward rank of at least n - j. Here endless nodes count as
-//! nodes of every rank. If c ≤ n, the place c - j is the first place of a node. Then one pass over the pairs finds
-//! for each backward rank the greatest forward rank. A second pass over the backward ranks, from the greatest to the
-//! least, finds for each c the greatest forward rank r of the pairs whose backward rank is at least c, and so the
-//! least c + r + 1. If c > n, the letter is inside the last node, and n is one more than the greatest backward rank.
-//! Some window is determined if and only if no two different nodes are endless in both directions.
+//! Cut two words with the same image of n letters at the place j = min(c, n). Their first j + m - 1 letters end with
+//! two nodes, and have equal images of j letters. Their letters from place j on begin with the same two nodes, and have
+//! equal images of n - j letters. The letter at place c of a word is the letter at place c - j of its node. So (n, c)
+//! isn't determined if and only if some two nodes differ in their letter at place c - j, have a backward rank of at
+//! least j and have a forward rank of at least n - j.
+//!
+//! If c ≤ n, c - j is 0, the first place of a node. One pass over the pairs finds for each backward rank the greatest
+//! forward rank of two nodes that differ in their first letter. A second pass goes over the backward ranks from the
+//! greatest to the least. For each c it finds the greatest forward rank r of the pairs whose backward rank is at least
+//! c. The least n for this c is c + r + 1. If c > n, the letter is inside the last node, and n is one more than the
+//! greatest backward rank of two nodes that differ in this letter. Some window is determined if and only if no two
+//! different nodes are endless in both directions.
 //!
 //! Twins are the closed walks in the graph of pairs of nodes on which the two letters of some step differ (Sutner
 //! 1991). The marked graph has each pair of nodes without a mark and with it, and a step on two different letters

@@ -1,4 +1,9 @@
 //! Computes from the ranks of pairs of nodes how many letters of the image are needed to tell two nodes apart.
+//!
+//! A node is a word of m - 1 letters. The window (n, c) is determined if words of n + m - 1 letters with the same image
+//! have the same letter at place c. Their image has n letters. The forward rank of two nodes is the greatest n for
+//! which two words with equal images of n letters begin with the nodes. The backward rank is this number for words that
+//! end with them. If there is no greatest number, the nodes are endless.
 ghost use Rattle.std.specs.Prelude.{◌≡◌, ℕ, ◌+◌, ◌-◌, ◌<◌, ◌≤◌, ◌↔◌, Option, IfSome};
 ghost use Rattle.word_image.specs.LocalRules.{IsRule, node_count};
 ghost use Rattle.word_image.specs.Graphs.{pair_of, pair_count};
@@ -11,12 +16,12 @@ ghost use Rattle.inverse_window.specs.FirstWindows.{PairDiffersAt, PairEnds, IsP
 use pair_rank::Ranks;
 use word_image::{Rule, Side};
 
-/// How many numbers there are from 0 to one more than the greatest possible rank, 119.
+/// The number of whole numbers from 0 to 120, which is one more than the greatest possible rank.
 const ROWS: usize = 121;
 
-/// Returns the least n for which the window (n, n + place) is determined, or None if there is none. In this window
-/// all n letters of the image are before the letter of the word, which is the letter at this place of the last node.
-/// Windows with greater n are determined too.
+/// Returns the least n for which the window (n, n + place) is determined, or None if there is none. The letter at place
+/// n + `place` of a word of n + m - 1 letters is the letter at `place` of its last node. Windows (n, n + place) with
+/// greater n are determined, too.
 pub(crate) fn start_past(rule: &Rule, ranks: &Ranks, place: u8) -> Option<u16>
     requires of_rule { ranks.now ≡ rule.now }
     requires place { place < rule.now.width - 1 }
@@ -30,9 +35,9 @@ pub(crate) fn start_past(rule: &Rule, ranks: &Ranks, place: u8) -> Option<u16>
     start
 }
 
-/// Returns the greater of `start` and the least n for which no two words with equal images of n letters end with u
-/// and with a node that differs from u in the letter at `place`. Returns None if there is no such n or if `start` is
-/// None.
+/// Returns the greater of `start` and the least n for one node u. For this n, no two words with equal images of n
+/// letters end with u and with a node that has another letter at `place`. Returns None if there is no such n or if
+/// `start` is None.
 fn start_of(rule: &Rule, ranks: &Ranks, u: u8, place: u8, start: Option<u16>) -> Option<u16>
     requires of_rule { ranks.now ≡ rule.now }
     requires place { place < rule.now.width - 1 }
@@ -53,7 +58,7 @@ fn start_of(rule: &Rule, ranks: &Ranks, u: u8, place: u8, start: Option<u16>) ->
 }
 
 /// Returns one more than the greatest finite backward rank, or 0 if no rank is finite. If two words with equal images
-/// of this length end with two nodes, such words exist for every length.
+/// of this length end with two nodes, these nodes are endless backward.
 pub(crate) fn past_ranks(ranks: &Ranks) -> u16
     ensures past { IsPast ranks.now (node_count ranks.now) result }
     ensures most { result ≤ most_start }
@@ -65,8 +70,8 @@ pub(crate) fn past_ranks(ranks: &Ranks) -> u16
     past
 }
 
-/// Returns the least number that is at least `least` and greater than all finite backward ranks of u with another
-/// node.
+/// Returns the greater of `least` and one more than the greatest finite backward rank of `u` and another node. If no
+/// rank is finite, returns `least`.
 fn past_ranks_of(ranks: &Ranks, u: u8, least: u16) -> u16
     requires node { u < node_count ranks.now }
     requires least { least ≤ most_start }
@@ -85,9 +90,10 @@ fn past_ranks_of(ranks: &Ranks, u: u8, least: u16) -> u16
     past
 }
 
-/// Returns a number for each backward rank b of two nodes that differ in their first letter: the least length n for
-/// which no two words with equal images of n letters begin with two such nodes. The number for endless pairs is at
-/// the place `past`, which is greater than all finite ranks. None means that there is no such length.
+/// Returns a number n for each backward rank b. Take the pairs of nodes that have the backward rank b and differ in
+/// their first letter. Then n is the least length for which no two words with equal images of n letters begin with the
+/// nodes of such a pair. None means that there is no such length. The number for endless pairs is at the place `past`,
+/// which is greater than all finite ranks.
 pub(crate) fn starts_by_rank(rule: &Rule, ranks: &Ranks, past: u16) -> [Option<u16>; ROWS]
     requires of_rule { ranks.now ≡ rule.now }
     requires past { IsPast rule.now (node_count rule.now) past }
@@ -102,8 +108,8 @@ pub(crate) fn starts_by_rank(rule: &Rule, ranks: &Ranks, past: u16) -> [Option<u
     starts
 }
 
-/// At first `starts` has the result for the pairs whose first node comes before u. Afterwards it has the result for
-/// these pairs and the pairs of u with all nodes.
+/// Adds the pairs whose first node is `u` to the result of `starts_by_rank`. Before the call, `starts` has the result
+/// for the pairs whose first node is less than `u`.
 fn add_starts(rule: &Rule, ranks: &Ranks, u: u8, past: u16, starts: &mut [Option<u16>; ROWS])
     requires rule { IsRule rule.now }
     requires of_rule { ranks.now ≡ rule.now }
@@ -121,8 +127,8 @@ fn add_starts(rule: &Rule, ranks: &Ranks, u: u8, past: u16, starts: &mut [Option
     }
 }
 
-/// Returns the least number from which on two facts hold, if the first fact holds from `a` on and the second from `b`
-/// on. None stands for a fact that never holds.
+/// Returns the greater of two numbers, or None if one of them is None. If one fact holds for every number from `a` on,
+/// and another fact from `b` on, both hold from the result on. None stands for a fact that never holds.
 pub(crate) fn later(a: Option<u16>, b: Option<u16>) -> Option<u16>
     ensures both { (n : ℕ) → HasBegun result n ↔ (HasBegun a n × HasBegun b n) }
     ensures later { result ≡ later a b }
@@ -130,9 +136,9 @@ pub(crate) fn later(a: Option<u16>, b: Option<u16>) -> Option<u16>
     Some(a?.max(b?))
 }
 
-/// Returns the least n for which no two walks of n steps with equal labels lead from u and v, forward on the right
-/// side and backward on the left, or None if there are such walks for every n. It is one more than the rank of the
-/// two nodes.
+/// Returns the least n for which no two walks of n steps with equal labels lead from u and v. Walks go forward on the
+/// right side and backward on the left. Returns None if there are such walks for every n. The result is one more than
+/// the rank of the two nodes.
 fn apart(ranks: &Ranks, side: Side, u: u8, v: u8) -> Option<u16>
     requires rule { IsRule ranks.now }
     requires first { u < node_count ranks.now }

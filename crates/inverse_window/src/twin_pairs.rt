@@ -1,4 +1,7 @@
-//! Finds the least twins of a rule.
+//! Finds the least twins of a rule: two different words of the same length whose rings have the same image.
+//!
+//! Twins spell a walk of pairs of nodes. The marked graph has each pair of nodes without a mark and with it. A step of
+//! a walk sets the mark if its two letters differ.
 ghost use Rattle.std.specs.Prelude.{◌≡◌, ◌≤◌, ◌↔◌, ℕ, List, length, IfOk, IfSome, IsNone, MatchOption};
 ghost use Rattle.least_walk.specs.Queues.{most_steps};
 ghost use Rattle.word_image.specs.LocalRules.{IsRule};
@@ -56,8 +59,8 @@ pub fn twins_over(
     }
 }
 
-/// Returns the least of the walks in the marked graph from a pair without the mark to the same pair with the mark, or
-/// None if there is none. The walk spells the least twins. The only error is lack of memory.
+/// Returns the least walk in the marked graph that leads from a pair without the mark to the same pair with the mark.
+/// The walk spells the least twins. Returns None if there is no such walk. The only error is lack of memory.
 fn first_turn(
     alloc: Global,
     pairs: &Pairs,
@@ -78,7 +81,7 @@ fn first_turn(
     Ok(first)
 }
 
-/// Returns the greatest number of steps of a walk that can be less than `first`, which is the least walk so far.
+/// Returns the greatest number of steps of a walk that can be less than `first`, the least walk so far.
 fn most_steps(first: &Option<Vec<u8>>) -> usize
     ensures { MatchOption first.now (result ≡ most_steps) (λ steps. result ≡ length steps.items) }
 {

@@ -1,4 +1,7 @@
 //! The test whether a rule is injective, without the window that shows it.
+//!
+//! Two nodes are endless forward if walks of every length with equal labels begin at them, and endless backward if such
+//! walks end at them. A node is a word of m - 1 letters.
 ghost use Rattle.std.specs.Prelude.{◌≢◌, ◌<◌, ◌↔◌, ℕ, IsTrue};
 ghost use Rattle.word_image.specs.LocalRules.{IsRule, node_count};
 ghost use Rattle.tail_config.specs.Tails.{IsInjective};
@@ -6,8 +9,8 @@ ghost use Rattle.inverse_window.specs.BothWays.{GoOnBothWays};
 
 use pair_rank::Endless;
 
-/// Returns whether a rule is injective: whether no two different nodes are endless in both directions. Takes time
-/// **O(N)** in operations on rows, and no memory.
+/// Returns whether a rule is injective: whether no two different nodes are endless both forward and backward. Takes
+/// time **O(N)** in operations on rows, and no memory.
 pub fn is_injective(endless: &Endless) -> bool
     ensures injective { IsTrue result ↔ IsInjective endless.now }
     ensures rule { IsRule endless.now }
@@ -20,7 +23,7 @@ pub fn is_injective(endless: &Endless) -> bool
     true
 }
 
-/// Returns whether some other node is endless with the node u in both directions.
+/// Returns whether `u` and some other node are endless both forward and backward.
 fn has_other(endless: &Endless, u: u8) -> bool
     requires rule { IsRule endless.now }
     requires node { u < node_count endless.now }

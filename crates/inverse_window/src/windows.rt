@@ -1,4 +1,5 @@
-//! Finds the least determined window of a rule.
+//! Finds the least determined window of a rule. The window (n, c) is determined if words of n + m - 1 letters with the
+//! same image have the same letter at place c. Their image has n letters.
 ghost use Rattle.std.specs.Prelude.{◌≡◌, ◌+◌, ◌<◌, ◌≤◌, ◌↔◌, ℕ, IfSome, IsSome, MatchOption};
 ghost use Rattle.std.specs.Option.{option_map};
 ghost use Rattle.word_image.specs.Windows.{IsDetermined, IsLeastDetermined};
@@ -21,8 +22,8 @@ pub struct WindowAt {
     pub c: u16,
 }
 
-/// Returns the least determined window of a rule, or None if there is none, which means that the rule isn't
-/// injective. Every rule that has a determined window is surjective. The n of the window is at most 240. Needs no
+/// Returns the least determined window of a rule, or None if there is none. There is none if and only if the rule isn't
+/// injective. A rule that has a determined window is also surjective. The n of the window is at most 240. Needs no
 /// memory.
 pub fn window(rule: &Rule, ranks: &Ranks) -> Option<WindowAt>
     requires of_rule { ranks.now ≡ rule.now }
@@ -59,8 +60,8 @@ fn first_within(rule: &Rule, ranks: &Ranks) -> Option<WindowAt>
     first
 }
 
-/// Returns the window (c + start, c): c letters of the image are before the letter of the word, and `start` letters
-/// from its place on. Returns None if `start` is None.
+/// Returns the window (c + start, c). Of its c + `start` letters of the image, c letters come before the place c, and
+/// `start` letters begin there. Returns None if `start` is None.
 fn window_within(c: u16, start: Option<u16>) -> Option<WindowAt>
     requires place { c ≤ most_start }
     requires most { IfSome start (λ n. n ≤ most_start) }
@@ -70,8 +71,8 @@ fn window_within(c: u16, start: Option<u16>) -> Option<WindowAt>
     Some(WindowAt { n: c + start?, c })
 }
 
-/// Returns the window (n, n + place) for n = `start`: all n letters of the image are before the letter of the word,
-/// which is the letter at this place of the last node. Returns None if `start` is None.
+/// Returns the window (n, n + place) for n = `start`. The letter that this window determines is the letter at `place`
+/// of the word's last m - 1 letters. Returns None if `start` is None.
 fn window_past(place: u8, start: Option<u16>) -> Option<WindowAt>
     requires most { IfSome start (λ n. n ≤ most_start) }
     ensures window { result ≡ option_map (λ n. record { n = n; c = n + place }) start }

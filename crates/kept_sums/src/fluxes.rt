@@ -1,10 +1,9 @@
 //! Finds the flux that shows that a rule keeps a sum of weights of words.
 //!
-//! Each word of `range` letters has a weight. A rule of width m keeps the sum of the weights if the words around each
-//! ring weigh as much as the words around its image. A window here has m + range - 1 letters. Its gain is the weight of
-//! its image, which has `range` letters, minus the weight of its first `range` letters. A flux has a number for each
-//! word of m + range - 2 letters: the gain of a window is the number of its first letters minus the number of its last
-//! letters.
+//! There is a weight for each word of `range` letters. A window here has m + range - 1 letters. Its gain is the weight
+//! of its image minus the weight of its first `range` letters. A flux has a number for each word of m + range - 2
+//! letters. The gain of each window is the number of its first m + range - 2 letters minus the number of its last
+//! m + range - 2 letters.
 ghost use Rattle.std.specs.Prelude.{◌≡◌, ℕ, ◌+◌, ◌-◌, ◌*◌, ◌^◌, ◌<◌, ◌≤◌, ◌↔◌, ℤ, pos, ◌-ℤ◌, IfSome, IsSome, IsTrue};
 ghost use Rattle.std.specs.Int.RustNames.{unsigned_abs};
 ghost use Rattle.word_image.specs.LocalRules.{value, word_of};
@@ -22,14 +21,15 @@ pub const MOST_FLOWS: usize = 128;
 /// The greatest number of windows of m + range - 1 letters.
 const MOST_WINDOWS: usize = 256;
 
-/// A number for each word of m + range - 2 letters, by the word's value. The numbers after them are 0.
+/// The number of each word of m + range - 2 letters, at the word's value. Zeros follow the numbers of the words.
 pub type Flux = [i64; MOST_FLOWS];
 
-/// The gain of each window of m + range - 1 letters, by the window's value. The numbers after them are 0.
+/// The gain of each window of m + range - 1 letters, at the window's value. Zeros follow the gains of the windows.
 type Gains = [i64; MOST_WINDOWS];
 
-/// Returns the flux of these weights of words of `range` letters, with the number 0 for the word of zeros (Hattori and
-/// Takesue 1991). Returns None if the rule doesn't keep the sum of the weights. The weights are from -2^56 to 2^56.
+/// Returns the flux of these weights of words of `range` letters (Hattori and Takesue 1991). It is the flux that is 0
+/// for the word of zeros. Returns None if the rule doesn't keep the sum of the weights. The weights are from -2^56 to
+/// 2^56.
 pub fn flux(rule: &Rule, range: u8, weights: &Row) -> Option<Flux>
     requires some { 1 ≤ range }
     requires few { rule.now.states ^ range ≤ 16 }
@@ -58,7 +58,7 @@ pub(crate) fn is_kept(rule: &Rule, range: u8, weights: &Row) -> bool
     flux(rule, range, weights).is_some()
 }
 
-/// Returns the gain of each window of m + range - 1 letters, by the window's value.
+/// Returns the gain of each window of m + range - 1 letters, at the window's value.
 fn gains(rule: &Rule, range: u8, weights: &Row) -> Gains
     requires some { 1 ≤ range }
     requires few { rule.now.states ^ range ≤ 16 }
@@ -107,8 +107,8 @@ fn image_value(rule: &Rule, range: u8, window: u16) -> u8
     word
 }
 
-/// Returns the only numbers that can be a flux with the number 0 for the word of zeros. The number of a word of
-/// `letters` letters is minus the sum of the gains along the walk from the word of zeros to this word.
+/// Returns the numbers of the flux, if there is one, that is 0 for the word of zeros. The flux has a number for each
+/// word of `letters` letters: the negative of the sum of the gains along the walk from the word of zeros to this word.
 fn numbers(k: u16, letters: u8, gains: &Gains) -> Flux
     requires states { 2 ≤ k }
     requires few { k ^ (letters + 1) ≤ 256 }
@@ -129,8 +129,8 @@ fn numbers(k: u16, letters: u8, gains: &Gains) -> Flux
 }
 
 /// Returns whether these numbers are a flux: whether the gain of each window is the number of its first letters minus
-/// the number of its last letters. A window has `letters` + 1 letters, and the first and the last `letters` of them
-/// have a number.
+/// the number of its last letters. There is a number for each word of `letters` letters, and a window has one letter
+/// more.
 fn flow_by(k: u16, letters: u8, gains: &Gains, flux: &Flux) -> bool
     requires states { 2 ≤ k }
     requires few { k ^ (letters + 1) ≤ 256 }

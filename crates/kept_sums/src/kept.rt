@@ -1,5 +1,9 @@
-//! Finds all sums that a rule keeps. A row gives a weight to each word of `range` letters. A rule keeps the sum of a
-//! row if the words around each ring weigh as much as the words around its image.
+//! Finds all sums that a rule keeps.
+//!
+//! A row gives a weight to each word of `range` letters. The sum on a ring adds up the weights of the words that begin
+//! at its places. A rule keeps the sum if it is the same on each ring and on the ring's image. The search begins with a
+//! row for each word. Whenever a ring doesn't keep the sums of all rows, the rows are changed, and one of them is
+//! replaced by the ring.
 ghost use Rattle.std.specs.Prelude.{◌≡◌, ◌≢◌, ℕ, ◌+◌, ◌-◌, ◌*◌, ◌^◌, ◌<◌, ◌≤◌, length, take, set, true, pos, ◌<ℤ◌};
 ghost use Rattle.word_image.specs.Rings.{IsRing};
 ghost use Rattle.kept_sums.specs.Rows.{IsUnit};
@@ -13,21 +17,21 @@ use crate::rows::{MOST_WORDS, Row, gain};
 use crate::steps::{Rows, last_gain, narrow};
 use word_image::Rule;
 
-/// The sums that a rule keeps. For each word that doesn't begin with the letter 0 there is a row of weights or a ring.
+/// The sums that a rule keeps. Each word that doesn't begin with the letter 0 has either a row of weights or a ring.
 #[repr(C)]
 #[derive(Clone, Copy, Debug)]
 pub struct KeptSums {
-    /// The rows, each at the place of the first word to which it gives a weight other than 0. All other rows are zeros.
+    /// The rows. A row is at the place of the first word to which it gives a weight other than 0. All other places have
+    /// rows of zeros.
     pub rows: Rows,
-    /// For each word the length of its ring, or 0 if it has no ring. The ring shows that no row begins at the word's
-    /// place.
+    /// For each word the length of its ring, or 0 if the word has no ring. The ring shows that the word has no row.
     pub counts: [u8; MOST_WORDS],
     /// For each word the letters of its ring. The numbers after them don't matter.
     pub rings: [[u8; LONGEST]; MOST_WORDS],
 }
 
-/// Returns the sums before any ring is tested. For each word that doesn't begin with the letter 0 there is a row that
-/// gives the weight 1 to this word and the weight 0 to all others.
+/// Returns the state of the search before any ring is tested. Each word that doesn't begin with the letter 0 has a row,
+/// which gives the weight 1 to this word and 0 to all others.
 fn start(rule: &Rule, range: u8) -> KeptSums
     requires some { 1 ≤ range }
     requires few { rule.now.states ^ range ≤ 16 }
@@ -47,7 +51,7 @@ fn start(rule: &Rule, range: u8) -> KeptSums
     }
 }
 
-/// Returns the row with the weight 1 at this place and the weight 0 at all others.
+/// Returns the row with the weight 1 at this place and 0 at all others.
 fn unit(place: u8) -> Row
     requires { place < 16 }
     ensures { IsUnit place result }
@@ -57,9 +61,9 @@ fn unit(place: u8) -> Row
     row
 }
 
-/// Changes the rows so that this ring keeps the sums of all rows. If it doesn't keep all of them before, one row
-/// becomes 0, and the ring is stored in its place. Works in place: most rings change nothing, and a copy of the sums
-/// would cost more time than the ring.
+/// Changes the rows so that the rule keeps their sums on this ring. If it didn't keep all of them before, one row
+/// becomes 0 and the ring is stored in its place. Most rings change nothing. So the function changes `sums` in place: a
+/// copy would cost more than the ring.
 fn narrow_by_ring(rule: &Rule, range: u8, sums: &mut KeptSums, letters: &[u8; LONGEST], count: u8)
     requires few { rule.now.states ^ range ≤ 16 }
     requires stage { IsStage rule.now range sums.old.rows sums.old.counts sums.old.rings }
@@ -86,8 +90,8 @@ fn narrow_by_ring(rule: &Rule, range: u8, sums: &mut KeptSums, letters: &[u8; LO
     }
 }
 
-/// Returns the sums after each ring of `count` letters has changed the rows. Then all these rings keep the sums of all
-/// rows.
+/// Returns the state of the search after all rings of `count` letters have been tested. The rule keeps the sums of the
+/// new rows on these rings.
 fn narrowed_by_rings(rule: &Rule, range: u8, sums: KeptSums, count: u8) -> KeptSums
     requires few { rule.now.states ^ range ≤ 16 }
     requires stage { IsStage rule.now range sums.rows sums.counts sums.rings }
@@ -106,8 +110,7 @@ fn narrowed_by_rings(rule: &Rule, range: u8, sums: KeptSums, count: u8) -> KeptS
     sums
 }
 
-/// Returns whether the rule keeps the sum of each row that has a number other than 0 at its own place. The own place
-/// of row i is place i.
+/// Returns whether the rule keeps the sum of each row i that has a number other than 0 at place i.
 fn are_kept(rule: &Rule, range: u8, rows: &Rows) -> bool
     requires some { 1 ≤ range }
     requires few { rule.now.states ^ range ≤ 16 }

@@ -1,9 +1,9 @@
 //! All sums of integer weights of words that a rule keeps (Hattori and Takesue 1991).
 //!
-//! Weights give an integer to each word of r letters, which is the word's weight. The sum on a ring adds up the
-//! weights of the words that begin at its places. A rule keeps the sum if it is the same on each ring and on the
-//! ring's image. For words of one letter these are the conserved sums of cells. For words of two letters pairs of
-//! neighbours are weighed, and so on. There are at most 16 words of r letters. In the code, r is called `range`.
+//! Weights are integers, one for each word of r letters. The sum on a ring adds up the weights of the words that begin
+//! at its places. A rule keeps the sum if it is the same on each ring and on the ring's image. For words of one letter
+//! these are the conserved sums of cells. For words of two letters pairs of neighbours are weighed, and so on. There
+//! are at most 16 words of r letters. In the code, r is called `range`.
 //!
 //! Every rule keeps the trivial sums, which only depend on the length of the ring. Each choice of weights is the sum
 //! of trivial weights and normal weights, in exactly one way. Normal weights are 0 for each word that begins with the
@@ -19,19 +19,19 @@
 //! the gain is the number of its first m + r - 2 letters minus the number of its last m + r - 2 letters. `flux` finds
 //! the numbers from the windows that begin with 0, and tests them on all windows.
 //!
-//! [`kept_sums`] begins with one row for each word that doesn't begin with 0. It goes through the rings of at most
-//! `2 (m + r) - 3` letters, shorter ones first, until each row that is left has a flux. The gain of a row by a ring is
-//! its sum on the image minus its sum on the ring. If some row has a gain other than 0, the last such row is called
-//! the pivot. Let v be the gain of the pivot. Each row b with gain u is replaced by v times b minus u times the pivot,
+//! [`kept_sums`] begins with one row for each word that doesn't begin with 0. It goes through the rings of at most 2
+//! (m + r) - 3 letters, shorter ones first, until each row that is left has a flux. The gain of a row by a ring is its
+//! sum on the image minus its sum on the ring. If some row has a gain other than 0, the last such row is called the
+//! pivot. Let v be the gain of the pivot. Each row b with gain u is replaced by v times b minus u times the pivot,
 //! divided by the greatest common divisor of the numbers. The pivot itself becomes 0, and the ring is stored in its
-//! place.
+//! place. The stored rings show that there are no other sums: all weights whose sums are kept on these rings are
+//! rational combinations of the rows and of trivial weights.
 //!
-//! The stored rings show that there are no other sums: all weights whose sums are kept on these rings are rational
-//! combinations of the rows and of trivial weights. No number of a row is greater than 2^56. The reason is that each
-//! stored ring is one condition, and the row has numbers at only one more place than there are conditions. Up to
-//! multiples the row is the only solution there, and such conditions have a small solution.
+//! No number is greater than 2^56. Each stored ring is a condition. Take one more place than there are conditions so
+//! far: up to multiples, a row is the only solution of the conditions that is 0 at all other places. Such conditions
+//! have a solution with small numbers.
 //!
-//! It needs no memory, and takes time O(k^(2(m + r))) in the worst case, with at most 65,534 rings.
+//! [`kept_sums`] needs no memory, and takes time O(k^(2(m + r))) in the worst case, with at most 65,534 rings.
 #![tactic(auto)]
 
 mod fluxes;

@@ -1,4 +1,4 @@
-//! Short rings: their images, and the words that begin at their places.
+//! Short rings: their images, and the words that begin at their places. A ring is a word that is read in a circle.
 ghost use Rattle.std.specs.Prelude.{◌≡◌, ◌^◌, ◌<◌, ◌≤◌, length, take, pos};
 ghost use Rattle.word_image.specs.LocalRules.{IsRule, value, word_of};
 ghost use Rattle.word_image.specs.Rings.{IsRing, ring_letters, ring_image};
@@ -7,11 +7,11 @@ ghost use Rattle.kept_sums.specs.Stages.{IsCondition};
 
 use word_image::{Rule, first_place, ring_apply};
 
-/// The greatest length of a ring that is tested: 2 (m + range) - 3, for width m = 5 and range 4.
+/// The greatest length of a ring that the search tests: 2 (m + range) - 3 at width 5 and range 4.
 pub const LONGEST: usize = 15;
 
-/// Returns two lists of words of `range` letters, by their values: the words that begin at the places of the image of a
-/// ring, and the words that begin at the places of the ring. The numbers after them don't matter.
+/// Returns two lists: the values of the words of `range` letters that begin at the places of the ring's image, and the
+/// values of the words that begin at the places of the ring itself. Both lists are followed by any numbers.
 pub(crate) fn words(rule: &Rule, range: u8, ring: &[u8]) -> ([u8; LONGEST], [u8; LONGEST])
     requires ring { IsRing rule.now.states ring.now }
     requires short { length ring.now ≤ 15 }
@@ -71,7 +71,7 @@ fn image_letters(rule: &Rule, ring: &[u8]) -> [u8; LONGEST]
     letters
 }
 
-/// Returns the word of `count` letters with this value. The numbers after its letters are 0.
+/// Returns the word of `count` letters with this value, followed by zeros.
 pub(crate) fn word_with(k: u8, count: u8, value: u64) -> [u8; LONGEST]
     requires some { 1 ≤ k }
     requires few { k ≤ 16 }

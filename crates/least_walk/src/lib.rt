@@ -1,9 +1,10 @@
 //! Least walks of pairs of nodes in the marked graph, found by breadth-first search.
 //!
-//! The states of the marked graph are the marked pairs: each pair p of nodes without the mark, with the number p, and
-//! with the mark, with the number p + N * N. Here N = k^(m - 1) is the number of nodes. A step on the letters (a, b)
-//! follows an edge on a from the first node and an edge on b from the second, if the two edges have equal labels. It
-//! sets the mark if a and b differ, and no step removes the mark.
+//! A node is a word of m - 1 letters, and there are N = k^(m - 1) nodes. The marked graph has each pair of nodes twice:
+//! without the mark and with it. These are called marked pairs. The pair p has the number p without the mark, and
+//! p + N * N with the mark. A step on the letters (a, b) follows an edge on a from the first node and an edge on b from
+//! the second. The two edges must have equal labels. The step sets the mark if a and b differ, and no step removes the
+//! mark.
 //!
 //! A walk in the marked graph is a list of pairs of letters, and each pair of letters is a step. Shorter walks are
 //! less than longer ones. Walks of equal length are in the dictionary order of their pairs of letters, and two pairs

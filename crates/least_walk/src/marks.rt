@@ -1,4 +1,7 @@
-//! Sets of marked pairs, as rows of bits.
+//! Sets of marked pairs, stored as rows of bits.
+//!
+//! A marked pair is a pair of nodes, with or without a mark. A step on two letters follows one edge from each node, and
+//! the two edges have equal labels. The step sets the mark if the letters differ.
 
 ghost use Rattle.std.specs.Prelude.{◌≡◌, ℕ, ◌+◌, ◌*◌, ◌<◌, ◌↔◌, IsTrue, IsBitSet, IfSome, Some};
 ghost use Rattle.std.specs.Option.{option_map};
@@ -11,9 +14,9 @@ use pair_graph::Pairs;
 use std::marker::Model;
 use word_image::MOST_NODES;
 
-/// A set of marked pairs. In contracts it is the list of its rows. Row u is the set of the nodes v for which the pair
-/// (u, v) without the mark is in the set of marked pairs. Row 16 + u is the set of the nodes v for which the pair (u,
-/// v) with the mark is in it.
+/// A set of marked pairs, stored as rows. Row u is the set of the nodes v for which the set has the pair (u, v) without
+/// the mark. Row 16 + u is the set of the nodes v for which it has the pair (u, v) with the mark. Contracts treat the
+/// set as the list of its rows.
 #[derive(Drop)]
 pub struct Rows {
     rows: [u16; 2 * MOST_NODES],
@@ -55,9 +58,8 @@ impl Rows {
         self.rows[MOST_NODES * usize::from(at.mark) + usize::from(at.first)] |= 1u16 << at.second;
     }
 
-    /// Returns a set of second letters. Bit b of the set stands for letter b. A step from the marked pair `from` on
-    /// the first letter `a` and a second letter outside this set leads only to marked pairs that are already in the
-    /// rows.
+    /// Returns the second letters that can lead to a new marked pair. Bit b of the result stands for letter b. If bit b
+    /// is 0, a step on `a` and b from the marked pair `from` leads only to a marked pair that is already in the rows.
     pub fn fresh(&self, pairs: &Pairs, from: PairParts, a: u8) -> u16
         requires mark { from.mark < 2 }
         requires first { from.first < node_count pairs.now }
@@ -129,8 +131,8 @@ fn with_parts(pairs: &Pairs, mark: u8, first: u8, second: u8) -> PairParts
     }
 }
 
-/// Returns the marked pair to which the letters a and b lead from a marked pair, like [`Pairs::marked`]. Returns None
-/// if the labels of the two edges differ.
+/// Returns the marked pair to which the letters `a` and `b` lead from a marked pair, with its number, its mark and its
+/// nodes. Returns None if the labels of the two edges differ.
 pub fn step_from(pairs: &Pairs, from: PairParts, a: u8, b: u8) -> Option<PairParts>
     requires rule { IsRule pairs.now }
     requires from { IsMarkedPair pairs.now from }

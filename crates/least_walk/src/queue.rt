@@ -1,4 +1,8 @@
 //! A breadth-first search through the marked pairs.
+//!
+//! A marked pair is a pair of nodes, with or without a mark. A step on the letters (a, b) follows an edge on a from the
+//! first node and an edge on b from the second, and the two edges have equal labels. The step sets the mark if a and b
+//! differ. The queue lists the marked pairs in the order in which the search reaches them.
 
 ghost use Rattle.std.specs.Prelude.{◌≡◌, ℕ, ◌+◌, ◌*◌, ◌<◌, ◌≤◌, [], ◌∷◌, ◌++◌, vec_len, vec_capacity, IfSome, IfNone, IsBitSet, Some, slice_get};
 ghost use Rattle.word_image.specs.LocalRules.{IsRule, most_states};
@@ -15,9 +19,9 @@ use word_image::MOST_PAIRS;
 /// The greatest number of marked pairs of a rule.
 pub const MOST_MARKED_PAIRS: usize = 2 * MOST_PAIRS;
 
-/// A marked pair in the queue of a search, and how the search reached this marked pair first. `parent` is the place
-/// in the queue from which a step led to it, and `step` is the pair of letters of this step, (a, b) as 16 a + b. The
-/// start of the search is at place 0, and its `parent` and `step` have no meaning.
+/// A marked pair in the queue of a search, and the step by which the search first reached it. The step leads from the
+/// marked pair at the place `parent` of the queue, and its letters (a, b) are the number 16 a + b. The start of the
+/// search is at place 0, and its `parent` and `step` have no meaning.
 #[derive(Clone, Copy, Debug)]
 pub struct Reached {
     /// The number of the marked pair.
@@ -30,7 +34,7 @@ pub struct Reached {
     pub depth: u16,
 }
 
-/// The marked pairs at the two ends of a walk.
+/// The two ends of a walk, which are marked pairs.
 #[derive(Clone, Copy)]
 pub struct Ends {
     /// The number of the marked pair at which the walk starts.
@@ -40,7 +44,7 @@ pub struct Ends {
     pub goal: Option<u16>,
 }
 
-/// The marked pair whose steps the search follows now.
+/// The marked pair from which the search follows steps now.
 #[derive(Clone, Copy)]
 struct Head {
     /// The place of the marked pair in the queue.
@@ -58,9 +62,9 @@ pub struct Arrival {
     pub step: u8,
 }
 
-/// Lists in `queue` the marked pairs that are reached from the start, breadth first with pairs of letters ascending.
-/// Stops when a step leads to the goal, and returns this step. Otherwise returns None. Also stops at the first marked
-/// pair that is `most` steps away, and doesn't follow its steps.
+/// Lists in `queue` the marked pairs that the start reaches: breadth first, and with pairs of letters in ascending
+/// order. Stops at the first step that leads to the goal, and returns this step. Without such a step, stops at the
+/// first marked pair that is `most` steps away or at the end of the queue, and returns None.
 pub fn search(queue: &mut Vec<Reached>, pairs: &Pairs, ends: Ends, most: usize) -> Option<Arrival>
     requires room { most_marked_pairs ≤ vec_capacity queue.old }
     requires start { ends.start < 2 * pair_count pairs.now }
@@ -98,8 +102,9 @@ pub fn search(queue: &mut Vec<Reached>, pairs: &Pairs, ends: Ends, most: usize) 
     None
 }
 
-/// Follows the steps from the marked pair at the place `head` of the queue, and appends the marked pairs that are
-/// new. Stops when a step leads to the goal, and returns the step's pair of letters.
+/// Follows the steps from the marked pair at the place `head` of the queue, and appends each marked pair that the queue
+/// doesn't have yet. Stops at a step that leads to the goal, and returns its pair of letters. Returns None if there is
+/// no such step.
 fn follow_steps(
     queue: &mut Vec<Reached>,
     rows: &mut Rows,
@@ -132,9 +137,9 @@ fn follow_steps(
     None
 }
 
-/// Follows the steps from the marked pair `head` with the first letter a, and appends the marked pairs that are new.
-/// Stops when a step leads to the goal, and returns the step's pair of letters. A step with a second letter outside
-/// `letters` leads to no new marked pair.
+/// Follows the steps from the marked pair `head` whose first letter is `a`, and appends each marked pair that the queue
+/// doesn't have yet. Stops at a step that leads to the goal, and returns its pair of letters. Steps whose second letter
+/// isn't in `letters` lead to no new marked pair.
 fn follow_letter(
     queue: &mut Vec<Reached>,
     rows: &mut Rows,
@@ -176,8 +181,9 @@ fn follow_letter(
     None
 }
 
-/// Returns the marked pair to which the letters `a` and `b` lead from `from`. Returns None if there is no such step
-/// or if the marked pair is in the rows. The letter `b` is tried only if it is in `letters`.
+/// Returns the marked pair to which the letters `a` and `b` lead from `from`, if the rows don't have it yet. Returns
+/// None if there is no such step, or if `b` isn't in the set `letters`. Letters outside this set lead to no new marked
+/// pair.
 fn new_step(
     pairs: &Pairs,
     rows: &Rows,

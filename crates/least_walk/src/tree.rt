@@ -1,4 +1,7 @@
 //! The least walks from one marked pair to all others.
+//!
+//! A marked pair is a pair of nodes, with or without a mark. A step on two letters follows one edge from each node, and
+//! the two edges have equal labels. The step sets the mark if the letters differ.
 
 ghost use Rattle.std.specs.Prelude.{All, Contains, ◌≡◌, ℕ, ◌*◌, ◌<◌, ◌≤◌, List, length, map, Some, slice_get, IfOk, IfSome, IfNone, MatchOption};
 ghost use Rattle.least_walk.specs.Queues.{most_steps};
@@ -16,8 +19,9 @@ use std::alloc::{AllocError, Global};
 use std::marker::Model;
 use word_image::Rule;
 
-/// The least walks of at most `most` steps from one marked pair to all others, as the tree that one search makes. In
-/// contracts it is the rule, the number of the marked pair at the start, and `most`.
+/// The least walks of at most `most` steps from one marked pair to all others. One search finds all of them, and they
+/// are stored as the queue of this search. Contracts treat the tree as the rule, the number of the marked pair at the
+/// start, and `most`.
 #[derive(Debug, Drop)]
 pub struct WalkTree {
     // The rule of the marked graph.
@@ -75,8 +79,8 @@ impl WalkTree {
         })
     }
 
-    /// Returns the numbers of the marked pairs to which the walks lead, in the order of the walks. The only error is
-    /// lack of memory.
+    /// Returns the numbers of the marked pairs that the walks reach, in the order of their least walks. The only error
+    /// is lack of memory.
     pub fn pairs(&self, alloc: Global) -> Result<Vec<u16>, AllocError>
         ensures below { IfOk result (λ pairs. All (λ t. t < 2 * pair_count self.now.rule) pairs.items) }
         ensures all { IfOk result (λ pairs. most_steps ≤ self.now.most → (w : List (ℕ × ℕ)) (t : ℕ) → PairWalk (marked self.now.rule) self.now.rule.states self.now.start w t → Contains pairs.items t) }
@@ -84,8 +88,8 @@ impl WalkTree {
         pairs_of(alloc, &self.queue)
     }
 
-    /// Returns the number of steps of the walk that `walk_to` returns for this marked pair, or None if `walk_to`
-    /// returns None.
+    /// Returns the number of steps of the least walk to a marked pair, or None if every walk has more steps than the
+    /// limit allows.
     pub fn steps_to(&self, to: u16) -> Option<usize>
         requires { to < 2 * pair_count self.now.rule }
         ensures steps { IfSome result (λ n. (w : List (ℕ × ℕ)) × IsLeastWalkTo (marked self.now.rule) self.now.rule.states self.now.start to w × (length w ≡ n)) }
@@ -126,7 +130,7 @@ fn pairs_of(alloc: Global, queue: &[Reached]) -> Result<Vec<u16>, AllocError>
     queue.iter().map(|reached| reached.pair).collect(alloc)
 }
 
-/// Returns for each marked pair its place in the queue. If a marked pair isn't in the queue, its entry has no
+/// Returns for each marked pair its place in the queue. The entry of a marked pair that isn't in the queue has no
 /// meaning.
 fn index(queue: &[Reached]) -> [u16; MOST_MARKED_PAIRS]
     requires { AreApart queue.now }

@@ -1,4 +1,7 @@
 //! Searches for least walks, with memory that is allocated once.
+//!
+//! A walk leads through marked pairs, which are pairs of nodes with or without a mark. Each step is a pair of letters.
+//! It follows one edge from each node, and the two edges have equal labels.
 
 ghost use Rattle.std.specs.Prelude.{ℕ, ◌+◌, ◌*◌, ◌<◌, ◌≤◌, List, length, map, vec_capacity, IfSome, IfNone, Some};
 ghost use Rattle.word_image.specs.LocalRules.{most_states};
@@ -86,9 +89,9 @@ impl Walker {
     }
 }
 
-/// Completes a walk. At first `steps` has the last steps of the walk, in reverse order. Afterwards it has all steps
-/// in their order: first the steps by which the search reached the marked pair at `place` of the queue, and then the
-/// given steps.
+/// Completes a walk that a search has found. Before the call, `steps` has the last steps of the walk, in reverse order.
+/// After it, `steps` has all steps of the walk in their order. The added steps are those by which the search reached
+/// the marked pair at `place` of the queue.
 pub fn spell(queue: &[Reached], place: u16, steps: &mut Vec<u8>)
     requires room { most_steps ≤ vec_capacity steps.old }
     requires place { place < length queue.now }

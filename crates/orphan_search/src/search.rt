@@ -1,4 +1,9 @@
 //! The search for the least orphan, with its verdict and its evidence.
+//!
+//! An orphan is a word without a preimage. The set of a word consists of the last nodes of its preimages, which are the
+//! last m - 1 letters of these words. The family of a rule lists the different sets in the order of their least words.
+//! If a set is empty, it is the last one in the family. If no set is empty, the cover list has the set of all nodes and
+//! each other set that contains no other set of the family.
 
 ghost use Rattle.std.specs.Prelude.{◌≡◌, ◌≤◌, ◌<◌, ◌↔◌, [], length, Contains, slice_index, vec_capacity, IfOk};
 
@@ -17,8 +22,8 @@ pub enum Outcome {
     Orphan,
 }
 
-/// A search for the least orphan by the subset construction: breadth first through the sets of last nodes, with
-/// letters ascending. In contracts it is the results of its last run. `new` allocates all memory.
+/// A search for the least orphan by the subset construction: breadth first through the sets of last nodes, with letters
+/// ascending. Contracts treat a search as the results of its last run. `new` allocates all memory.
 ///
 /// A run takes time **O(s k)** for s sets, and **O(N 2^N)** more for a cover list. If there are N nodes, s is at most
 /// 2^N, so at most 65,536.
@@ -106,9 +111,9 @@ impl Search {
         if self.closed { self.family.sets() } else { &[] }
     }
 
-    /// Returns the cover list of the rule if the last run returned `Closed`: the set of all nodes, and then each
-    /// other set of the family that contains no other set of the family, in the order of the family. Otherwise
-    /// returns an empty list.
+    /// Returns the cover list of the rule if the last run returned `Closed`, and otherwise an empty list. The cover
+    /// list begins with the set of all nodes. Then come the other sets of the family that contain no other set of the
+    /// family. They are in the order of the family.
     pub fn cover(&self) -> &[u16]
         ensures { result.now ≡ self.now.cover }
     {
@@ -120,8 +125,8 @@ ghost use Rattle.word_image.specs.LocalRules.{LocalRule};
 ghost use Rattle.word_image.specs.Families.{IsLeastWordOf, covers_of};
 ghost use Rattle.image_subsets.specs.FamilyTrees.{IsFamilyTree};
 
-/// Writes the cover list: the first set of the family, and then each other set of the family that contains no other
-/// set of the family.
+/// Writes the cover list of a family without an empty set. The cover list begins with the first set of the family,
+/// which has all nodes. Then come the other sets of the family that contain no other set of the family.
 fn write_cover(family: &Family, cover: &mut Vec<u16>)
     requires some { 0 < length family.now.sets }
     requires nonempty { ¬ Contains family.now.sets 0 }
@@ -139,8 +144,8 @@ fn write_cover(family: &Family, cover: &mut Vec<u16>)
     }
 }
 
-/// Writes the least word of the set at the place `at`: the letters on the way from the first set of the family to
-/// this set.
+/// Writes the least word whose set is at the place `at` of the family. Its letters are those of the steps by which the
+/// search came from the first set to this set.
 fn write_word(family: &Family, at: u32, word: &mut Vec<u8>)
     requires set { at < length family.now.sets }
     requires empty { word.old.items ≡ [] }

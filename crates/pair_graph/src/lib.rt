@@ -1,8 +1,8 @@
 //! Pairs of nodes of the de Bruijn graph, and the steps between them (Sutner 1991).
 //!
-//! Let N = k^(m - 1) be the number of nodes. The pair (u, v) has the number u * N + v. A step follows two edges with
-//! equal labels, one from u on letter a and one from v on letter b, to the pair of the nodes where the edges end. So
-//! a walk of pairs spells two words with the same image.
+//! A node is a word of m - 1 letters. Let N = k^(m - 1) be the number of nodes. The pair (u, v) has the number
+//! u * N + v. A step follows two edges with equal labels, one from u on letter a and one from v on letter b, to the
+//! pair of the nodes where the edges end. So a walk of pairs spells two words with the same image.
 //!
 //! Under rule 110 the pair of the nodes 10 and 01 has the number 2 * 4 + 1 = 9. Its letters 1 and 0 follow the
 //! windows 101 and 010, which both give 1, to the nodes 01 and 10: `follow(9, 1, 0)` is `Some(6)`. Node 10 begins
@@ -13,10 +13,10 @@
 //! without the mark, and p + N * N with the mark. A step sets the mark if its two letters differ, and no step removes
 //! the mark. So a walk from p to p + N * N spells two different words.
 //!
-//! To trim a set of pairs is to keep the pairs from which some step leads into the set. Steps go forward on the right
-//! side, and backward on the left side. Under rule 110 each pair has a step forward. But no step backward begins at
-//! the pairs of 00 with 01 and of 00 with 10: windows that end with 00 give 0, and windows that end with 01 or 10
-//! give 1.
+//! A trim of a set of pairs keeps the pairs from which some step leads to a pair of the set, and removes the other
+//! pairs. Steps go forward on the right side, and backward on the left side. Under rule 110 each pair has a step
+//! forward. But no step backward begins at the pairs of 00 with 01 and of 00 with 10: windows that end with 00 give 0,
+//! and windows that end with 01 or 10 give 1.
 //!
 //! `Pairs::of` takes time **O(k^m)**, a trim **O(k·N)** operations on rows of N bits, a plain trim **O(k^2·N^2)**,
 //! `all` and `same` **O(N)**, and every other call **O(1)**. No call needs memory.

@@ -1,4 +1,7 @@
 //! Sets of pairs of nodes, stored as rows of bits, and the trims of such sets.
+//!
+//! A node is a word of m - 1 letters. A step leads from a pair of nodes to another pair along two edges with equal
+//! labels, one from each node. A trim of a set keeps the pairs from which some step leads to a pair of the set.
 
 ghost use Rattle.std.specs.Prelude.{◌≡◌, ◌≢◌, ℕ, ◌+◌, ◌*◌, ◌<◌, ◌↔◌, true, length, replicate, IsBitSet, IsTrue};
 ghost use Rattle.std.specs.Int.Bits.{bit_and};
@@ -12,11 +15,11 @@ use std::marker::Model;
 use std::simd::prelude::*;
 use word_image::{EdgeRows, MOST_NODES, Rule, Side};
 
-/// A set of pairs of nodes as rows: row u is the set of the nodes v for which the pair (u, v) is in the set of pairs.
-/// Bit v of a row stands for node v.
+/// The rows of a set of pairs of nodes: row u is the set of the nodes v for which the pair (u, v) is in the set of
+/// pairs. Bit v of a row stands for node v.
 pub(crate) type Rows = [u16; MOST_NODES];
 
-/// A set of pairs of nodes. In contracts it is a list with one truth value for each pair.
+/// A set of pairs of nodes. Contracts treat it as a list with one truth value for each pair.
 #[derive(Clone, Copy, Debug)]
 pub struct PairSet {
     // The number of nodes of the rule.
@@ -71,7 +74,7 @@ impl PairSet {
         self.rows[usize::from(p / nodes)] >> (p % nodes) & 1 == 1
     }
 
-    /// Returns the nodes v for which the pair (u, v) is in the set. Bit v stands for node v.
+    /// Returns the set of the nodes v for which the pair (u, v) is in the set of pairs. Bit v stands for node v.
     pub fn row(&self, u: u8) -> u16
         requires { u < most_nodes }
         ensures { (n v : ℕ) → length self.now ≡ n * n → u < n → v < most_nodes → (IsBitSet result v ↔ ((v < n) × IsTrue (holds self.now (u * n + v)))) }
@@ -87,7 +90,7 @@ impl PairSet {
         self.rows == other.rows
     }
 
-    /// Returns the pairs of the set from which some step forward leads into the set.
+    /// Returns the pairs of the set from which some step forward leads to a pair of the set.
     pub fn trim_forward(&self, pairs: &Pairs) -> PairSet
         requires { length self.now ≡ pair_count pairs.now }
         ensures { IsTrimmedSet Side.Right pairs.now self.now result }
@@ -95,7 +98,7 @@ impl PairSet {
         self.trim(pairs, Side::Right)
     }
 
-    /// Returns the pairs of the set from which some step backward leads into the set.
+    /// Returns the pairs of the set from which some step backward leads to a pair of the set.
     pub fn trim_backward(&self, pairs: &Pairs) -> PairSet
         requires { length self.now ≡ pair_count pairs.now }
         ensures { IsTrimmedSet Side.Left pairs.now self.now result }
@@ -103,8 +106,8 @@ impl PairSet {
         self.trim(pairs, Side::Left)
     }
 
-    /// Returns the pairs of the set from which some step leads into the set: forward on the right side, backward on
-    /// the left.
+    /// Returns the pairs of the set from which some step leads to a pair of the set. Steps go forward on the right
+    /// side, and backward on the left.
     pub fn trim(&self, pairs: &Pairs, side: Side) -> PairSet
         requires { length self.now ≡ pair_count pairs.now }
         ensures { IsTrimmedSet side pairs.now self.now result }
@@ -126,8 +129,8 @@ impl PairSet {
     }
 }
 
-/// Returns the rows of the trimmed set: the pairs of the rows from which two edges with equal labels lead to a pair
-/// of the rows. The edges are followed forward on the right side, and backward on the left.
+/// Returns the rows of the trimmed set. `rows` has the rows of the set before the trim. The trim keeps the pairs from
+/// which some step leads to a pair of the set. Steps go forward on the right side, and backward on the left.
 fn trimmed(rule: &Rule, side: Side, ends: &EdgeRows, rows: &Rows) -> Rows
     ensures kept { AreNodesKept (GoesOn side rule.now ends.now rows.now) rows.now (node_count rule.now) result }
     ensures rule { IsRule rule.now }
@@ -139,8 +142,8 @@ fn trimmed(rule: &Rule, side: Side, ends: &EdgeRows, rows: &Rows) -> Rows
     kept
 }
 
-/// Returns the nodes v for which two edges with equal labels lead from u and v to a pair of the rows. All sixteen
-/// nodes v are tested at once, each in its own lane.
+/// Returns the set of the nodes v for which some step leads from the pair (u, v) to a pair of the set with these rows.
+/// All sixteen nodes v are tested at once, each in its own lane.
 fn going_on(rule: &Rule, side: Side, ends: &EdgeRows, rows: &Rows, u: u8) -> u16
     requires { u < node_count rule.now }
     ensures { (v : ℕ) → v < most_nodes → (IsBitSet result v ↔ GoesOn side rule.now ends.now rows.now u v) }
@@ -154,7 +157,7 @@ fn going_on(rule: &Rule, side: Side, ends: &EdgeRows, rows: &Rows, u: u8) -> u16
     hits.simd_ne(u16x16::splat(0)).to_bitmask() as u16
 }
 
-/// Returns for each node v the nodes of `ends[v]` that are in `set`. Each lane has one node v.
+/// Returns for each node v the nodes of `ends[v]` that are in `set`. Lane v of the result has these nodes.
 fn among(ends: &[u16; MOST_NODES], set: u16) -> u16x16
     ensures lanes { result ≡ zip2 bit_and ends.now (replicate most_states set) }
     ensures wide { length ends.now ≡ most_states }

@@ -1,4 +1,7 @@
 //! The pairs of nodes of a rule, and the steps between the pairs.
+//!
+//! A node is a word of m - 1 letters. A step from the pair (u, v) follows two edges with equal labels: one from u on a
+//! letter a, and one from v on a letter b.
 
 ghost use Rattle.std.specs.Prelude.{◌≡◌, ◌+◌, ◌*◌, ◌<◌, ◌↔◌, ℕ, Some, IfSome};
 ghost use Rattle.word_image.specs.LocalRules.{IsRule};
@@ -8,8 +11,8 @@ use debruijn::Graph;
 use std::marker::Model;
 use word_image::{EdgeRows, Rule, Side, edge_rows};
 
-/// The pairs of nodes of a rule's de Bruijn graph. In contracts it is the rule. If there are N nodes, the pair of u
-/// and v has the number u * N + v.
+/// The pairs of nodes of a rule's de Bruijn graph. Contracts treat a value of this type as the rule. If there are N
+/// nodes, the pair of u and v has the number u * N + v.
 #[derive(Debug, Drop)]
 pub struct Pairs {
     // The de Bruijn graph of the rule.
@@ -66,8 +69,8 @@ impl Pairs {
         &self.graph
     }
 
-    /// Returns, for each label and node, the nodes to which the edges with that label lead from the node: forward on
-    /// the right side, backward on the left.
+    /// Returns the sets of nodes to which edges lead, for each label and each node. The edges are followed forward on
+    /// the right side, and backward on the left.
     pub(crate) fn edges(&self, side: Side) -> &EdgeRows
         ensures { AreEdgeRows side self.now result.now }
     {
@@ -85,8 +88,9 @@ impl Pairs {
         self.rule().pairs()
     }
 
-    /// Returns the number of the pair to which the letters `a` and `b` lead from the nodes of pair `p`, or None if
-    /// the labels of the two edges differ.
+    /// Returns the number of the pair to which the letters `a` and `b` lead from pair `p`. The letter `a` follows an
+    /// edge from the first node of `p`, and `b` an edge from the second. Returns None if the labels of the two edges
+    /// differ.
     pub fn follow(&self, p: u16, a: u8, b: u8) -> Option<u16>
         requires pair { p < pair_count self.now }
         requires first { a < self.now.states }
@@ -97,8 +101,9 @@ impl Pairs {
         self.rule().follow(Side::Right, p, a, b)
     }
 
-    /// Returns the number of the pair from whose nodes two edges lead to the nodes of pair `q`. Its first node begins
-    /// with the letter `a`, and its second node with `b`. Returns None if the labels of the two edges differ.
+    /// Follows a step backward from pair `q`, and returns the number of the pair p at which the step begins. The first
+    /// node of p begins with the letter `a`, and the second with `b`. Returns None if the labels of the step's two
+    /// edges differ.
     pub fn back(&self, q: u16, a: u8, b: u8) -> Option<u16>
         requires pair { q < pair_count self.now }
         requires first { a < self.now.states }
@@ -121,9 +126,9 @@ impl Pairs {
         self.rule().follow(side, p, a, b)
     }
 
-    /// Returns the marked pair to which the letters `a` and `b` lead from the marked pair `t`. The number `t` is p
-    /// for the pair p without the mark, and p + N * N for the pair p with the mark. The step sets the mark if the
-    /// letters differ. Returns None if the labels of the two edges differ.
+    /// Returns the marked pair to which the letters `a` and `b` lead from the marked pair `t`. The pair p has the
+    /// number p without the mark, and p + N * N with the mark. The step sets the mark if the letters differ, and it
+    /// never removes the mark. Returns None if the labels of the two edges differ.
     pub fn marked(&self, t: u16, a: u8, b: u8) -> Option<u16>
         requires pair { t < 2 * pair_count self.now }
         requires first { a < self.now.states }

@@ -1,4 +1,5 @@
-//! Slow trims, which loop over the steps of pairs. They are here to be compared with the fast trims.
+//! Slow trims, which loop over the steps of pairs. They are here to be compared with the fast trims. A trim of a set of
+//! pairs keeps the pairs from which some step leads to a pair of the set.
 
 ghost use Rattle.std.specs.Prelude.{◌≡◌, ◌<◌, ◌↔◌, length, IsTrue};
 ghost use Rattle.word_image.specs.Graphs.{pair_count};
@@ -37,7 +38,8 @@ fn plain(set: &PairSet, pairs: &Pairs, side: Side) -> PairSet
     kept
 }
 
-/// Returns whether some step leads from pair `p` into the set, forward on the right side and backward on the left.
+/// Returns whether some step leads from pair `p` to a pair of the set. Steps go forward on the right side, and backward
+/// on the left.
 fn leads_into(set: &PairSet, pairs: &Pairs, side: Side, p: u16) -> bool
     requires count { length set.now ≡ pair_count pairs.now }
     requires pair { p < pair_count pairs.now }
@@ -51,8 +53,8 @@ fn leads_into(set: &PairSet, pairs: &Pairs, side: Side, p: u16) -> bool
     false
 }
 
-/// Returns whether some step whose first letter is `a` leads from pair `p` into the set, forward on the right side
-/// and backward on the left.
+/// Returns whether some step whose first letter is `a` leads from pair `p` to a pair of the set. Steps go forward on
+/// the right side, and backward on the left.
 fn leads_into_by(set: &PairSet, pairs: &Pairs, side: Side, p: u16, a: u8) -> bool
     requires count { length set.now ≡ pair_count pairs.now }
     requires pair { p < pair_count pairs.now }

@@ -1,4 +1,4 @@
-//! The endless pairs of a rule, which have no finite rank.
+//! The endless pairs of a rule, which have no finite rank. A node is a word of m - 1 letters.
 
 ghost use Rattle.std.specs.Prelude.{◌≡◌, ◌<◌, ◌↔◌, ℕ, IsBitSet};
 ghost use Rattle.word_image.specs.LocalRules.{IsRule, node_count, most_nodes};
@@ -9,9 +9,9 @@ use pair_graph::{PairSet, Pairs};
 use std::marker::Model;
 use word_image::{Rule, Side};
 
-/// The endless pairs of nodes of a rule, forward and backward. In contracts it is the rule. Two nodes are endless
-/// forward if for each n two walks of n steps with equal labels begin at the nodes. They are endless backward if for
-/// each n two such walks end at the nodes.
+/// The endless pairs of nodes of a rule, forward and backward. Two nodes are endless forward if for each n two walks of
+/// n steps with equal labels begin at the nodes. They are endless backward if for each n two such walks end at the
+/// nodes. Contracts treat a value of this type as the rule.
 #[derive(Debug, Drop)]
 pub struct Endless {
     // The rule of the pairs.

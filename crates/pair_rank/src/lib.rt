@@ -1,4 +1,5 @@
-//! The ranks of pairs of nodes: how long walks from two nodes, or to two nodes, can have equal labels (Sutner 1991).
+//! Computes the rank of each pair of nodes: the greatest length of two walks with equal labels that begin, or end, at
+//! the two nodes (Sutner 1991).
 //!
 //! A rule has width m, and a node is a word of m - 1 letters. The forward rank of two nodes is the greatest n for
 //! which two words of n + m - 1 letters with the same image begin with these nodes. If there are such words for every
@@ -14,11 +15,12 @@
 //! backward.
 //!
 //! Two nodes have a rank of at least n + 1 if two edges with equal labels lead from them to nodes with a rank of at
-//! least n. So the ranks are found in rounds. Each round trims the set of the remaining pairs: it keeps the pairs
-//! from which a step leads to a remaining pair. Round n, starting at 0, removes the pairs of rank n. The rounds end
-//! when nothing is removed, and the remaining pairs are endless. For backward ranks the rounds follow edges backward.
-//! A pair of rank n leads to pairs of each smaller rank, the pairs (u, v) and (v, u) have equal ranks, and (u, u) is
-//! endless. So a finite rank is less than N * (N - 1) / 2, at most 119.
+//! least n. So the ranks are found in rounds. Each round trims the set of the remaining pairs: it keeps the pairs from
+//! which a step leads to a remaining pair. Round n, starting at 0, removes the pairs of rank n. The rounds end when
+//! nothing is removed, and the remaining pairs are endless. For backward ranks the rounds follow edges backward.
+//!
+//! A finite rank is less than N * (N - 1) / 2, at most 119, for three reasons. A pair of rank n leads to pairs of each
+//! smaller rank. The pairs (u, v) and (v, u) have equal ranks. The pair (u, u) is endless.
 //!
 //! If there are k states and N = k^(m - 1) nodes, a set of pairs is N rows of bits. A round takes time **O(k·N)** in
 //! operations on rows, `of` at most **O(k·N·N²)**, and each look-up **O(1)**. Only [`Ranks::row`] needs memory: it

@@ -1,4 +1,8 @@
 //! The forward and backward ranks of all pairs of nodes of a rule.
+//!
+//! A node is a word of m - 1 letters. The forward rank of two nodes is the greatest number of steps of two walks with
+//! equal labels that begin at the nodes. The backward rank is this number for walks that end at them. The nodes are
+//! endless forward, or backward, if there is no greatest number.
 
 ghost use Rattle.std.specs.Prelude.{◌≡◌, ℕ, ◌+◌, ◌*◌, ◌<◌, ◌≤◌, IfSome, MatchOption};
 ghost use Rattle.pair_rank.specs.Sides.{most_rank};
@@ -13,7 +17,7 @@ use pair_graph::Pairs;
 use std::marker::Model;
 use word_image::{MOST_NODES, Rule, Side};
 
-/// The forward and backward ranks of all pairs of nodes of a rule. In contracts it is the rule.
+/// The forward and backward ranks of all pairs of nodes of a rule. Contracts treat a value of this type as the rule.
 #[derive(Drop)]
 pub struct Ranks {
     // The endless pairs of the rule.
@@ -113,9 +117,9 @@ impl Ranks {
     }
 }
 
-/// Law: if there are N nodes, each finite rank of two nodes is less than N (N - 1) / 2, so at most 119. The reason:
-/// each number below a finite rank is the rank of some pair of nodes, too. The pairs (u, v) and (v, u) have the same
-/// rank, and the pair (u, u) has no finite rank.
+/// Law: if there are N nodes, each finite rank of two nodes is less than N (N - 1) / 2, so at most 119. There are three
+/// reasons. Each number below a finite rank is the rank of some pair of nodes. The pairs (u, v) and (v, u) have the
+/// same rank. The pair (u, u) has no finite rank.
 pub fn ranks_are_few()
     ensures few { (side : Side) (r : LocalRule) (u v n : ℕ) → IsRule r → IsRank (Together side r u v) n → 2 * (n + 1) + node_count r ≤ pair_count r }
     ensures most { (side : Side) (r : LocalRule) (u v n : ℕ) → IsRule r → IsRank (Together side r u v) n → n ≤ most_rank }

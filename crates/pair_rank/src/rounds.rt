@@ -1,4 +1,8 @@
-//! Rounds that trim the set of all pairs until a round removes nothing.
+//! Rounds that trim the set of all pairs of nodes until a round removes nothing.
+//!
+//! A round keeps a pair if two edges with equal labels lead from it to a pair of the set. Edges are followed forward on
+//! the right side, and backward on the left. Round n, starting at 0, removes the pairs of rank n. The pairs that remain
+//! at the end are called endless.
 
 ghost use Rattle.std.specs.Prelude.{◌≡◌, ℕ, ◌*◌, ◌<◌, ◌≤◌, IsBitSet, Some, length};
 ghost use Rattle.word_image.specs.LocalRules.{IsRule, most_nodes};
@@ -30,7 +34,8 @@ pub fn endless_pairs(pairs: &Pairs, side: Side) -> PairSet
     set
 }
 
-/// Returns the rank of each pair of nodes on this side, and the set of the endless pairs.
+/// Returns the rank of each pair of nodes on this side, and the set of the endless pairs. Ranks are forward ranks on
+/// the right side, and backward ranks on the left.
 pub fn exact_ranks(pairs: &Pairs, side: Side) -> (RankTable, PairSet)
     ensures ranks { AreRanks side pairs.now result.0 }
     ensures endless { AreEndless side pairs.now result.1 }
@@ -50,7 +55,7 @@ pub fn exact_ranks(pairs: &Pairs, side: Side) -> (RankTable, PairSet)
     (ranks, set)
 }
 
-/// Stores the rank n for each pair that is in `set` and not in `after`. These are the pairs that round n removed.
+/// Stores the rank n for each pair that round n removed. These are the pairs that are in `set` and not in `after`.
 fn note_fallen(ranks: &mut RankTable, nodes: u8, set: &PairSet, after: &PairSet, n: u16)
     requires nodes { nodes ≤ most_nodes }
     requires before { length set.now ≡ nodes * nodes }
@@ -63,7 +68,7 @@ fn note_fallen(ranks: &mut RankTable, nodes: u8, set: &PairSet, after: &PairSet,
     }
 }
 
-/// Stores the rank n for each pair (u, v) with a node v of `set`.
+/// Stores the rank n for each pair (u, v) whose second node v is in `set`.
 fn give_rank(ranks: &mut RankTable, u: u8, set: u16, n: u16)
     requires { u < most_nodes }
     ensures given { (v : ℕ) → v < most_nodes → IsBitSet set v → rank_at ranks.new u v ≡ Some n }

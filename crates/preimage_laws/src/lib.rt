@@ -15,19 +15,19 @@
 //! joined there, form a third preimage. It agrees with the first preimage far to the left, and with the second far to
 //! the right. The rule closes on both sides, so all three preimages are equal. Hence different preimages of a
 //! configuration have different nodes at each place. A long enough part of the configuration around the place
-//! determines which nodes these are, and so the number of preimages. Now take two configurations. The left part of
-//! the first and the right part of the second form a third configuration, which has the same number of preimages as
-//! each of them.
+//! determines these nodes, and so the number of preimages. Now take two configurations. The left part of the first and
+//! the right part of the second form a third configuration, which has the same number of preimages as each of the two.
 //!
 //! Conversely, suppose that all configurations have n preimages. Then the rule is surjective, so the preimages of a
-//! periodic configuration are periodic. Suppose that two preimages of a periodic configuration have the same node at
-//! a place. Joined there, they form a third preimage, which is periodic, too. It agrees with the first preimage far
-//! to the left, and with the second far to the right, so all three are equal. Now suppose that the rule has a split:
-//! two different preimages of a configuration with periodic tails that have the same node at a place. Repeat a long
-//! part of this configuration around the place for ever. The result is periodic, so it has n preimages with n
-//! different nodes at the place. Each of these nodes belongs to a preimage of the configuration, too. So the n
-//! preimages of the configuration have n different nodes at the place. Two of them can't have the same node, so there
-//! is no split.
+//! periodic configuration are periodic. Suppose that two preimages of a periodic configuration have the same node at a
+//! place. Joined there, they form a third preimage, which is periodic, too. It agrees with the first preimage far to
+//! the left, and with the second far to the right, so all three are equal.
+//!
+//! Now suppose that the rule has a split: two different preimages of a configuration with periodic tails that have the
+//! same node at a place. Repeat a long part of this configuration around the place for ever. The result is periodic, so
+//! it has n preimages with n different nodes at the place. Each of these nodes belongs to a preimage of the
+//! configuration, too. So the n preimages of the configuration have n different nodes at the place. Two of them can't
+//! have the same node, so there is no split.
 //!
 //! No law uses the law of the excluded middle.
 //!

@@ -1,4 +1,4 @@
-//! The function `compose`: two rules are carried out one after the other.
+//! The function `compose`, which makes one rule of two rules that are applied one after the other.
 ghost use Rattle.std.specs.Prelude.{◌≡◌, ◌≤◌, ◌+◌, ◌-◌, ◌<◌, ◌^◌, IfOk, slice_index};
 ghost use Rattle.std.specs.Result.{result_err};
 ghost use Rattle.word_image.specs.LocalRules.{IsRule, value, word_of, most_windows};
@@ -37,7 +37,7 @@ fn check_composed(first: &Rule, second: &Rule) -> Result<i8, AlgebraFault>
     check_limits(first.k(), m, i16::from(first.o()) + i16::from(second.o()))
 }
 
-/// Returns the composition of two rules that can be composed.
+/// Returns the composition of two rules, which must be within the limits of accepted rules.
 fn composed_rule(first: &Rule, second: &Rule) -> Rule
     requires { compose_fault first.now second.now ≡ None }
     ensures { result ≡ composed first.now second.now }
@@ -52,7 +52,7 @@ fn composed_rule(first: &Rule, second: &Rule) -> Rule
     )
 }
 
-/// Returns the value of the image of the window with this value. The image has `n` letters.
+/// Returns the value of the image of a window. `window` is the value of the window, and its image has `n` letters.
 fn image_value(rule: &Rule, n: u8, window: u16) -> u16
     requires some { 1 ≤ n }
     requires fits { rule.now.states ^ (rule.now.width + n - 1) ≤ most_windows }
@@ -64,7 +64,8 @@ fn image_value(rule: &Rule, n: u8, window: u16) -> u16
     value_by(rule.k(), n, |start| image_letter(rule, n, window, start))
 }
 
-/// Returns the letter at place `start` of the image of the window with this value. The image has `n` letters.
+/// Returns the letter at place `start` of the image of a window. `window` is the value of the window, and its image has
+/// `n` letters.
 fn image_letter(rule: &Rule, n: u8, window: u16, start: u8) -> u8
     requires fits { rule.now.states ^ (rule.now.width + n - 1) ≤ most_windows }
     requires window { window < rule.now.states ^ (rule.now.width + n - 1) }

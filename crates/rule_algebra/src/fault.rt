@@ -7,7 +7,7 @@ ghost use Rattle.rule_algebra.specs.FaultTexts.{algebra_text};
 
 use word_image::{GREATEST_PLACE, LEAST_PLACE, MOST_NODES, MOST_WIDTH};
 
-/// Why no rule can be made of the given rules. It is the first of these faults that applies.
+/// Why a function of this crate can't make the new rule. It returns the first of these faults that applies.
 #[derive(Clone, Copy, Debug, PartialEq, Eq)]
 pub enum AlgebraFault {
     /// The two rules have different numbers of states.
@@ -22,7 +22,8 @@ pub enum AlgebraFault {
     Offset,
 }
 
-/// Returns the offset o if a window of m cells may have it, and `Offset` if it may not.
+/// Checks the window of a rule with width m and offset o. Returns the offset if the window reaches at most 16 cells to
+/// the left and to the right of its cell. Otherwise returns `Offset`.
 pub(crate) fn check_offset(m: u8, o: i16) -> Result<i8, AlgebraFault>
     requires { 1 ≤ m }
     ensures fault { result_err result ≡ offset_fault m o }

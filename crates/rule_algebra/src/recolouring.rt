@@ -1,4 +1,4 @@
-//! The function `permute`: rules with new names for their letters.
+//! The function `permute`, which gives new names to the letters of a rule.
 ghost use Rattle.std.specs.Prelude.{◌≡◌, ◌<◌, ◌≤◌, ◌^◌, ◌↔◌, length, IfOk, IfErr, IsOk, IsTrue};
 ghost use Rattle.word_image.specs.LocalRules.{IsWord, value, word_of, most_states};
 ghost use Rattle.rule_algebra.specs.Algebra.{IsRecolouring, IsRecoloured, recoloured};
@@ -8,9 +8,10 @@ ghost use Rattle.rule_algebra.specs.Tables.{AreOldLetters};
 use crate::fault::AlgebraFault;
 use word_image::{MOST_STATES, Rule, letter_of, value_by};
 
-/// Returns the rule g of the same width and offset with g(colours of w) = colours[f(w)] for every window w, if f is
-/// the given rule. `colours` has the new name of each letter. So the image of a renamed word under g is the renamed
-/// image of the word under f. Returns `NotPermutation` if the colours aren't a permutation of the k letters.
+/// Returns the rule g with new names for the letters. `colours` has the new name of each letter. If the given rule
+/// gives a letter for a window, g gives the new name of this letter for the renamed window. So the image of a renamed
+/// word under g is the renamed image of the word. The width and the offset stay the same. Returns `NotPermutation` if
+/// the colours aren't a permutation of the k letters.
 pub fn permute(rule: &Rule, colours: &[u8]) -> Result<Rule, AlgebraFault>
     ensures accepted { IsOk result ↔ IsRecolouring rule.now.states colours.now }
     ensures refused { IfErr result (λ fault. fault ≡ AlgebraFault.NotPermutation) }
@@ -43,7 +44,7 @@ fn is_recolouring(k: u8, colours: &[u8]) -> bool
     true
 }
 
-/// Returns for each new name the letter that gets it.
+/// Returns for each new name the old letter that gets this name.
 fn old_letters(k: u8, colours: &[u8]) -> [u8; MOST_STATES]
     requires some { 0 < k }
     requires few { k ≤ most_states }
@@ -57,7 +58,8 @@ fn old_letters(k: u8, colours: &[u8]) -> [u8; MOST_STATES]
     letters
 }
 
-/// Returns the value of the window that has the letter `colours[a]` in place of each letter a of this window.
+/// Renames the letters of a window: each letter a becomes `colours[a]`. `window` is the value of the window. Returns
+/// the value of the renamed window.
 fn recoloured_value(rule: &Rule, colours: &[u8], window: u16) -> u16
     requires colours { IsWord rule.now.states colours.now }
     requires enough { rule.now.states ≤ length colours.now }

@@ -1,4 +1,4 @@
-//! The function `shift`: rules with a moved window.
+//! The function `shift`, which moves the window of a rule.
 ghost use Rattle.std.specs.Prelude.{◌≡◌, IfOk};
 ghost use Rattle.std.specs.Result.{result_err};
 ghost use Rattle.rule_algebra.specs.Algebra.{shifted};
@@ -9,9 +9,8 @@ use crate::fault::{AlgebraFault, check_offset};
 use crate::parts::rule_of_parts;
 use word_image::Rule;
 
-/// Returns the rule with the same table at the offset o + by, if o is the offset of the given rule. Its image cell i
-/// is the old image cell i + by. Returns `Offset` if the window would reach further than 16 cells to the left or to
-/// the right.
+/// Returns the rule with the same table whose offset is greater by `by`. Its image cell i is the old image cell
+/// i + `by`. Returns `Offset` if the window would reach further than 16 cells to the left or to the right.
 pub fn shift(rule: &Rule, by: i8) -> Result<Rule, AlgebraFault>
     ensures fault { result_err result ≡ shift_fault rule.now by }
     ensures shifted { IfOk result (λ g. g ≡ shifted rule.now by) }

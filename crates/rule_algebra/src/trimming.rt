@@ -1,4 +1,4 @@
-//! The function `trim`: rules without the cells that they ignore.
+//! The function `trim`, which removes the cells at the ends of the window that a rule ignores.
 ghost use Rattle.std.specs.Prelude.{◌≡◌, ◌<◌, ◌↔◌, IsTrue};
 ghost use Rattle.word_image.specs.LocalRules.{IsRule};
 ghost use Rattle.rule_algebra.specs.Algebra.{Ignores, IsTrimmed};
@@ -7,9 +7,9 @@ ghost use Rattle.rule_algebra.specs.Tables.{without_first, DropsFirsts};
 use crate::parts::rule_of_parts;
 use word_image::{Rule, Side};
 
-/// Returns the rule without the cells at its ends that it ignores. While the width is above 2, it drops the first
-/// cell if the rule ignores this cell, and adds 1 to the offset. Then it drops ignored cells at the right end in the
-/// same way. The width stays at least 2. The image of every configuration stays the same.
+/// Returns the rule without the cells at its ends that it ignores. While the width is above 2 and the rule ignores its
+/// first cell, drops this cell and adds 1 to the offset. Then drops ignored cells at the right end in the same way. The
+/// width stays at least 2. The image of every configuration stays the same.
 pub fn trim(rule: &Rule) -> Rule
     ensures { IsTrimmed rule.now result }
 {
@@ -17,7 +17,7 @@ pub fn trim(rule: &Rule) -> Rule
     without_firsts(&trimmed.reflect()).reflect()
 }
 
-/// Returns the rule after its first cell was dropped as often as the rule ignores it. The width stays at least 2.
+/// Drops the first cell of a rule as long as the rule ignores it and the width is above 2. Returns the remaining rule.
 fn without_firsts(rule: &Rule) -> Rule
     ensures dropped { DropsFirsts rule.now result }
     ensures rules { IsRule rule.now × IsRule result }
@@ -45,8 +45,8 @@ fn ignores_first(rule: &Rule) -> bool
     true
 }
 
-/// Returns the rule without its first cell. For a window it gives the letter that the old rule gives for a 0 followed
-/// by this window.
+/// Returns the rule without its first cell. For a window, the new rule gives the letter that the old rule gives for a 0
+/// followed by this window.
 fn without_first(rule: &Rule) -> Rule
     requires { 2 < rule.now.width }
     ensures { result ≡ without_first rule.now }

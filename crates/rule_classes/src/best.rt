@@ -1,4 +1,5 @@
-//! The type `Best`: the least rule that the search has found so far.
+//! The type `Best`: the least rule that the search has found so far, that is, the one with the least Wolfram number. A
+//! colouring renames the letters of a rule, which may be mirrored first.
 ghost use Rattle.std.specs.Prelude.{◌≡◌, ◌≤◌, false};
 ghost use Rattle.word_image.specs.LocalRules.{IsRule};
 ghost use Rattle.rule_classes.specs.Colourings.{IsColouring, in_colours};
@@ -17,7 +18,7 @@ pub struct Best {
 }
 
 impl Best {
-    /// Returns the given rule as the best one so far: each letter keeps its name.
+    /// Returns the start of a search: the best rule so far is the given rule, in which each letter keeps its name.
     pub fn own(rule: &Rule) -> Best
         requires states { rule.now.states ≤ 6 }
         ensures straight { result.colouring.mirrored ≡ false }
@@ -32,7 +33,7 @@ impl Best {
         }
     }
 
-    /// Replaces the best rule by the rule that another colouring makes.
+    /// Replaces the best rule by the rule that `colouring` makes from `rule`.
     pub fn take(&mut self, rule: &Rule, colouring: Colouring)
         requires rule { IsRule rule.now }
         requires states { rule.now.states ≤ 6 }

@@ -1,4 +1,5 @@
-//! The function `class_of`, which finds the least rule in the class of a rule.
+//! The function `class_of`, which finds the least rule in the class of a rule. The class consists of all rules that you
+//! get from the rule, or from the mirrored rule, by new names for the letters. All of them have offset 0.
 ghost use Rattle.std.specs.Prelude.{◌≡◌, ◌≤◌, ◌↔◌, Bool, IfOk, IsOk};
 ghost use Rattle.word_image.specs.LocalRules.{LocalRule, IsRule};
 ghost use Rattle.rule_classes.specs.Classes.{IsLeastOfClass};
@@ -9,10 +10,10 @@ use crate::colourings::Colouring;
 use crate::search::least_of;
 use word_image::Rule;
 
-/// The greatest number of states of a rule whose class can be searched.
+/// The greatest number of states of a rule for which `class_of` searches the class.
 pub const MOST_COLOURS: usize = 6;
 
-/// The least rule in the class of a rule, and how the rule leads to it.
+/// The least rule in the class of a rule, and whether it comes from the mirrored rule.
 #[derive(Clone, Copy, Debug)]
 pub struct ClassPlace {
     /// The rule of the class with the least Wolfram number.
@@ -22,16 +23,16 @@ pub struct ClassPlace {
     pub mirrored: bool,
 }
 
-/// Why the class of a rule can't be searched.
+/// Why `class_of` doesn't search the class of a rule.
 #[derive(Clone, Copy, Debug, PartialEq, Eq)]
 pub enum ClassFault {
     /// The rule has more than 6 states.
     Colours,
 }
 
-/// Returns the rule with the least Wolfram number in the class of a rule, and whether the mirrored rule is needed to
-/// get it. Returns `Colours` if the rule has 7 states or more. The least rule has the same verdicts as the rule. If
-/// it comes from the mirrored rule, right and left are exchanged.
+/// Returns the rule with the least Wolfram number in the class of a rule, and whether it only comes from the mirrored
+/// rule. Returns `Colours` if the rule has 7 states or more. The least rule has the same verdicts as the given rule.
+/// But if it comes from the mirrored rule, right and left are exchanged.
 pub fn class_of(rule: &Rule) -> Result<ClassPlace, ClassFault>
     ensures accepted { IsOk result ↔ (rule.now.states ≤ 6) }
     ensures least { IfOk result (λ place. IsLeastOfClass rule.now place.mirrored place.least) }
@@ -51,7 +52,8 @@ pub fn class_of(rule: &Rule) -> Result<ClassPlace, ClassFault>
     })
 }
 
-/// Law: a class has exactly one least rule, and either it needs the mirrored rule or it doesn't.
+/// Law: the result of `class_of` is unique: the least rule of a class, and whether it only comes from the mirrored
+/// rule.
 pub fn one_least_of_class()
     ensures rule { (r g h : LocalRule) (a b : Bool) → IsRule r → IsLeastOfClass r a g → IsLeastOfClass r b h → g ≡ h }
     ensures mirrored { (r g h : LocalRule) (a b : Bool) → IsRule r → IsLeastOfClass r a g → IsLeastOfClass r b h → a ≡ b }

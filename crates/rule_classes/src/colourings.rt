@@ -1,4 +1,7 @@
 //! The type `Colouring`: new names for the letters of a rule, which may be mirrored first.
+//!
+//! The new name of a letter is called its colour. A window in new names consists of colours. The same window in old
+//! names consists of the letters that have these colours, and is read from right to left if the rule is mirrored.
 ghost use Rattle.std.specs.Prelude.{◌≡◌, ◌≢◌, ◌+◌, ◌*◌, ◌^◌, ◌<◌, ◌≤◌, ℕ, slice_index, if◌then◌else◌};
 ghost use Rattle.word_image.specs.LocalRules.{IsRule, node_count, most_windows};
 ghost use Rattle.word_image.specs.Ends.{end_node, window_with};
@@ -9,7 +12,7 @@ ghost use Rattle.rule_classes.specs.Tables.{AreFilled, HasZeros, IsRow};
 use crate::classes::MOST_COLOURS;
 use word_image::{MOST_ENTRIES, Rule, Side};
 
-/// The values of the windows that are equal except in one letter.
+/// The values of windows that differ only in one letter.
 #[derive(Clone, Copy)]
 pub struct Row {
     /// The value of the window in which the letter that differs is 0.
@@ -53,7 +56,8 @@ impl Colouring {
         }
     }
 
-    /// Returns the colouring in which the letters of two of the k colours are exchanged.
+    /// Returns the colouring in which the letters of the colours `first` and `second` are exchanged. There are k
+    /// colours.
     pub fn exchanged(self, k: u8, first: u8, second: u8) -> Colouring
         requires few { k ≤ 6 }
         requires colouring { IsColouring k self }
@@ -74,7 +78,8 @@ impl Colouring {
         new
     }
 
-    /// Writes the table of the rule that this colouring makes to `entries`, over another table of the same length.
+    /// Writes the table of the rule that this colouring makes from `rule`. `entries` must have a table of the same
+    /// length, which is overwritten.
     pub fn fill(&self, rule: &Rule, entries: &mut [u8; MOST_ENTRIES])
         requires rule { IsRule rule.now }
         requires states { rule.now.states ≤ 6 }
@@ -90,7 +95,8 @@ impl Colouring {
         }
     }
 
-    /// Writes the entries of the table for the windows that begin with one node, that is for each last letter.
+    /// Writes the k entries of the table for the windows that begin with `node`. `row` has the values of these windows
+    /// in old names.
     fn fill_row(
         &self,
         rule: &Rule,
@@ -114,9 +120,9 @@ impl Colouring {
         }
     }
 
-    /// Returns two numbers for the window that begins with a node and ends with this letter, both in new names: its
-    /// value in old names, and the colour that the rule gives for it. `row` has the values of the windows of this
-    /// node.
+    /// Reads one entry of the table that this colouring makes. It is the entry for a window that begins with a node and
+    /// ends with `letter`, both in new names. `row` has the values in old names of the windows that begin with this
+    /// node. Returns the value of the window in old names, and the colour of the letter that the rule gives for it.
     pub fn read(&self, rule: &Rule, row: Row, letter: u8) -> (u8, u8)
         requires rule { IsRule rule.now }
         requires states { rule.now.states ≤ 6 }
@@ -131,9 +137,10 @@ impl Colouring {
         (old, self.colours[usize::from(given)])
     }
 
-    /// Returns the values in old names of the windows of a node, which differ in one letter. `back` is the value in
-    /// old names of a window that ends with the node. So its first letter is dropped, and one more letter is
-    /// appended. For a mirrored rule this happens at the other end.
+    /// Returns the values in old names of the windows that begin with a node, which differ in one letter. `back` is the
+    /// value in old names of a window that ends with the node. Each window of the result comes from this window: its
+    /// first letter is dropped, and another letter is appended. If the rule is mirrored, the last letter is dropped and
+    /// another one is put in front.
     pub fn row(&self, rule: &Rule, back: u8) -> Row
         requires states { rule.now.states ≤ 6 }
         requires back { back < rule.now.states ^ rule.now.width }
@@ -153,7 +160,7 @@ impl Colouring {
         }
     }
 
-    /// Returns the value in old names of the window that has this value in new names. If the rule is mirrored, the
+    /// Returns the value in old names of a window. `window` is its value in new names. If the rule is mirrored, the
     /// window is read from right to left.
     pub fn old_window(&self, rule: &Rule, window: u16) -> u8
         requires states { rule.now.states ≤ 6 }
@@ -176,8 +183,8 @@ impl Colouring {
         old as u8
     }
 
-    /// Returns the value of a word with one more letter, which stands before the word, or after it if the rule is
-    /// mirrored.
+    /// Returns the value of a word with one more letter. The letter is put before the word, or after it if the rule is
+    /// mirrored. `old` is the value of the word, and `power` is k to the power of its length.
     fn with_letter(&self, k: u16, old: u16, power: u16, letter: u8) -> u16
         requires k { k ≤ 6 }
         requires old { old < most_windows }

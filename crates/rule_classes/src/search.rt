@@ -1,4 +1,8 @@
-//! The search for the least rule that colourings make from a rule.
+//! The search for the least rule that colourings make from a rule, that is, the rule with the least Wolfram number.
+//!
+//! A colouring gives each letter a new name, which is called its colour, and says whether the rule is mirrored first. A
+//! colour is free as long as the search hasn't chosen a letter for it. The tables are compared from the greatest window
+//! down, since the entry for this window counts most in a Wolfram number.
 ghost use Rattle.std.specs.Prelude.{◌≡◌, ◌⊎◌, ◌<◌, ◌≤◌, ◌+◌, ◌*◌, IfSome, IsNone, IsTrue, IsFalse};
 ghost use Rattle.word_image.specs.LocalRules.{IsRule, node_count};
 ghost use Rattle.rule_classes.specs.Best.{IsBest};
@@ -9,10 +13,10 @@ use crate::best::Best;
 use crate::colourings::Colouring;
 use word_image::{Rule, Side};
 
-/// Replaces the best rule by a lesser one if some colouring makes it. The colourings have the same letters as this
-/// colouring at the colours that aren't free. The colours from `low` to `high - 1` are free. The search chooses a
-/// letter for the greatest and for the least free colour in turn. It leaves a branch as soon as none of its rules can
-/// be less than the best one.
+/// Tries all colourings that have the same letters as `colouring` at the colours that aren't free. The colours from
+/// `low` to `high - 1` are free. If one of these colourings makes a rule that is less than the best rule, replaces the
+/// best rule by the least such rule. The search chooses a letter for the greatest and for the least free colour in
+/// turn. It leaves a branch as soon as none of its rules can be less than the best one.
 pub fn least_of(rule: &Rule, colouring: Colouring, low: u8, high: u8, best: &mut Best)
     requires states { rule.now.states ≤ 6 }
     requires colouring { IsColouring rule.now.states colouring }
@@ -55,9 +59,9 @@ fn take_lesser(rule: &Rule, colouring: Colouring, best: &mut Best)
     }
 }
 
-/// Returns whether a colouring with the same letters at the colours that aren't free may make a lesser rule than the
-/// best one. It compares only windows all of whose letters are known: windows with the greatest colour everywhere,
-/// except for a last letter whose colour isn't free.
+/// Returns false only if no colouring with the same letters at the chosen colours makes a rule that is less than the
+/// best one. Compares only windows whose letters are all known: at each place except the last they have the greatest
+/// colour, and at the last place a colour from `high` on.
 fn may_be_less(rule: &Rule, colouring: &Colouring, low: u8, high: u8, best: &Best) -> bool
     requires states { rule.now.states ≤ 6 }
     requires colouring { IsColouring rule.now.states colouring.now }
@@ -76,7 +80,7 @@ fn may_be_less(rule: &Rule, colouring: &Colouring, low: u8, high: u8, best: &Bes
     }
 }
 
-/// Returns whether a colouring makes a lesser rule than the best one.
+/// Returns whether a colouring makes a rule that is less than the best one.
 fn is_less(rule: &Rule, colouring: &Colouring, best: &Best) -> bool
     requires rule { IsRule rule.now }
     requires states { rule.now.states ≤ 6 }
@@ -93,10 +97,10 @@ fn is_less(rule: &Rule, colouring: &Colouring, best: &Best) -> bool
     false
 }
 
-/// Compares the tables of a colouring and of the best colouring for the windows that begin with this node. The last
-/// letters go from k - 1 down to `first`. At the first difference it returns whether the colouring may make the
-/// lesser rule. If it finds no difference, it returns None. An entry without a known colour is at least the least
-/// free colour.
+/// Compares the tables of a colouring and of the best colouring for the windows that begin with `node`. The last letter
+/// of these windows goes from k - 1 down to `first`. At the first difference, returns whether the colouring may make
+/// the lesser rule. Returns None if there is no difference. If an entry has a free colour, its final colour isn't
+/// known, but it is at least the least free colour.
 fn told(
     rule: &Rule,
     colouring: &Colouring,

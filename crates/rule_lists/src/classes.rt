@@ -1,4 +1,5 @@
-//! Computes the class of a window. A search sorts the windows by their classes before it fills a table.
+//! The classes of windows. A search fills the table of a rule window by window, and windows of lesser classes come
+//! first.
 ghost use Rattle.std.specs.Prelude.{◌≡◌, ◌≤◌, ◌<◌, ◌+◌, ◌*◌, ◌-◌, ◌/◌, ◌%◌, ◌^◌, ◌==◌, ◌↔◌, ℕ, IsTrue, slice_index};
 ghost use Rattle.word_image.specs.LocalRules.{IsRule, most_windows};
 ghost use Rattle.rule_lists.specs.Orders.{class_of, ring_class, ring_number, turned, has_period, weight_class};
@@ -6,7 +7,7 @@ ghost use Rattle.rule_lists.specs.Orders.{class_of, ring_class, ring_number, tur
 use crate::properties::Property;
 use word_image::{MOST_ENTRIES, Rule};
 
-/// Returns the class of each window, at the place of the window's value. All places after the windows are 0.
+/// Returns the class of each window, at the window's value. Zeros follow the classes of all windows.
 pub(crate) fn classes_of(property: Property, shape: &Rule) -> [u32; MOST_ENTRIES]
     ensures { (w : ℕ) → w < shape.now.states ^ shape.now.width → slice_index result w ≡ class_of property shape.now.states shape.now.width w }
 {
@@ -17,7 +18,8 @@ pub(crate) fn classes_of(property: Property, shape: &Rule) -> [u32; MOST_ENTRIES
     classes
 }
 
-/// Returns the class of a window for this property. A search fills windows of lesser classes first.
+/// Returns the class of a window for this property: its ring class for injective and conserving rules, and its weight
+/// class for all others.
 fn class_for(property: Property, shape: &Rule, window: u16) -> u32
     ensures { result ≡ class_of property shape.now.states shape.now.width window }
 {
@@ -27,8 +29,8 @@ fn class_for(property: Property, shape: &Rule, window: u16) -> u32
     }
 }
 
-/// Returns the class of a window by rings. Its value is 256 times the length of the shortest ring around which the
-/// window can be read, plus the least value of this ring, read from any of its letters.
+/// Returns the ring class of a window: 256 times the length of the shortest ring around which the window can be read,
+/// plus the least value among the rotations of this ring.
 fn ring_class(shape: &Rule, window: u16) -> u32
     ensures { result ≡ ring_class shape.now.states shape.now.width window }
 {
@@ -54,8 +56,8 @@ fn ring_number(shape: &Rule, window: u16, length: u8) -> u32
     u32::from(length) * 256 + least
 }
 
-/// Returns the value of a ring of `length` letters if it is read from the letter at place `from`. `ring` is its value
-/// if it is read from place 0.
+/// Returns the value of the word that you get if you read a ring once around from the letter at place `from`. `ring` is
+/// the value of the ring if it is read from place 0. The ring has `length` letters.
 fn turned(shape: &Rule, ring: u32, length: u8, from: u8) -> u32
     requires small { ring < 2 ^ 16 }
     requires within { length ≤ shape.now.width }
@@ -76,8 +78,7 @@ fn has_period(shape: &Rule, window: u16, length: u8) -> bool
     first == last
 }
 
-/// Returns the class of a window by letters: 8 times the greatest letter of the window, plus the number of its letters
-/// other than 0.
+/// Returns the weight class of a window: 8 times its greatest letter, plus the number of its letters other than 0.
 fn weight_class(shape: &Rule, window: u16) -> u32
     ensures { result ≡ weight_class shape.now.states shape.now.width window }
 {

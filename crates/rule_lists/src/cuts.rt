@@ -1,5 +1,9 @@
-//! Tests whether known letters of a table rule out a property, whatever the other letters are. A hint is a walk of
-//! pairs of nodes that may show this. Unproved code finds hints, and the functions here test them.
+//! Tests whether known letters of a table rule out a property, whatever the other letters are.
+//!
+//! A search fills tables window by window, in a given order. The letters so far are called known. Some letters of the
+//! table are fixed in advance. A rule is listed if it has the property and all fixed letters. A node is a word of m - 1
+//! letters. Known letters lead from a pair of nodes to another pair along two windows with the same known letter. A
+//! hint is a walk of such pairs, stored as links from pair to pair. It may be wrong, so this file tests it.
 ghost use Rattle.std.specs.Prelude.{◌≡◌, ◌≢◌, ◌^◌, ◌<◌, ◌≤◌, ℕ, IsTrue, ◌-◌, length, slice_index};
 ghost use Rattle.word_image.specs.LocalRules.{IsRule, most_windows};
 ghost use Rattle.rule_lists.specs.Searches.{AreEntries, AreForbidden, IsOrdered, size_of};
@@ -17,8 +21,8 @@ use crate::tables::Entries;
 use crate::walks::{has_one_node, is_round, is_tail};
 use word_image::{Rule, Side};
 
-/// Returns true only if no listed rule has the letters of the table at the first n windows of the order. May return
-/// false although no listed rule has them. The hints must have been told all of these letters except the last one.
+/// Returns true only if no listed rule has the letters of the table at the first n windows of the order. Even if there
+/// is no such rule, the result may be false. The hints must already have all of these letters except the last one.
 pub(crate) fn forbids(asked: &Asked, entries: &Entries, n: u16, hints: &mut Hints) -> bool
     requires order { IsOrdered asked.now }
     requires table { AreEntries asked.now entries.now }
@@ -80,8 +84,8 @@ fn bars(property: Property, shape: &Rule, letters: &Letters, hint: &Hint) -> boo
     }
 }
 
-/// Tests a hint that no rule with these letters is surjective. Returns whether the walk of the hint shows that the
-/// letters lead from a pair of two equal nodes, first by two different letters, to a pair of two equal nodes.
+/// Returns whether a hint shows that no rule with these letters is surjective. Its links must show that the letters
+/// lead from a node with itself, first by two different letters, to a pair of two equal nodes.
 fn is_lost(shape: &Rule, letters: &Letters, hint: &Hint) -> bool
     ensures { IsTrue result → IsLost shape.now.states shape.now.width letters.now }
 {
@@ -95,9 +99,9 @@ fn is_lost(shape: &Rule, letters: &Letters, hint: &Hint) -> bool
     is_tail(Side::Right, shape, letters, hint.predecessors(), pair)
 }
 
-/// Tests a hint that no rule with these letters is injective. Returns true if `is_lost` returns true. Otherwise returns
-/// whether the walk of the hint shows that the letters lead from a pair of two different nodes around a loop back to
-/// this pair.
+/// Returns whether a hint shows that no rule with these letters is injective. It can do so in two ways. It shows that
+/// no rule with these letters is surjective. Or its links show that the letters lead from a pair of two different nodes
+/// around a loop back to this pair.
 fn bars_injective(shape: &Rule, letters: &Letters, hint: &Hint) -> bool
     ensures { IsTrue result → Bars Injective shape.now.states shape.now.width letters.now }
 {
@@ -114,9 +118,9 @@ fn bars_injective(shape: &Rule, letters: &Letters, hint: &Hint) -> bool
     is_round(Side::Right, shape, letters, hint.successors(), pair)
 }
 
-/// Tests a hint that no rule with these letters closes on this side. Returns true if the walk of the hint shows two
-/// things. The letters lead from a pair of two equal nodes, first by two different letters, to the pair of the hint.
-/// And the pair of the hint has two equal nodes, or the letters lead from it around a loop back to it.
+/// Returns whether a hint shows that no rule with these letters closes on this side. Its links must show two things
+/// about its pair. The letters lead to the pair from a node with itself, first by two different letters. The pair has
+/// two equal nodes, or the letters lead from it around a loop back to it.
 fn bars_closing(side: Side, shape: &Rule, letters: &Letters, hint: &Hint) -> bool
     ensures { IsTrue result → BarsClosing side shape.now.states shape.now.width letters.now }
 {
@@ -133,7 +137,8 @@ fn bars_closing(side: Side, shape: &Rule, letters: &Letters, hint: &Hint) -> boo
     is_round(side, shape, letters, hint.successors(), pair)
 }
 
-/// Tests a hint that no rule with these letters is open: a hint that no such rule closes on the side of the hint.
+/// Returns whether a hint shows that no rule with these letters is open. It must show that no such rule closes on the
+/// side of the hint.
 fn bars_open(shape: &Rule, letters: &Letters, hint: &Hint) -> bool
     ensures { IsTrue result → Bars Open shape.now.states shape.now.width letters.now }
 {

@@ -1,8 +1,9 @@
-//! The edges of the windows whose letters are known, and steps along these edges.
+//! The edges of the windows whose letters are known, and steps along these edges. A search fills the table of a rule
+//! window by window, and the letters so far are called known. A node is a word of m - 1 letters.
 use word_image::{EdgeRows, MOST_ENTRIES, MOST_NODES, MOST_STATES, Rule, Side};
 
 /// The edges of the windows whose letters are known: forward edges on the right side, backward edges on the left. The
-/// functions have no contracts, since every result that is found with them is tested afterwards.
+/// functions of this type have no contracts, since another test checks everything that is found with them.
 #[derive(Drop)]
 pub(crate) struct Edges {
     /// For each window the node at which its edge begins.
@@ -22,7 +23,7 @@ pub(crate) struct Edges {
 }
 
 impl Edges {
-    /// Makes the edges of a shape on this side, at first without any edge.
+    /// Makes the value for a shape and a side. It has no edges yet.
     pub(crate) fn of(side: Side, shape: &Rule) -> Edges {
         let mut from = [0; MOST_ENTRIES];
         let mut to = [0; MOST_ENTRIES];
@@ -61,7 +62,7 @@ impl Edges {
         self.to[usize::from(window)]
     }
 
-    /// Returns the window whose edge leads from this node on this letter.
+    /// Returns the window whose edge begins at this node and follows this letter.
     pub(crate) fn window(&self, node: u8, letter: u8) -> u8 {
         node.wrapping_mul(self.node_step)
             .wrapping_add(letter.wrapping_mul(self.letter_step))

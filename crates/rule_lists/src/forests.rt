@@ -1,6 +1,8 @@
-//! Finds what fixed letters say about the fluxes of conserving rules. A flux has a number for each node. For each
-//! window, the letter of the rule minus the first letter of the window is the number of the first node minus the number
-//! of the last node.
+//! Finds what fixed letters say about the flux of a conserving rule.
+//!
+//! A node is a word of m - 1 letters. A flux has a number for each node. The letter for a window minus the window's
+//! first letter is the number of its first node minus the number of its last node. So if the letter for a window is
+//! fixed, the difference of the numbers of its two nodes is known. The window then joins its two nodes to a tree.
 ghost use Rattle.std.specs.Prelude.{◌≡◌, ◌+◌, ◌*◌, ◌^◌, ◌<◌, ◌≤◌, ℕ, ℤ, List, slice_index};
 ghost use Rattle.word_image.specs.LocalRules.{node_count, most_nodes, most_windows};
 ghost use Rattle.rule_lists.specs.Forests.{AreKnown, AreLevels, AreUpTo, GainsWith, IsMoved};
@@ -8,8 +10,8 @@ ghost use Rattle.rule_lists.specs.Forests.{AreKnown, AreLevels, AreUpTo, GainsWi
 use crate::letters::Letters;
 use word_image::{MOST_NODES, Rule, Side};
 
-/// Trees of nodes, with a level for each node. Two nodes of the same tree have levels that differ by as much as the
-/// numbers of these nodes in each flux of each conserving rule with the fixed letters.
+/// Trees of nodes, with a level for each node. The levels of two nodes of the same tree have a known difference. The
+/// numbers of these two nodes have the same difference in each flux of each conserving rule with the fixed letters.
 #[derive(Clone, Copy, Debug)]
 pub(crate) struct Forest {
     /// For each node the number of its tree.
@@ -22,7 +24,7 @@ pub(crate) struct Forest {
 /// most 16 nodes and 16 letters.
 const MOST_RISE: u32 = 1 << 20;
 
-/// Returns the forest after each window with a fixed letter has joined the trees of its two nodes.
+/// Returns the forest of the fixed letters: each window with a fixed letter has joined the trees of its two nodes.
 pub(crate) fn forest_of(shape: &Rule, letters: &Letters) -> Forest
     ensures known { AreKnown shape.now letters.now result.trees result.levels }
     ensures small { AreUpTo (most_windows * 1048576) result.levels }
@@ -49,8 +51,8 @@ fn single_nodes() -> Forest
     }
 }
 
-/// Returns the forest after this window has joined the trees of its two nodes. If its letter isn't fixed, returns the
-/// same forest.
+/// Joins the trees of the two nodes of this window, if its letter is fixed, and returns the new forest. If its letter
+/// isn't fixed, returns the same forest.
 fn with_letter(shape: &Rule, letters: &Letters, window: u16, forest: &Forest) -> Forest
     requires window { window < shape.now.states ^ shape.now.width }
     requires known { AreKnown shape.now letters.now forest.now.trees forest.now.levels }
@@ -66,8 +68,9 @@ fn with_letter(shape: &Rule, letters: &Letters, window: u16, forest: &Forest) ->
     with_window(shape, window, letter, forest)
 }
 
-/// Returns the forest after this window has joined the trees of its first and its last node. `letter` is the letter of
-/// the rule at this window, and determines how the levels of the two nodes differ.
+/// Joins the trees of the two nodes of this window, and returns the new forest. `letter` is the letter for the window.
+/// In a flux, `letter` minus the first letter of the window is the number of the first node minus the number of the
+/// last node.
 fn with_window(shape: &Rule, window: u16, letter: u8, forest: &Forest) -> Forest
     requires window { window < shape.now.states ^ shape.now.width }
     requires small { AreUpTo (window * 1048576) forest.now.levels }
@@ -92,8 +95,8 @@ fn with_window(shape: &Rule, window: u16, letter: u8, forest: &Forest) -> Forest
     joined(forest, kept, rise, gone, other)
 }
 
-/// Returns the forest after the tree `gone` has been joined to the tree `kept`. The levels of `kept` grow by `rise`,
-/// and the levels of `gone` grow by `other`.
+/// Joins the tree `gone` to the tree `kept`, and returns the new forest. The levels of `kept` grow by `rise`, and the
+/// levels of `gone` grow by `other`.
 fn joined(forest: &Forest, kept: u8, rise: u32, gone: u8, other: u32) -> Forest
     requires levels { (v : ℕ) → v < most_nodes → slice_index forest.now.levels v < 2 ^ 31 }
     requires first { rise < 2 ^ 31 }

@@ -1,5 +1,8 @@
-//! Finds hints letter by letter. A hint is a walk of pairs of nodes which shows that the known letters of a table rule
-//! out a property.
+//! Hints that known letters rule out a property, found letter by letter.
+//!
+//! A search fills the table of a rule window by window, in a given order. The letters so far are called known, and some
+//! letters are fixed in advance. Known letters lead from a pair of nodes to another pair along two windows with the
+//! same known letter. A hint is a walk of such pairs that shows that no rule with the known letters has the property.
 ghost use Rattle.std.specs.Prelude.{◌≤◌, length};
 ghost use Rattle.word_image.specs.LocalRules.{most_windows};
 
@@ -11,17 +14,17 @@ use crate::rounds::Rounds;
 use crate::tables::Entries;
 use word_image::{MOST_ENTRIES, Rule, Side};
 
-/// Finds hints on one side. It keeps the pairs to which the letters so far lead, so it only has to follow the last
-/// letter. It has no contract: each hint is tested before it is used.
+/// Finds hints on one side. For each number of known letters it stores the pairs to which these letters lead. So it
+/// only has to look at the last letter. It has no contract: each hint is tested before it is used.
 #[derive(Drop)]
 pub(crate) struct Hint {
     /// The property that the hints may rule out.
     property: Property,
-    /// The side to which edges are followed.
+    /// The side of the hints. Edges are followed forward on the right side, and backward on the left.
     pub(crate) side: Side,
     /// The known letters, by the values of the windows, and 255 at all other windows.
     letters: Letters,
-    /// How many windows, from the first one of the order on, have a known letter.
+    /// The number of windows at the beginning of the order that have a known letter.
     placed: u16,
     /// Whether the fixed letters give a hint without any other letter.
     begun: bool,
@@ -72,9 +75,9 @@ impl Hint {
         &self.rounds.after
     }
 
-    /// Adds the letter at the last of the first n windows of the order. The letters at the windows before it must have
-    /// been added. Returns whether these letters and the fixed letters give a hint that the property is ruled out.
-    /// Looks for loops only if `looking` is true.
+    /// Adds the letter at window n - 1 of the order. The letters at all windows before it must have been added earlier.
+    /// Returns whether there is a hint that all these letters and the fixed letters rule out the property. If n is 0,
+    /// adds nothing and returns whether the fixed letters give a hint. Looks for loops only if `looking` is true.
     fn see(&mut self, asked: &Asked, entries: &Entries, n: u16, looking: bool) -> bool
         requires within { n ≤ length asked.now.order.now }
         requires few { length asked.now.order.now ≤ most_windows }
@@ -122,8 +125,8 @@ impl Hint {
         false
     }
 
-    /// Returns the number of a pair on a loop that the last known letter closes, or None if it closes no loop that
-    /// rules out the property. For example, no loop rules out that a rule is surjective.
+    /// Returns the number of a pair on a loop that the last known letter closes. Returns None if the letter closes no
+    /// loop, or if a loop doesn't rule out the property. For example, no loop rules out that a rule is surjective.
     fn round(&mut self, window: u8, letter: u8) -> Option<u8> {
         let from = self.reach.edges.first_node(window);
         let nodes = match self.property {
@@ -167,7 +170,7 @@ impl Hints {
         }
     }
 
-    /// Adds the letters at the first n - 1 windows of the order, one after another, except those that have been added
+    /// Adds the letters at the first n - 1 windows of the order, one after another. Skips letters that have been added
     /// before.
     pub(crate) fn catch_up(&mut self, asked: &Asked, entries: &Entries, n: u16)
         requires within { n ≤ length asked.now.order.now }
@@ -178,10 +181,9 @@ impl Hints {
         }
     }
 
-    /// Adds the letter at the last of the first n windows of the order. The letters at the windows before it must have
-    /// been added. Returns whether these letters and the fixed letters give a hint that the property is ruled out.
-    /// Looks for loops only if `looking` is true. Always returns true for conserving rules, since their test uses no
-    /// hints.
+    /// Adds the letter at window n - 1 of the order. The letters at all windows before it must have been added earlier.
+    /// Returns whether there is a hint that all these letters and the fixed letters rule out the property. Looks for
+    /// loops only if `looking` is true. Always returns true for conserving rules, since their test uses no hints.
     pub(crate) fn see(&mut self, asked: &Asked, entries: &Entries, n: u16, looking: bool) -> bool
         requires within { n ≤ length asked.now.order.now }
         requires few { length asked.now.order.now ≤ most_windows }

@@ -1,4 +1,4 @@
-//! Letters of a table that are fixed in advance.
+//! The letters of a table that are fixed in advance. A search only lists rules that have these letters.
 ghost use Rattle.std.specs.Prelude.{◌≡◌, ◌<◌, IsTrue, slice_index};
 ghost use Rattle.word_image.specs.LocalRules.{most_windows};
 

@@ -13,10 +13,10 @@
 //! If the windows are in the order 111, 110, .., 000, the rank is the Wolfram number. Then the search returns the
 //! surjective rules of two states and width 3 as 15, 30, 45, 51, 60, .., 240, which are 30 rules.
 //!
-//! Walks of pairs of nodes show that known letters rule out a property. A node is a word of m - 1 letters, and each
-//! window with a known letter is an edge from its first m - 1 letters to its last m - 1 letters. Known letters lead
-//! from a pair of nodes to another pair if two edges with the same known letter lead from the nodes of the first pair
-//! to the nodes of the second. They rule out properties in three ways:
+//! Walks of pairs of nodes show that known letters rule out a property. A node is a word of m - 1 letters. Each window
+//! with a known letter is an edge from its first m - 1 letters to its last m - 1 letters. Known letters lead from a
+//! pair of nodes to another pair if two edges with the same known letter lead from the nodes of the first pair to the
+//! nodes of the second. They rule out properties in three ways:
 //!
 //! - They lead from a pair of two equal nodes, first by two different letters, to a pair of two equal nodes. Then no
 //!   rule with these letters is surjective. For example, if the windows 000, 001, 010 and 100 all have the letter 0,
@@ -25,8 +25,9 @@
 //! - They lead from a pair of two equal nodes, first by two different letters, to such a loop. Then no rule with these
 //!   letters is right-closing. If the edges are followed backward, no rule with these letters is left-closing.
 //!
-//! A hint is a walk of one of these three kinds. Unproved code finds it quickly. It has links from each pair to the
-//! pair before or to the next pair. A proved test follows the links before the search gives up any letters.
+//! A hint is a walk of one of these three kinds. Unproved code finds hints quickly. It stores a hint as links: from
+//! each pair to the pair before it, or to the next pair. A proved test follows the links before the search gives up any
+//! letters.
 //!
 //! A forest shows that known letters rule out that a rule is conserving. The flux of a conserving rule gives a number
 //! to each node. A known letter at a window determines the difference of the numbers of its two nodes, so it joins

@@ -58,7 +58,8 @@ fn keeps_sums(rule: &Rule) -> bool
     is_conserving(rule, &Weights::own(rule.k()))
 }
 
-/// Returns the pairs of nodes at which two walks of any length with equal labels begin, and those at which they end.
+/// Returns the endless pairs of a rule: the pairs of nodes from which, forward or backward, walks of every length with
+/// equal labels lead.
 fn endless(rule: &Rule) -> Endless
     ensures { result ≡ rule.now }
 {

@@ -1,5 +1,8 @@
-//! Two walks with equal labels leave a node by two different letters. This file finds the pairs of nodes to which such
-//! walks lead, along windows whose letters are known.
+//! The pairs of nodes to which known letters lead from a node with itself.
+//!
+//! A search fills the table of a rule window by window, and the letters so far are called known. Known letters lead
+//! from a pair of nodes to another pair along two windows with the same known letter. A node is a word of m - 1
+//! letters.
 ghost use Rattle.std.specs.Prelude.{◌<◌};
 
 use crate::edges::{Edges, bit, first_node};
@@ -9,12 +12,12 @@ use word_image::{MOST_NODES, MOST_PAIRS, Rule, Side};
 /// For each pair of nodes, by its number, the number of another pair: the pair before it or after it on a walk.
 pub(crate) type Links = [u8; MOST_PAIRS];
 
-/// The length of a list with a place for each number of known letters, from 0 to 256.
+/// The number of whole numbers from 0 to 256. The number of known letters is one of these.
 const MOST_LEVELS: usize = 257;
 
-/// The pairs of nodes that have been found. Known letters lead to each of them from a pair of two equal nodes, first by
-/// two different letters. The pairs are in the order in which they were found. One more known letter adds pairs at the
-/// end, and the pairs are removed again if this letter is taken back.
+/// The pairs of nodes to which known letters lead from a node with itself, first by two different letters. They are in
+/// the order in which they were found. If one more letter is known, more pairs are added at the end. If the letter is
+/// removed, these pairs are removed again.
 #[derive(Drop)]
 pub(crate) struct Reach {
     /// The edges of the windows whose letters are known.
@@ -54,8 +57,8 @@ impl Reach {
         self.counts[usize::from(n)] = self.count;
     }
 
-    /// Takes back the letters after the first n windows of the order: removes the pairs that were found from these
-    /// letters.
+    /// Keeps only the pairs that were found when only the letters at the first n windows of the order were known.
+    /// Removes all later pairs.
     pub(crate) fn go_back(&mut self, n: u16)
         requires { n < 257 }
     {
@@ -128,8 +131,8 @@ impl Reach {
         None
     }
 
-    /// Adds the pairs of the node `to` with the nodes of `ends`, to which steps lead from `pair`. Returns whether
-    /// `to` is in `ends`, which means that a step leads to a pair of two equal nodes.
+    /// Adds the pairs of the node `to` with the nodes of `ends`. Steps lead from `pair` to these pairs. Returns whether
+    /// `to` is in `ends`: then a step leads to a pair of two equal nodes.
     fn join(&mut self, pair: (u8, u8), to: u8, ends: u16) -> bool {
         let mut rest = ends & !self.rows[usize::from(to % 16)];
         for _ in 0..MOST_NODES {

@@ -1,15 +1,16 @@
-//! Finds loops of pairs of different nodes: walks that return to the pair at which they begin. A step leads from a pair
-//! to a pair along two edges with the same known letter.
+//! Loops of pairs of different nodes: walks that return to the pair at which they begin. A step of a walk leads from a
+//! pair to another pair along two windows whose known letters are equal. The letters of the table that a search has
+//! already filled are called known.
 use crate::edges::{Edges, bit, first_node};
 use crate::letters::Letters;
 use crate::reach::Links;
 use word_image::{MOST_NODES, MOST_PAIRS};
 
-/// A limit on the steps of a search, which no search reaches. There are at most 120 pairs of different nodes, and at
-/// most 256 pairs can come after each of them.
+/// A number of steps that no search reaches. There are at most 120 pairs of different nodes, and at most 256 pairs can
+/// come after each of them.
 const MOST_TURNS: u16 = 40_000;
 
-/// A pair on the walk, and which pairs after it haven't been tried yet.
+/// A pair on the walk of a depth-first search, and the pairs after it that haven't been tried.
 #[derive(Clone, Copy)]
 struct Stop {
     /// The two nodes of the pair.
@@ -18,7 +19,7 @@ struct Stop {
     letter: u8,
     /// The first node of the pairs to which the last tried letter leads.
     to: u8,
-    /// The set of the second nodes of these pairs, without the pairs that have been tried.
+    /// The second nodes of the pairs to which the last tried letter leads. Only pairs that haven't been tried count.
     rest: u16,
 }
 
@@ -33,7 +34,8 @@ pub(crate) struct Rounds {
     depth: u8,
     /// For each node the set of nodes with which it forms a pair of the walk.
     open: [u16; MOST_NODES],
-    /// For each node the set of nodes with which it forms a finished pair: all pairs after it have been tried.
+    /// For each node the set of nodes with which it forms a finished pair. All next pairs after a finished pair have
+    /// been tried.
     done: [u16; MOST_NODES],
 }
 
@@ -114,7 +116,8 @@ impl Rounds {
         self.open[usize::from(pair.1 % 16)] |= bit(pair.0);
     }
 
-    /// Tries the next pair after the last pair of the walk. Adds it to the walk unless it is finished.
+    /// Takes the next pair to which the last tried letter leads from the last pair of the walk. Adds it to the walk,
+    /// unless it is finished: all pairs after it have been tried before.
     fn go_on(&mut self, top: u8, stop: Stop) {
         let end = first_node(stop.rest);
         self.stops[usize::from(top)].rest = stop.rest & !bit(end);
@@ -133,8 +136,8 @@ impl Rounds {
         self.done[usize::from(v % 16)] |= bit(u);
     }
 
-    /// Takes the next letter on which steps lead from the last pair of the walk. Returns whether one of these steps
-    /// leads to a pair on the walk, which closes a loop.
+    /// Tries the next letters at the first node of the last pair, until a letter leads to pairs that aren't finished.
+    /// Returns whether one of these pairs is on the walk already, which closes a loop.
     fn turn(&mut self, edges: &Edges, letters: &Letters, top: u8) -> bool {
         let stop = self.stops[usize::from(top)];
         for letter in stop.letter..edges.k() {

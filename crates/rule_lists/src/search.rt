@@ -1,4 +1,8 @@
-//! The search for the next listed rule: the next rule that has a shape, a property and some fixed letters.
+//! The search for the next listed rule.
+//!
+//! A search fills the table of a rule window by window, in a given order. The letters so far are called known. Some
+//! letters are fixed in advance. A rule is listed if it has the shape, the offset 0, the property and all fixed
+//! letters. Its rank is the number whose digits are its letters in the order of the windows.
 ghost use Rattle.std.specs.Prelude.{◌≡◌, ◌^◌, ◌<◌, ◌≤◌, ℕ, None, Some, IfSome, IsNone, slice_index, pos};
 ghost use Rattle.word_image.specs.LocalRules.{IsShape, IsRule};
 ghost use Rattle.rule_lists.specs.Tables.{IsTable, IsPast};
@@ -43,8 +47,8 @@ impl<'a> Search<'a> {
         }
     }
 
-    /// Makes a search that begins after this rule of the shape. The rule need not have the property. Every rule that
-    /// the search returns has a greater rank.
+    /// Makes a search that begins after this rule of the shape, which need not have the property. Every rule that the
+    /// search returns has a greater rank.
     pub fn resume_after(asked: Asked<'a>, rule: &Rule) -> Search<'a>
         requires order { IsOrdered asked }
         requires shape { HasShape asked rule.now }
@@ -80,8 +84,8 @@ impl<'a> Iterator for Search<'a> {
     }
 }
 
-/// Returns the listed rule of least rank after the rule `last`. If `last` is None, returns the listed rule of least
-/// rank. Returns None if there is no such rule.
+/// Returns the listed rule of least rank among those that come after the rule `last`, or among all of them if `last` is
+/// None. Returns None if there is no such rule.
 fn next_listed(asked: &Asked, last: &Option<Rule>, hints: &mut Hints) -> Option<Rule>
     requires order { IsOrdered asked.now }
     requires shape { IfSome last.now (HasShape asked.now) }
@@ -126,8 +130,8 @@ fn entries_of(rule: &Rule) -> Entries
     entries
 }
 
-/// Returns the first listed rule, by rank, whose letters at the first n windows of the order are the letters of `start`
-/// or come after them. Here n is the number in `first`. Returns None if there is no such rule, or if `first` is None.
+/// Returns the listed rule of least rank that doesn't come before `start`. The comparison with `start` only looks at
+/// the first n windows of the order, if `first` is n. Returns None if there is no such rule, or if `first` is None.
 fn rule_from(asked: &Asked, start: Entries, first: Option<u16>, hints: &mut Hints) -> Option<Rule>
     requires order { IsOrdered asked.now }
     requires table { AreEntries asked.now start }
@@ -145,8 +149,8 @@ fn rule_from(asked: &Asked, start: Entries, first: Option<u16>, hints: &mut Hint
     None
 }
 
-/// Returns the rule of the table if all windows are filled and the rule is listed, and None otherwise. n is the number
-/// of windows that are filled.
+/// Returns the rule of the table if the letters at all windows are known and the rule is listed, and None otherwise.
+/// `n` is the number of windows whose letters are known.
 fn found(asked: &Asked, entries: &Entries, n: u16) -> Option<Rule>
     requires order { IsOrdered asked.now }
     requires table { AreEntries asked.now entries.now }
@@ -178,9 +182,10 @@ fn filled(k: u8, m: u8, entries: &Entries) -> Rule
     Rule::from_fn(k, m, 0, |window| entries[usize::from(window)])
 }
 
-/// Makes one step of a search after the letters at the first n windows of the order are known. Adds the letter 0 at the
-/// next window. If the table is complete or its letters rule out the property, it replaces the letters by the next ones
-/// instead. Returns how many windows have known letters afterwards, or None if there are no next letters.
+/// Makes one step of a search. The letters at the first n windows of the order are known. The step adds the letter 0 at
+/// the next window. But if the table is complete, or if its letters rule out the property, the step replaces the
+/// letters by the next ones. Returns the number of windows whose letters are known afterwards, or None if there are no
+/// next letters.
 fn step(asked: &Asked, entries: &mut Entries, n: u16, hints: &mut Hints) -> Option<u16>
     requires order { IsOrdered asked.now }
     requires table { AreEntries asked.now entries.old }

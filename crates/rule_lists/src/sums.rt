@@ -1,4 +1,7 @@
-//! Tests whether fixed letters rule out that a rule conserves the sum of the letters of every ring.
+//! Tests whether fixed letters rule out that a rule conserves the sum of every ring.
+//!
+//! The flux of a conserving rule has a number for each node, which is a word of m - 1 letters. Fixed letters join nodes
+//! to trees. Each node has a level, and the levels of two nodes of a tree differ as their numbers do.
 ghost use Rattle.std.specs.Prelude.{◌≡◌, ◌*◌, ◌^◌, ◌<◌, IsTrue};
 ghost use Rattle.word_image.specs.LocalRules.{most_windows};
 ghost use Rattle.rule_lists.specs.Bars.{Bars};
@@ -9,7 +12,7 @@ use crate::forests::{Forest, forest_of};
 use crate::letters::Letters;
 use word_image::{Rule, Side};
 
-/// Returns true only if no rule with the fixed letters is conserving, if each letter weighs its own value.
+/// Returns true only if no rule with the fixed letters is conserving. Here each letter weighs its own value.
 pub(crate) fn bars_conserving(shape: &Rule, letters: &Letters) -> bool
     ensures { IsTrue result → Bars Conserving shape.now.states shape.now.width letters.now }
 {
@@ -22,8 +25,8 @@ pub(crate) fn bars_conserving(shape: &Rule, letters: &Letters) -> bool
     false
 }
 
-/// Returns whether this window shows that no rule with the fixed letters is conserving. It does if its nodes are in the
-/// same tree of the forest, and the letter that the levels of the nodes demand isn't below k or isn't the fixed letter.
+/// Returns whether this window shows that no rule with the fixed letters is conserving. It does if its two nodes are in
+/// the same tree, and the letter that their levels demand isn't below k or isn't the fixed letter.
 fn has_no_letter(shape: &Rule, letters: &Letters, forest: &Forest, window: u16) -> bool
     requires window { window < shape.now.states ^ shape.now.width }
     requires known { AreKnown shape.now letters.now forest.now.trees forest.now.levels }

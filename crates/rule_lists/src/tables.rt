@@ -1,4 +1,4 @@
-//! Tables of letters that a search fills window by window.
+//! Tables of letters that a search fills window by window, in a given order.
 ghost use Rattle.std.specs.Prelude.{◌≡◌, ◌+◌, ◌-◌, ◌*◌, ◌^◌, ◌<◌, ◌≤◌, ◌↔◌, ℕ, List, IfSome, IsTrue, length, slice_index};
 ghost use Rattle.word_image.specs.LocalRules.{most_windows};
 ghost use Rattle.rule_lists.specs.Ranks.{IsOrder, rank_of_first};
@@ -7,10 +7,10 @@ ghost use Rattle.rule_lists.specs.Tables.{IsTable, HasLetters, IsPast};
 use crate::letters::Letters;
 use word_image::MOST_ENTRIES;
 
-/// The letters of a table, by the values of the windows. The numbers after them don't matter.
+/// The letters of a table, at the values of the windows. Any numbers follow the letters.
 pub(crate) type Entries = [u8; MOST_ENTRIES];
 
-/// Returns whether a table has each letter that is fixed at a window below `size`.
+/// Returns whether a table has all fixed letters at the windows below `size`.
 pub(crate) fn has_letters(k: u8, begin: &Letters, entries: &Entries, size: u16) -> bool
     requires { size ≤ most_windows }
     ensures { IsTrue result ↔ HasLetters k size begin.now entries.now }
@@ -23,8 +23,9 @@ pub(crate) fn has_letters(k: u8, begin: &Letters, entries: &Entries, size: u16) 
     true
 }
 
-/// Replaces the letters at the first n windows of the order by the next letters, in the order of ranks. Returns how
-/// many windows have known letters afterwards, at most n, or None if there are no next letters.
+/// Replaces the letters at the first n windows of the order by the next letters. The last of these letters that can
+/// grow grows by 1, and the letters after it aren't known any longer. Returns the number of windows whose letters are
+/// known afterwards, which is at most n, or None if there are no next letters.
 pub(crate) fn advance(k: u8, order: &[u8], entries: &mut Entries, n: u16) -> Option<u16>
     requires states { 2 ≤ k }
     requires order { (size : ℕ) × (size ≤ most_windows) × IsOrder size order.now }

@@ -1,5 +1,9 @@
 //! Laws of lists of rules: ranks distinguish rules, a search lists each rule once, and fixed letters rule out
 //! properties.
+//!
+//! Some letters of a table are fixed in advance. A rule is listed if it has the shape, the offset 0, the property and
+//! all fixed letters. Its rank is the number whose digits are its letters in a given order of the windows. Fixed
+//! letters lead from a pair of nodes to another pair along two windows with the same fixed letter.
 ghost use Rattle.std.specs.Prelude.{◌≡◌, ◌≢◌, ◌+◌, ◌/◌, ◌%◌, ◌^◌, ◌<◌, ◌≤◌, ◌↔◌, ℕ, ℤ, List, Contains, None, length, slice_index, slice_set};
 ghost use Rattle.word_image.specs.LocalRules.{LocalRule, IsRule, node_count};
 ghost use Rattle.word_image.specs.Graphs.{first_of, second_of};
@@ -30,8 +34,8 @@ pub fn calls_list_each_rule_once()
     ensures { (property : Property) (k m : ℕ) (begin order : List ℕ) (rules : List LocalRule) → IsOrder (k ^ m) order → AreAll property k m begin order None rules → AreListed property k m begin order rules }
 {}
 
-/// Law: suppose that no letter is fixed at a window. Then a rule is listed if and only if it is listed after some
-/// letter a has also been fixed at this window. Only one letter a is possible. So the lists for all letters a are
+/// Law: suppose that no letter is fixed at a window. Then a rule is listed if and only if, for some letter a, it is
+/// listed after a has also been fixed at this window. Only one letter a is possible. So the lists for all letters a are
 /// parts of the whole list, and add up to it.
 pub fn parts_add_up()
     ensures every { (property : Property) (k m : ℕ) (begin : List ℕ) (w : ℕ) (r : LocalRule) → w < k ^ m → w < length begin → k ≤ slice_index begin w
@@ -47,23 +51,24 @@ pub fn fixed_erasable_pair_forbids_surjective()
     ensures { (r s : LocalRule) (letters : List ℕ) (p : ℕ) → IsRule r → IsFixedReached r letters p → first_of r p ≡ second_of r p → IsCompletion r.states r.width letters s → ¬ IsSurjective s }
 {}
 
-/// Law: suppose that fixed letters lead from a pair of two different nodes to further pairs without end, both forward
+/// Law: take a pair of two different nodes. Suppose that fixed letters lead on from this pair for ever, both forward
 /// and backward. Then no rule with these letters is injective.
 pub fn fixed_endless_nodes_forbid_injective()
     ensures { (r s : LocalRule) (letters on back : List ℕ) (p : ℕ) → IsRule r → AreEndlessOn Right r letters (Contains on) → AreEndlessOn Left r letters (Contains back)
         → Contains on p → Contains back p → first_of r p ≢ second_of r p → IsCompletion r.states r.width letters s → ¬ IsInjective s }
 {}
 
-/// Law: suppose that the two nodes of a window are in the same tree of a forest for the fixed letters. Then the levels
-/// of the two nodes determine the letter that each conserving rule with the fixed letters gives for this window.
+/// Law: suppose that the two nodes of a window are in the same tree of a forest for the fixed letters. Such a forest
+/// gives a level to each node. Within a tree, the levels of two nodes differ as the numbers of these nodes in a flux
+/// do. Then the levels determine the letter that each conserving rule with the fixed letters gives for this window.
 pub fn levels_give_letters_of_conserving()
     ensures { (r s : LocalRule) (letters trees levels : List ℕ) (w : ℕ) → IsRule r → AreKnown r letters trees levels → IsCompletion r.states r.width letters s → IsConserving (λ a. a) s → w < r.states ^ r.width
         → slice_index trees (w / r.states) ≡ slice_index trees (w % node_count r) → slice_index s.table w + slice_index levels (w % node_count r) ≡ w / node_count r + slice_index levels (w / r.states) }
 {}
 
-/// Law: suppose that two windows with the same fixed letter differ only in the letter at their end on this side, and
-/// that fixed letters lead from the pair of the nodes at this end to further pairs without end. Then no rule with these
-/// letters closes on this side.
+/// Law: take two windows with the same fixed letter that differ only in the letter at their end on this side. The nodes
+/// at this end are a pair. Suppose that fixed letters lead on for ever from this pair. Then no rule with these letters
+/// closes on this side.
 pub fn fixed_endless_first_pair_forbids_closing()
     ensures { (side : Side) (r s : LocalRule) (letters on : List ℕ) (w a : ℕ) → IsRule r → AreEndlessOn side r letters (Contains on) → IsFixedEndless side r letters (Contains on) w a
         → IsCompletion r.states r.width letters s → ¬ IsClosing side s }

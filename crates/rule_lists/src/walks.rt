@@ -1,5 +1,5 @@
-//! Tests the walks of pairs of nodes that hints have found: whether fixed letters lead along them. A step leads from a
-//! pair to a pair along two windows with the same fixed letter.
+//! Tests whether fixed letters lead along the walks of pairs of nodes that hints have found. Fixed letters lead from a
+//! pair of nodes to another pair along two windows with the same fixed letter. A node is a word of m - 1 letters.
 ghost use Rattle.std.specs.Prelude.{◌≡◌, ◌<◌, ◌↔◌, IsTrue, slice_index};
 ghost use Rattle.word_image.specs.Graphs.{pair_count, first_of, second_of};
 ghost use Rattle.rule_lists.specs.EndlessPairs.{FixedLeadsOn, IsFixedStep};
@@ -9,8 +9,8 @@ use crate::letters::{Letters, are_one};
 use crate::reach::Links;
 use word_image::{Rule, Side};
 
-/// Returns true only if fixed letters lead to this pair from a pair of two equal nodes, first to two different nodes.
-/// It follows the links `before` from the pair backward, and tests each step. If a link is wrong, it may return false.
+/// Returns true only if the fixed letters lead to this pair from a node with itself, first to two different nodes.
+/// Follows the links `before` from the pair backward, and tests each step. If a link is wrong, the result may be false.
 pub(crate) fn is_tail(
     side: Side,
     shape: &Rule,
@@ -35,8 +35,8 @@ pub(crate) fn is_tail(
     false
 }
 
-/// Returns true only if fixed letters lead from this pair around a loop back to the pair. It follows the links `after`,
-/// and tests each step. If a link is wrong, it may return false.
+/// Returns true only if the fixed letters lead from this pair around a loop back to the pair. Follows the links
+/// `after`, and tests each step. If a link is wrong, the result may be false.
 pub(crate) fn is_round(
     side: Side,
     shape: &Rule,
@@ -70,8 +70,8 @@ pub(crate) fn has_one_node(shape: &Rule, pair: u16) -> bool
     u == v
 }
 
-/// Returns whether a step leads from the pair `from` to the pair `to`, forward on the right side and backward on the
-/// left. Returns false if a number isn't the number of a pair.
+/// Returns whether fixed letters lead in one step from the pair `from` to the pair `to`. Steps go forward on the right
+/// side and backward on the left. Returns false if `from` or `to` isn't the number of a pair.
 fn leads_on(side: Side, shape: &Rule, letters: &Letters, from: u16, to: u16) -> bool
     ensures from { IsTrue result → from < pair_count shape.now }
     ensures to { IsTrue result → to < pair_count shape.now }

@@ -1,4 +1,5 @@
-//! Reads the beginning of a rule's table text.
+//! Reads the beginning of a rule's table text, for example `2:3:-1:t01`. The part `2:3:-1:t` is its head: the number of
+//! states, the width, the offset, and `t` for a table. The first three are the shape.
 ghost use Rattle.std.specs.Prelude.{◌≡◌, ◌+◌, ◌-◌, ◌^◌, ◌<◌, ◌≤◌, ◌++◌, IfOk, IfErr, All, map, length, take, replicate};
 ghost use Rattle.word_image.specs.LocalRules.{IsShape, most_windows};
 ghost use Rattle.word_image.specs.Digits.{IsHexDigit, letter_at};
@@ -38,7 +39,7 @@ pub fn parse_beginning(text: &[u8]) -> Result<Beginning, TextFault>
 }
 
 /// Returns the beginning of a table text with this head and these digits, or the first fault of the text. The digits
-/// have the form that the head announces.
+/// must be hexadecimal after a head with `t`, and decimal after a head with `w`.
 fn begin(head: &Head, digits: &[u8]) -> Result<Beginning, TextFault>
     requires entries { IsEntries head.now.kind digits.now }
     requires place { head.now.place + 2 ^ 16 < 2 ^ 64 }
@@ -54,7 +55,7 @@ fn begin(head: &Head, digits: &[u8]) -> Result<Beginning, TextFault>
 }
 
 /// Returns the beginning of a table text with this head and these digits, or the first fault of the digits. The head
-/// announces a table, and its shape is accepted.
+/// must have the kind `Table` and an accepted shape.
 fn begin_table(head: &Head, digits: &[u8]) -> Result<Beginning, TextFault>
     requires shape { IsShape head.now.k head.now.m head.now.o }
     requires digits { All IsHexDigit digits.now }

@@ -25,8 +25,8 @@ pub fn decimal_number(digits: &[u8]) -> Option<u128>
     number
 }
 
-/// Returns 10 times a number plus a digit. None stands for any number of `2^128` or more, in the argument and in the
-/// result.
+/// Returns ten times `number` plus `digit`. In the argument and in the result, None stands for a number of `2^128` or
+/// more.
 fn with_digit(number: Option<u128>, digit: u8) -> Option<u128>
     ensures { (n : ℕ) → SomeIff number (n < 2 ^ 128) n
         → SomeIff result (n * 10 + digit < 2 ^ 128) (n * 10 + digit) }

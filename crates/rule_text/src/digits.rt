@@ -13,8 +13,8 @@ use word_image::letter;
 /// The greatest number of decimal digits of a Wolfram number in a text.
 const MOST_DIGITS: usize = 39;
 
-/// Returns the first place at which the digits break the form that their kind needs, or None if they don't break it.
-/// A table needs hexadecimal digits. A number needs 1 to 39 decimal digits.
+/// Returns the first place at which the digits break the form of their kind, or None if they keep this form. A table
+/// has hexadecimal digits. A number has 1 to 39 decimal digits.
 pub fn first_stop(kind: Kind, digits: &[u8]) -> Option<usize>
     ensures some { IfSome result (λ place. IsFormFault (IsEntries kind) digits.now place) }
     ensures none { IfNone result (IsEntries kind digits.now) }
@@ -38,8 +38,8 @@ fn hex_stop(digits: &[u8]) -> Option<usize>
     None
 }
 
-/// Returns the first place at which a text breaks the form of 1 to 39 decimal digits, or None if it doesn't break
-/// this form. The place is 0 if the text is empty, and 39 if the text begins with 40 digits.
+/// Returns the first place at which a text breaks the form of 1 to 39 decimal digits, or None if it keeps this form.
+/// The place is 0 if the text is empty, and 39 if the text begins with 40 digits.
 fn decimal_stop(digits: &[u8]) -> Option<usize>
     ensures some { IfSome result (λ place. IsFormFault (IsDecimal 1 39) digits.now place) }
     ensures none { IfNone result (IsDecimal 1 39 digits.now) }

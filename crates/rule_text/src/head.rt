@@ -1,4 +1,5 @@
-//! Reads the head of a text, which is the part before the table's letters or the number's digits.
+//! Reads the head of a text: `K:M:O:t` before the letters of a table, or `K:M:O:w` before the digits of a number. K, M
+//! and O are the number of states, the width and the offset.
 ghost use Rattle.std.specs.Prelude.{IfOk, IfErr};
 ghost use Rattle.rule_text.specs.RuleTexts.{IsTextFault};
 ghost use Rattle.rule_text.specs.Heads.{IsForm, IsHead};
@@ -15,7 +16,7 @@ pub enum Kind {
     Number,
 }
 
-/// The head of a text, and the place of the text after the head.
+/// The head of a text, and the place at which the head ends.
 #[derive(Clone, Copy)]
 pub struct Head {
     // The number of states, below 100.
@@ -30,8 +31,9 @@ pub struct Head {
     pub place: usize,
 }
 
-/// Reads the head of a text, or returns a fault of form. A text that doesn't begin with a number and a colon has the
-/// bare form, and no head of its own: the result is the head `2:3:-1:w` with the place 0.
+/// Reads the head of a text. A text that doesn't begin with one or two digits and a colon has no head. It is read as
+/// the Wolfram number of a rule with two states and width 3: the result is the head `2:3:-1:w` with the place 0.
+/// Returns `Form` if the text begins with one or two digits and a colon, but not with a head.
 pub fn read_head(text: &[u8]) -> Result<Head, TextFault>
     ensures head { IfOk result (λ h. IsHead text.now h) }
     ensures fault { IfErr result (λ f. IsTextFault text.now f) }

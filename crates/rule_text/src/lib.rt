@@ -4,12 +4,12 @@
 //!
 //! | Form | Text | Meaning |
 //! |---|---|---|
-//! | bare | 1 to 39 decimal digits | the same as `2:3:-1:w` and these digits |
-//! | table | `K:M:O:t` and hexadecimal digits of either case | the table's letters, in the order of the windows' values |
-//! | number | `K:M:O:w` and 1 to 39 decimal digits | the Wolfram number |
+//! | bare | 1 to 39 decimal digits | the same rule as the text `2:3:-1:w` followed by these digits |
+//! | table | `K:M:O:t` and hexadecimal digits of either case | the digits are the table's letters, by window value |
+//! | number | `K:M:O:w` and 1 to 39 decimal digits | the digits write the Wolfram number of the rule |
 //!
-//! K and M have one or two decimal digits. So does O, which may have a minus sign before them. The Wolfram number is
-//! a sum over all windows: the letter for the window times k to the power of the window's value. So `110`,
+//! K, M and O are k, m and o in decimal, each with one or two digits. O may have a minus sign before them. The Wolfram
+//! number is a sum over all windows: the letter for the window times k to the power of the window's value. So `110`,
 //! `2:3:-1:w110` and `2:3:-1:t01110110` are texts of the same rule.
 //!
 //! A text is in the grammar if it has one of these forms. The part `K:M:O:` and `t` or `w` is called its head, and

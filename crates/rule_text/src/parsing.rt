@@ -1,4 +1,6 @@
-//! Reads a rule from its text.
+//! Reads a rule from its text. Most texts have a head and digits: `2:3:-1:t` is the head of the table text
+//! `2:3:-1:t01110110`, and `2:3:-1:w` is the head of `2:3:-1:w110`. The shape is the number of states, the width and
+//! the offset.
 ghost use Rattle.std.specs.Prelude.{◌≡◌, ◌+◌, ◌^◌, ◌<◌, IfOk, IfErr, All, map};
 ghost use Rattle.word_image.specs.LocalRules.{LocalRule, IsShape};
 ghost use Rattle.rule_text.specs.declared.text_fault.TextFault.{TextFault};
@@ -31,8 +33,8 @@ pub fn parse(text: &[u8]) -> Result<Rule, TextFault>
     accept(&head, digits)
 }
 
-/// Returns the rule of a text with this head and these digits, or the text's first fault. The digits have the form
-/// that the head announces.
+/// Returns the rule of a text with this head and these digits, or the text's first fault. The digits must be
+/// hexadecimal after a head with `t`, and 1 to 39 decimal digits after a head with `w`.
 fn accept(head: &Head, digits: &[u8]) -> Result<Rule, TextFault>
     requires entries { IsEntries head.now.kind digits.now }
     requires place { head.now.place + 2 ^ 16 < 2 ^ 64 }
@@ -48,7 +50,7 @@ fn accept(head: &Head, digits: &[u8]) -> Result<Rule, TextFault>
 }
 
 /// Returns the rule whose shape is in the head and whose table has the letters of these hexadecimal digits, or the
-/// first fault of the digits. The shape is accepted.
+/// first fault of the digits. The shape must be an accepted one.
 fn accept_table(head: &Head, digits: &[u8]) -> Result<Rule, TextFault>
     requires shape { IsShape head.now.k head.now.m head.now.o }
     requires digits { All IsHexDigit digits.now }
@@ -68,8 +70,9 @@ fn accept_table(head: &Head, digits: &[u8]) -> Result<Rule, TextFault>
     }
 }
 
-/// Returns the rule whose shape is in the head and whose Wolfram number these decimal digits write, or the first
-/// fault. The shape is accepted. The bare form has the head `2:3:-1:w`.
+/// Returns the rule whose shape is in the head and whose Wolfram number these decimal digits write, or the first fault.
+/// The shape must be an accepted one. A text that is only a number, such as `110`, counts as having the head
+/// `2:3:-1:w`.
 fn accept_number(head: &Head, digits: &[u8]) -> Result<Rule, TextFault>
     requires shape { IsShape head.now.k head.now.m head.now.o }
     requires digits { IsDecimal 1 39 digits.now }

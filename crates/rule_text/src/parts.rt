@@ -1,4 +1,5 @@
-//! Reads the parts of a head, each from a given place of a text.
+//! Reads the parts of a text's head `K:M:O:t` or `K:M:O:w`. Each function reads one part, which begins at a given place
+//! of the text.
 ghost use Rattle.std.specs.Prelude.{◌≡◌, ◌≢◌, false, ◌+◌, ◌<◌, ◌≤◌, ◌∷◌, [], ◌↔◌, IfOk, IfErr, IfSome, IfNone, IsTrue, length, slice_index};
 ghost use Rattle.std.specs.Bool.{OnTrue};
 ghost use Rattle.rule_text.specs.RuleTexts.{IsDigit};
@@ -40,8 +41,8 @@ pub fn offset(text: &[u8], from: usize) -> Result<(i8, usize), TextFault>
     Ok((with_sign(minus, number), end))
 }
 
-/// Reads the letter `t` or `w` at the place `from` of a text. Returns what it announces, a table or a number, and the
-/// place after the letter. Returns `Form` if another byte is there.
+/// Reads the last letter of a head at the place `from` of a text: `t` for a table, `w` for a number. Returns the kind
+/// that the letter stands for, and the place after the letter. Returns `Form` if another byte is at this place.
 pub fn kind(text: &[u8], from: usize) -> Result<(Kind, usize), TextFault>
     requires { from ≤ length text.now }
     ensures over { IfOk result (λ r. GoesOver text.now from r.1 (kind_text r.0)) }
@@ -57,8 +58,8 @@ pub fn kind(text: &[u8], from: usize) -> Result<(Kind, usize), TextFault>
     }
 }
 
-/// Reads two digits from the place `from` of a text, or one digit if there aren't two. Returns the number that they
-/// write and the place after them, or None if there is no digit.
+/// Reads two digits from the place `from` of a text, or one digit if there aren't two. Returns the number that the
+/// digits write and the place after them. Returns None if there is no digit.
 fn small(text: &[u8], from: usize) -> Option<(u8, usize)>
     requires { from ≤ length text.now }
     ensures number { IfSome result (λ r. GoesOverSmall text.now from r.1 r.0) }

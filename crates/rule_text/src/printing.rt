@@ -8,8 +8,8 @@ ghost use Rattle.rule_text.specs.PrintedRules.{printed_rule};
 use std::alloc::{AllocError, Global};
 use word_image::{Rule, digit};
 
-/// Returns the text of a rule in the table form: lower-case digits, numbers without leading zeros, and a minus sign
-/// if the offset is negative. The only error is lack of memory.
+/// Returns the text of a rule in the table form, for example `2:3:-1:t01110110`. It has lower-case digits, numbers
+/// without leading zeros, and a minus sign if the offset is negative. The only error is lack of memory.
 pub fn print(alloc: Global, rule: &Rule) -> Result<Vec<u8>, AllocError>
     ensures { IfOk result (λ text. text.items ≡ printed_rule rule.now) }
 {

@@ -1,4 +1,5 @@
-//! The faults of a text.
+//! The faults of a rule's text. The grammar of these texts has three forms: `2:3:-1:t01110110` with a table,
+//! `2:3:-1:w110` with a Wolfram number, and only a number, such as `110`.
 ghost use Rattle.std.specs.Prelude.{◌≡◌, ◌+◌, ◌^◌, ◌<◌};
 ghost use Rattle.rule_text.specs.RuleTexts.{as_text_fault};
 
@@ -7,8 +8,8 @@ use word_image::RuleFault;
 /// Why a text isn't the text of an accepted rule.
 #[derive(Clone, Copy, Debug, PartialEq, Eq)]
 pub enum TextFault {
-    /// The text isn't in the grammar. The number is the length of the text's longest prefix with which some text of
-    /// the grammar begins.
+    /// The text doesn't have one of the forms in the grammar. The number is the length of the text's longest prefix
+    /// that can be continued to a text in the grammar.
     Form(usize),
     /// The number of states isn't from 2 to 16.
     States,
@@ -28,7 +29,8 @@ pub enum TextFault {
     Number,
 }
 
-/// Returns the fault of a text whose rule has this fault. The table begins at the place `place` of the text.
+/// Returns the fault of a text if the rule that it describes has the fault `fault`. The letters of the table begin at
+/// the place `place` of the text.
 pub fn as_text_fault(fault: RuleFault, place: usize) -> TextFault
     requires { place + 2 ^ 16 < 2 ^ 64 }
     ensures { result ≡ as_text_fault place fault }

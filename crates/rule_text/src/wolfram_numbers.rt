@@ -1,4 +1,4 @@
-//! Makes a rule from a shape and a Wolfram number.
+//! Makes a rule from a shape and a Wolfram number. The shape is the number of states, the width and the offset.
 ghost use Rattle.std.specs.Prelude.{◌≡◌, ◌^◌, ◌<◌};
 ghost use Rattle.std.specs.Option.{SomeIff, option_map};
 ghost use Rattle.std.specs.Result.{result_err};

@@ -1,4 +1,5 @@
-//! The type `Evidence`: the least evidence for each verdict on a rule. A certificate can be made from it.
+//! The type `Evidence`: the least evidence for each verdict, and the certificate that is made of it. A certificate also
+//! has what a judge needs to check the evidence, such as the rank of each pair of nodes.
 ghost use Rattle.std.specs.Prelude.{◌≡◌, ◌≤◌, ◌↔◌, All, length, slice_index, true, IsTrue, IfOk, OnOk};
 ghost use Rattle.word_image.specs.LocalRules.{IsRule};
 ghost use Rattle.word_image.specs.Weights.{AreWeights};
@@ -22,9 +23,9 @@ use word_image::{Rule, Side, Weights};
 /// The verdicts of a rule, each with the least evidence for it.
 #[derive(Drop)]
 pub struct Evidence {
-    /// The report with the least evidence. It has the least orphan, the least window or the least twins, and for each
-    /// side the least look-ahead or the least normal split. It also has the flux that is 0 at node 0, or the least ring
-    /// that doesn't keep its sum.
+    /// The report: each verdict with its least evidence. This is the least orphan if there is one, the least window or
+    /// the least twins, and for each side the least look-ahead or the least normal split. For the sums it is the flux
+    /// that is 0 at node 0, or the least ring that doesn't keep its sum.
     pub report: Report,
     // The ranks of the pairs of nodes of the rule, from which the evidence was found.
     ranks: Ranks,
@@ -83,9 +84,9 @@ impl Evidence {
         self.report.is_open()
     }
 
-    /// Makes the certificate of this version, which is 2 or 3. It has this evidence, and the exact ranks of all pairs
-    /// of nodes as its claims. If the rule is surjective, it also has the cover list in version 2, or the reached pairs
-    /// in version 3.
+    /// Makes the certificate of this version, which is 2 or 3. It has this evidence and the exact ranks of all pairs of
+    /// nodes. If the rule is surjective, it also has a list that proves it: the cover list in version 2, or the reached
+    /// pairs in version 3. The only error is lack of memory.
     pub fn certificate(self, alloc: Global, version: CertVersion) -> Result<Cert, AllocError>
         requires { names_weights version ≡ true }
         ensures accepted { OnOk result (IsRule self.rule) }
@@ -111,7 +112,7 @@ impl Evidence {
     }
 }
 
-/// States that each byte is at most 255, as a weight must be. Does nothing else.
+/// Does nothing. Its contract states that each byte is at most 255, as weights must be.
 fn have_eight_bits(bytes: &[u8])
     ensures { All (λ w. w ≤ 255) bytes.now }
 {

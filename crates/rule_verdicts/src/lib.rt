@@ -7,9 +7,10 @@
 //! | is it right-closing, is it left-closing | the least look-ahead | the least normal split |
 //! | is it conserving | the flux that is 0 at node 0 | the least ring that doesn't keep its sum |
 //!
-//! The *cover list* has the set of all nodes, and each other set of nodes that words lead to and that contains no
-//! other such set. The *reached pairs* are the pairs of nodes that are reached from the first pairs on the right,
-//! which are the pairs to which two different letters lead from the same node, along edges with equal labels.
+//! A node is a word of m - 1 letters. A word leads to the set of the last nodes of its preimages. The *cover list* has
+//! the set of all nodes, and each other of these sets that contains no other one. A first pair on the right consists of
+//! two nodes to which two different letters lead from the same node, along edges with equal labels. The *reached pairs*
+//! are the pairs of nodes that walks with equal labels reach from the first pairs.
 //!
 //! The evidence for the verdicts has these kinds:
 //!
@@ -19,7 +20,7 @@
 //! - A number n is a right *look-ahead* if the first m - 1 letters of a word and the first n letters of its image
 //!   determine the next letter of the word. A left look-ahead is a right look-ahead of the mirrored rule. A *split*
 //!   of a side is two different configurations that share an image and agree on the other side.
-//! - A *flux* has a number for each node, which is a word of m - 1 letters. At each window, the weight of the letter
+//! - A *flux* has a number for each node. At each window, the weight of the letter
 //!   that the rule gives minus the weight of the window's first letter is the number of its first node minus the
 //!   number of its last node. If there is a flux, each ring keeps its sum. A *ring* is a word whose last letter is
 //!   followed by its first letter.

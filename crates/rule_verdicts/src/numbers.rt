@@ -1,4 +1,4 @@
-//! The verdicts on rules with consecutive Wolfram numbers, as one byte for each rule.
+//! The verdicts of rules with consecutive Wolfram numbers, in one byte for each rule.
 ghost use Rattle.std.specs.Prelude.{◌≡◌, ℕ, ◌+◌, ◌-◌, ◌^◌, ◌<◌, ◌≤◌, None, Some, length, reverse, slice_index, sum, MatchResult};
 ghost use Rattle.word_image.specs.LocalRules.{IsRule, IsWord, value, most_windows};
 ghost use Rattle.rule_text.specs.RuleTexts.{rule_of_table};
@@ -9,9 +9,9 @@ use flux_conserve::{is_mean, letter_sum};
 use rule_text::{TextFault, numbered};
 use word_image::MOST_ENTRIES;
 
-/// Writes the verdicts on rules with consecutive numbers, starting at `first`. The rules have k states, width m and
-/// offset 0. Byte i is `Truths::byte` of the rule with the number first + i. If some number isn't the number of a rule,
-/// returns the first fault and writes nothing. Needs no memory.
+/// Writes the verdicts of rules with consecutive Wolfram numbers, starting at `first`. The rules have k states, width m
+/// and offset 0. Byte i is `Truths::byte` of the rule with the number `first` + i. If no rule has some of these
+/// numbers, returns the first fault and writes nothing. Needs no memory.
 pub fn verdict_bytes(k: u8, m: u8, first: u128, bytes: &mut [u8]) -> Result<(), TextFault>
     requires { 1 ≤ length bytes.old }
     ensures { MatchResult result
@@ -30,7 +30,8 @@ pub fn verdict_bytes(k: u8, m: u8, first: u128, bytes: &mut [u8]) -> Result<(), 
     Ok(())
 }
 
-/// Returns the first fault of a range of numbers that ends at 2^128 or more. No rule has such a number.
+/// Returns the first fault of consecutive Wolfram numbers if the last one is 2^128 or more. It is a fault of k or m, or
+/// `Number`, since no rule has such a number.
 pub fn fault_past_all(k: u8, m: u8) -> TextFault
     ensures { (first count : ℕ) → 2 ^ 128 ≤ first + count - 1 → numbers_fault k m first count ≡ Some result }
 {
@@ -40,8 +41,8 @@ pub fn fault_past_all(k: u8, m: u8) -> TextFault
     }
 }
 
-/// Writes a byte of verdicts for each of the rules with consecutive numbers, starting with the number of this table.
-/// It changes the table to the tables of these rules, one after another.
+/// Writes a byte of verdicts for each rule, with consecutive Wolfram numbers. The first rule has the table `table`.
+/// Changes `table` to the tables of the other rules, one after another.
 fn write_bytes(k: u8, m: u8, table: &mut [u8], bytes: &mut [u8])
     requires rule { IsRule (rule_of_table k m table.old) }
     requires room { value k (reverse table.old) + length bytes.old ≤ k ^ length table.old }
@@ -67,9 +68,9 @@ fn verdict_byte(k: u8, m: u8, table: &[u8], total: u16) -> u8
     Truths::past_sum(k, m, table).byte()
 }
 
-/// Turns a table into the table of the next number, and the last table into the first one. The first letter is the
-/// least significant digit of the number. `total` is the sum of the letters of the table. Returns the sum of the new
-/// table.
+/// Turns a table into the table with the next Wolfram number, and the last table into the first one. The first letter
+/// is the least significant digit of the number. `total` is the sum of the letters of the table. Returns the sum of the
+/// new table.
 pub fn next_table(k: u8, table: &mut [u8], total: u16) -> u16
     requires word { IsWord k table.old }
     requires few { length table.old ≤ most_windows }

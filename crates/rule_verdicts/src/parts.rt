@@ -1,8 +1,5 @@
-//! Functions that turn the result of a decider into a part of a certificate: the evidence for one verdict.
-//!
-//! The cover list of a surjective rule has the set of all nodes, and each minimal set of last nodes of the preimages of
-//! a word. Its reached pairs are the pairs of nodes to which two walks with equal labels lead that left one node by
-//! different letters.
+//! The evidence for one verdict: functions that turn the result of a decider into a part of a certificate. A node is a
+//! word of m - 1 letters, and a rank tells how long walks with equal labels can be that begin or end at two nodes.
 ghost use Rattle.std.specs.Prelude.{◌≡◌, length, slice_index, take, true, IfOk};
 ghost use Rattle.word_image.specs.LocalRules.{LocalRule, IsRule, node_count};
 ghost use Rattle.word_image.specs.Words.{IsSurjective};
@@ -59,7 +56,8 @@ pub fn injectivity(alloc: Global, rule: &Rule) -> Result<InjectivePart, AllocErr
     injective_part(alloc, &pairs, &ranks, &mut walker)
 }
 
-/// Returns the same as `injectivity`, for a rule whose pairs of nodes and ranks are known.
+/// Returns the least determined window if the rule is injective, and its least twins if it isn't. `pairs` are the pairs
+/// of nodes of the rule, and `ranks` are their ranks.
 pub(crate) fn injective_part(
     alloc: Global,
     pairs: &Pairs,
@@ -82,7 +80,8 @@ pub(crate) fn injective_part(
     }
 }
 
-/// Turns the look-ahead or the split that a decider found into a part of a certificate.
+/// Turns the evidence about a side into a part of a certificate. A look-ahead shows that the rule closes on the side,
+/// and a split shows that it doesn't.
 pub(crate) fn side_part(found: Closing) -> SidePart
     ensures right { (r : LocalRule) → IsRightAnswer r found → IsRightPart r (side_of result) × IsOver r.states result }
     ensures left { (r : LocalRule) → IsLeftAnswer r found → IsLeftPart r (side_of result) × IsOver r.states result }
@@ -105,7 +104,7 @@ pub(crate) fn sum_part(alloc: Global, rule: &Rule, weights: &Weights) -> Result<
     }
 }
 
-/// Returns the flux that has the first numbers of the array `flows`, one number for each node of the rule.
+/// Returns a flux as a list. It has the first numbers of the array `flows`, one for each node of the rule.
 fn flux_row(alloc: Global, rule: &Rule, flows: &[i32; MOST_NODES]) -> Result<FluxRow, AllocError>
     ensures row { IfOk result (λ row. row ≡ take (node_count rule.now) flows.now) }
     ensures rule { IsRule rule.now }
@@ -121,8 +120,9 @@ fn ring_word(alloc: Global, ring: &SmallRing) -> Result<Word, AllocError>
     Ok(Word::of(ring.letters().to_vec(alloc)?))
 }
 
-/// Returns the evidence about surjectivity for a certificate of this version. `pairs` are the pairs of nodes of the
-/// rule. `orphan` is the least orphan of the rule, or None if the rule is surjective.
+/// Returns the part of a certificate about surjectivity: the least orphan, or a list that proves that the rule is
+/// surjective. The certificate has this version, and the rule has these pairs of nodes. `orphan` is the least orphan of
+/// the rule, or None if the rule is surjective.
 pub(crate) fn surjective_part(
     alloc: Global,
     version: CertVersion,
@@ -158,7 +158,8 @@ fn list_part(
     Ok(SurjectivePart::Sets(covers(alloc, pairs.graph())?))
 }
 
-/// Returns the cover list of the surjective rule with this graph.
+/// Returns the cover list of a surjective rule. A word leads to the set of the last m - 1 letters of its preimages. The
+/// list has the set of all nodes, and each other of these sets that contains no other one.
 fn covers(alloc: Global, graph: &Graph) -> Result<SetList, AllocError>
     requires { IsSurjective graph.now }
     ensures { IfOk result (IsCoverList graph.now) }

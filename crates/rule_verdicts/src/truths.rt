@@ -55,8 +55,8 @@ impl Truths {
         Truths::past_sum(k, m, table)
     }
 
-    /// Returns the verdicts on the rule of k states, width m and offset 0 with this table. It may be called only if the
-    /// letters of the table have the same mean as the letters 0 to k - 1.
+    /// Returns the verdicts of the rule of k states, width m and offset 0 with this table. The letters of the table
+    /// must have the same mean as the letters 0 to k - 1.
     pub(crate) fn past_sum(k: u8, m: u8, table: &[u8]) -> Truths
         requires { IsRule (texts.rule_of_table k m table.now) }
         ensures { AreTruths (texts.rule_of_table k m table.now) result }
@@ -68,7 +68,7 @@ impl Truths {
         decided(&rule_of_table(k, m, table), even)
     }
 
-    /// Returns the verdicts for which the method `byte` returns this byte.
+    /// Returns the verdicts that `byte` turns into this byte.
     pub fn from_byte(byte: u8) -> Truths
         ensures { (t : Truths) → byte ≡ byte_of t → result ≡ t }
     {
@@ -81,7 +81,8 @@ impl Truths {
         }
     }
 
-    /// Returns the verdicts on a rule that isn't surjective. All of them are no, except `conserving`, which is given.
+    /// Returns the verdicts of a rule that isn't surjective. It is neither injective nor closing on a side, and
+    /// `conserving` says whether it is conserving.
     pub fn not_surjective(conserving: bool) -> Truths
         ensures { (r : LocalRule) → IsRule r → ¬ IsSurjective r → (IsTrue conserving ↔ IsConserving (slice_index (own_weights r.states)) r) → AreTruths r result }
     {

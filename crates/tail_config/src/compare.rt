@@ -1,5 +1,7 @@
 //! Comparing two Tails: the place at which they differ, whether they share an image, and whether they agree on a
 //! side.
+//!
+//! A Tail is a configuration with a left period, a middle that begins at place 0, and a right period.
 ghost use Rattle.std.specs.Prelude.{◌≡◌, ◌^◌, ◌<◌, ◌≤◌, ◌+◌, ◌↔◌, ℕ, IsTrue, IsNone, IfNone, IfSome, OnSome, unsigned_abs, pos, negsuc, ◌+ℤ◌};
 ghost use Rattle.tail_config.specs.Tails.{Same, ShareImage, AgreeLeft, AgreeRight, image_cell};
 ghost use Rattle.tail_config.specs.Differences.{IsFirstDifference, IsNearestDifference, left_cells, right_cells, most_middle};
@@ -22,8 +24,8 @@ pub fn differ(a: &Tail, b: &Tail) -> Option<i64>
     }
 }
 
-/// Returns one of two places, namely the one nearer to 0: the place `right`, or the place `left` cells to the left of
-/// -1. Returns `right` if both are equally near.
+/// Returns the place nearer to 0 of two places: the place `right`, and the place -1 - `left`. Returns `right` if both
+/// are equally near.
 fn nearer(right: usize, left: usize) -> i64
     requires near_right { right ≤ 2 ^ 12 }
     requires near_left { left ≤ 2 ^ 12 }
@@ -72,8 +74,9 @@ fn longer(a: &Tail, b: &Tail) -> usize
     a.middle().len().max(b.middle().len())
 }
 
-/// Returns the first place at which two Tails differ, starting at `start`. It is enough to look at as many places
-/// after the longer middle as the two right periods have letters together.
+/// Returns the first place, starting at `start`, at which two Tails differ, or None if there is no such place. After
+/// the longer middle, only looks at as many places as the two right periods have letters together. If the cells are
+/// equal there, they are equal at all later places.
 fn first_right(a: &Tail, b: &Tail, start: usize) -> Option<usize>
     requires { start ≤ most_middle a.now.config b.now.config }
     ensures none { IfNone result ((i : ℕ)
@@ -92,8 +95,9 @@ fn first_right(a: &Tail, b: &Tail, start: usize) -> Option<usize>
     None
 }
 
-/// Returns the least i for which two Tails differ at the place -1 - i, or None if all their cells to the left of
-/// place 0 are equal. It is enough to look at as many places as the two left periods have letters together.
+/// Returns the least i for which two Tails differ at the place -1 - i, or None if all their cells to the left of place
+/// 0 are equal. Only looks at as many places as the two left periods have letters together. If the cells are equal
+/// there, they are equal at all places further to the left.
 fn first_left(a: &Tail, b: &Tail) -> Option<usize>
     ensures none { IfNone result ((i : ℕ)
         → left_cells a.now.config i ≡ left_cells b.now.config i) }

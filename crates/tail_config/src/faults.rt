@@ -1,4 +1,5 @@
-//! Finds out why three parts don't form a Tail.
+//! Finds out why three parts don't form a Tail. A Tail is a configuration that consists of a left period, a middle and
+//! a right period.
 ghost use Rattle.std.specs.Prelude.{◌≡◌};
 ghost use Rattle.std.specs.Result.{result_err};
 ghost use Rattle.tail_config.specs.TailValues.{config_of};

@@ -1,4 +1,7 @@
 //! A Tail, its cells, the cells of its image, and its mirror image.
+//!
+//! A Tail is a configuration with a left period, a middle that begins at place 0, and a right period. Copies of the
+//! left period fill the places before the middle, and copies of the right period fill the places after it.
 ghost use Rattle.std.specs.Prelude.{◌≡◌, ◌^◌, ◌<◌, ◌≤◌, ◌↔◌, IfOk, IfErr, IsOk, length, unsigned_abs, ℤ, pos, ◌+ℤ◌, ◌-ℤ◌, ◌<ℤ◌};
 ghost use Rattle.std.specs.Option.{option_map};
 ghost use Rattle.std.specs.Result.{result_err};
@@ -12,8 +15,8 @@ use crate::faults::{TailRefusal, check_parts};
 use std::marker::Model;
 use word_image::{MOST_WIDTH, Rule};
 
-/// A configuration over the letters below k: a left period, a middle and a right period of at most 1,024 letters
-/// each.
+/// A configuration over the letters below k: a left period, a middle and a right period. Each of the three parts has at
+/// most 1,024 letters.
 #[derive(Debug, Drop)]
 pub struct Tail {
     // The number of letters, from 2 to 16.
@@ -39,8 +42,8 @@ impl Model for Tail {
 }
 
 impl Tail {
-    /// Makes the Tail with these parts over the letters below k, from 2 to 16. If the parts don't form a Tail,
-    /// returns the first fault, in the order of `TailFault`, together with the parts.
+    /// Makes the Tail with these parts over the letters below k. The number k is from 2 to 16. If the parts don't form
+    /// a Tail, returns the first fault, in the order of `TailFault`, together with the parts.
     pub fn new(k: u8, left: Vec<u8>, middle: Vec<u8>, right: Vec<u8>) -> Result<Tail, TailRefusal>
         requires least { 2 ≤ k }
         requires most { k ≤ most_states }
@@ -118,8 +121,8 @@ impl Tail {
         }
     }
 
-    /// Returns the letter of the image at the place `i`. The rule and the Tail have the same number of letters, and
-    /// the absolute value of the place is at most `2^61`.
+    /// Returns the letter at the place `i` of the Tail's image under a rule. The rule and the Tail have the same number
+    /// of letters, and the absolute value of `i` is at most `2^61`.
     pub fn image_cell(&self, rule: &Rule, i: i64) -> u8
         requires place { unsigned_abs i ≤ 2 ^ 61 }
         requires one_k { rule.now.states ≡ self.now.states }
@@ -133,7 +136,7 @@ impl Tail {
         rule.apply(window)
     }
 
-    /// Writes the letters of the Tail at the places from `start` on into the row.
+    /// Fills the row with the letters of the Tail, beginning with the letter at the place `start`.
     fn write_cells(&self, start: i64, row: &mut [u8])
         requires { (start +ℤ pos (length row.old)) <ℤ pos (2 ^ 63) }
         ensures { row.new ≡ cells self.now.config start (length row.old) }
@@ -143,8 +146,8 @@ impl Tail {
         }
     }
 
-    /// Returns the reversed Tail. Each of its periods is the reversed period of the other side, and its middle is the
-    /// reversed middle, which begins at place 0, too.
+    /// Returns the reversed Tail. Its left period is the reversed right period, and its right period is the reversed
+    /// left period. Its middle is the reversed middle, and begins at place 0, too.
     pub fn mirror(self) -> Tail
         ensures states { result.states ≡ self.states }
         ensures config { result.config ≡ mirror_of self.config }

@@ -1,4 +1,5 @@
-//! Reads and prints the texts of Tails: `L|M|R`, where each part is a row of hexadecimal digits.
+//! Reads and prints the texts of Tails. A Tail is a configuration with a left period, a middle and a right period. Its
+//! text is `L|M|R`, where each part consists of hexadecimal digits, one for each letter.
 ghost use Rattle.std.specs.Prelude.{◌≡◌, ◌≤◌, ◌⊎◌, ◌↔◌, IsTrue, length, map, nat_le, position, alloc_error, IfOk, IfErr};
 ghost use Rattle.std.specs.Result.{result_err};
 ghost use Rattle.word_image.specs.LocalRules.{most_states};
@@ -18,8 +19,8 @@ use word_image::{letter, text_word, word_text};
 /// Why a text doesn't describe a Tail.
 #[derive(Clone, Copy, Debug, PartialEq, Eq)]
 pub enum TailTextFault {
-    /// The text doesn't have the form `L|M|R`. The number is the length of the text's longest prefix with which some
-    /// text of this form begins.
+    /// The text doesn't have the form `L|M|R`. The number is the length of the text's longest prefix that can be
+    /// continued to a text of this form.
     Form(usize),
     /// The text has the form `L|M|R`, but its parts don't form a Tail.
     Tail(TailFault),
@@ -38,8 +39,8 @@ struct SplitText<'a> {
     right: &'a [u8],
 }
 
-/// Returns whether a text has the form `L|M|R`. Each part is a possibly empty row of hexadecimal digits of either
-/// case.
+/// Returns whether a text has the form `L|M|R`, where L, M and R consist of hexadecimal digits of either case. Each of
+/// the three parts may be empty.
 pub fn has_form(text: &[u8]) -> bool
     ensures { IsTrue result ↔ HasForm text.now }
 {
@@ -49,8 +50,8 @@ pub fn has_form(text: &[u8]) -> bool
     }
 }
 
-/// Reads a Tail over the letters below k, from 2 to 16. If the text doesn't describe a Tail, returns its first fault,
-/// in the order of `TailTextFault`. Returns `Memory` only if there is not enough memory.
+/// Reads a Tail over the letters below k. The number k is from 2 to 16. If the text doesn't describe a Tail, returns
+/// its first fault, in the order of `TailTextFault`. Returns `Memory` only if there is not enough memory.
 pub fn parse(alloc: Global, k: u8, text: &[u8]) -> Result<Tail, TailTextFault>
     requires least { 2 ≤ k }
     requires most { k ≤ most_states }
@@ -105,7 +106,7 @@ fn split(text: &[u8]) -> Result<SplitText<'_>, TailTextFault>
     })
 }
 
-/// Returns the place of the bar after the digits that begin at `start`. Returns `Form` if no bar follows these
+/// Returns the place of the bar `|` after the digits that begin at `start`. Returns `Form` if no bar follows these
 /// digits.
 fn bar_after(text: &[u8], start: usize) -> Result<usize, TailTextFault>
     requires { start ≤ length text.now }
@@ -120,7 +121,7 @@ fn bar_after(text: &[u8], start: usize) -> Result<usize, TailTextFault>
     }
 }
 
-/// Returns the place after the digits that begin at `start`.
+/// Returns the end of the digits that begin at `start`: the place of the next byte that isn't a hexadecimal digit.
 fn digits_end(text: &[u8], start: usize) -> usize
     requires { start ≤ length text.now }
     ensures { IsDigitsEnd text.now start result }
@@ -133,7 +134,8 @@ fn digits_end(text: &[u8], start: usize) -> usize
     text.len()
 }
 
-/// Checks whether rows of digits are the parts of a Tail over the letters below k. Returns the first fault otherwise.
+/// Checks whether these digits are the parts of a Tail over the letters below k. If they aren't, returns the first
+/// fault.
 fn check_digits(k: u8, parts: &SplitText) -> Result<(), TailFault>
     ensures { let p = parts.now in
         result_err result ≡ tail_fault k (letters_of p.left.now p.middle.now p.right.now) }
@@ -164,7 +166,7 @@ fn first_foreign(k: u8, digits: &[u8]) -> Option<usize>
         .position(|byte| letter(*byte).unwrap_or(0) >= k)
 }
 
-/// Makes the Tail that rows of digits describe. The only error is lack of memory.
+/// Makes the Tail whose parts these digits write. The only error is lack of memory.
 fn tail_of(alloc: Global, k: u8, parts: &SplitText) -> Result<Tail, AllocError>
     requires least { 2 ≤ k }
     requires most { k ≤ most_states }

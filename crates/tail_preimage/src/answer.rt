@@ -1,4 +1,9 @@
 //! The function `preimage`, which finds a placed configuration, or a gap.
+//!
+//! A placed configuration has a left period, a middle and a right period, and the middle begins at any place. Its shape
+//! says how many periods of the given configuration its parts span. The first placed configuration has the first
+//! possible shape, and then the first letters in dictionary order. A stretch of the given configuration consists of
+//! zero or more left periods, the middle and zero or more right periods. A gap is a stretch that is an orphan.
 
 ghost use Rattle.std.specs.Prelude.{◌≡◌, ◌-◌, ◌^◌, ◌<◌, ◌+◌, ◌≤◌, ◌↔◌, IfOk, IsTrue, length, pos, ◌-ℤ◌, ◌*◌};
 ghost use Rattle.std.specs.List.{repeat};
@@ -71,7 +76,8 @@ pub fn preimage(alloc: Global, rule: &Rule, tail: &Tail) -> Result<Pre, AllocErr
     Ok(Pre::From(first_placed(alloc, &graph, tail, &parts, spans)?))
 }
 
-/// Returns the first placed configuration whose shape is the first possible shape.
+/// Returns the first placed configuration with the shape `spans`, which is the first possible shape. The first one has
+/// the first letters in dictionary order.
 fn first_placed(
     alloc: Global,
     graph: &Graph,
@@ -98,8 +104,8 @@ fn first_placed(
     })
 }
 
-/// Returns the first walk in dictionary order from a node back to it, with labels that spell `n` copies of a part.
-/// There is such a walk.
+/// Returns the first walk, in dictionary order, from `node` back to `node` whose labels spell `n` copies of a part.
+/// There must be such a walk.
 fn first_loop(
     alloc: Global,
     graph: &Graph,
@@ -117,9 +123,9 @@ fn first_loop(
     Ok(least_walk(alloc, graph, node, &word, 1u16 << node)?.0)
 }
 
-/// Returns the nodes at which the middle of a placed configuration with this shape can begin. Such a node has a loop
-/// of left periods. From it left periods, the middle and right periods lead to a node with a loop of right periods.
-/// The shape says how many periods these are.
+/// Returns the nodes at which the middle of a placed configuration with this shape can begin. Such a node has a loop of
+/// `spans.back` left periods. From it a walk along `spans.before` left periods, the middle and `spans.after` right
+/// periods leads to a node with a loop of `spans.on` right periods.
 fn starts(graph: &Graph, parts: &PartRelations, spans: Spans) -> u16
     requires left { spans.back + spans.before ≤ most_nodes }
     requires right { spans.on + spans.after ≤ most_nodes }
@@ -135,8 +141,8 @@ fn starts(graph: &Graph, parts: &PartRelations, spans: Spans) -> u16
     loops(graph, &parts.left, spans.back) & lefts
 }
 
-/// Returns the place at which the middle of a placed configuration begins if the middle spans this many left periods
-/// of the given configuration.
+/// Returns the place at which the middle of a placed configuration begins. `periods` is the number of left periods of
+/// the given configuration that this middle spans.
 fn place_of(graph: &Graph, tail: &Tail, periods: u8) -> i64
     ensures { result ≡ graph.now.offset -ℤ pos (periods * length tail.now.config.left) }
 {
@@ -144,7 +150,7 @@ fn place_of(graph: &Graph, tail: &Tail, periods: u8) -> i64
     i64::from(graph.rule().o()) - i64::from(letters)
 }
 
-/// Returns the word of a walk without the letters of the last node of the walk.
+/// Removes the last m - 1 letters of a walk, which are the letters of its last node, and returns the remaining word.
 fn without_node(graph: &Graph, mut walk: Vec<u8>) -> Word
     ensures { result ≡ before_last graph.now walk.items }
 {

@@ -1,4 +1,6 @@
-//! The function `first_gap`, which finds the first stretch of a configuration that is an orphan.
+//! The function `first_gap`, which finds the first stretch of a configuration that is an orphan. A stretch consists of
+//! zero or more left periods, the middle and zero or more right periods. It isn't an orphan if there is a walk along
+//! it: a walk in the de Bruijn graph whose labels spell the stretch.
 
 ghost use Rattle.std.specs.Prelude.{MatchOption};
 ghost use Rattle.word_image.specs.LocalRules.{most_nodes};
@@ -10,10 +12,10 @@ use crate::shapes::PartRelations;
 use debruijn::Graph;
 use word_image::MOST_NODES;
 
-/// Returns how many left and how many right periods the first orphan stretch has. The first number is the least
-/// number of left periods that can't be followed by the middle and 16 right periods. The second number is the least
-/// number of right periods that can't follow so many left periods and the middle. Returns None if there is a walk
-/// along 16 left periods, the middle and 16 right periods.
+/// Returns the number of left periods and the number of right periods of the first stretch that is an orphan. The
+/// number of left periods is the least for which no walk leads along these left periods, the middle and 16 right
+/// periods. For this number of left periods, the number of right periods is the least for which no walk leads along the
+/// stretch. Returns None if there is a walk along 16 left periods, the middle and 16 right periods.
 pub fn first_gap(graph: &Graph, parts: &PartRelations) -> Option<(u8, u8)>
     requires { HaveParts graph.now parts.now }
     ensures { MatchOption result (PassesThrough graph.now parts.now most_nodes most_nodes) (λ (b, a). IsFirstGap graph.now parts.now b a) }

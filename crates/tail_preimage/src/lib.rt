@@ -6,21 +6,23 @@
 //! window there. A placed configuration is a walk in the de Bruijn graph (Sutner 1991) whose labels are the letters
 //! of the given configuration. The node of the walk at a place is the word of the m - 1 letters that begin there.
 //!
-//! A *stretch* of the given configuration `L|M|R` consists of some left periods, the middle and some right periods.
-//! If a stretch is an orphan, there is no preimage. This stretch is a *gap*. Otherwise there is a walk along 16 left
-//! periods, the middle and 16 right periods. There are at most 16 nodes, so two of the 17 nodes at the ends of the
-//! left periods are equal, and two on the right are also equal. This gives two *loops* of whole periods, which are
-//! walks from a node back to it, and a walk between the loops. So there is a placed configuration whose periods are
-//! the loops.
+//! A *stretch* of the given configuration `L|M|R` consists of zero or more left periods, the middle and zero or more
+//! right periods. If a stretch is an orphan, there is no preimage. This stretch is a *gap*. Otherwise there is a walk
+//! along 16 left periods, the middle and 16 right periods. There are at most 16 nodes, so two of the 17 nodes at the
+//! ends of the left periods are equal, and two on the right are also equal. This gives two *loops* of whole periods,
+//! which are walks from a node back to it, and a walk between the loops. So there is a placed configuration whose
+//! periods are the loops.
 //!
 //! The *shape* of a placed configuration says how many left and right periods of the given configuration its parts
-//! span. The first placed configuration spans the fewest left periods in total, then the fewest right periods in
-//! total, then the fewest left periods in its middle, then the fewest right periods in its middle. Then it has the
-//! first letters in dictionary order. Each of the four numbers is the least for which two sets of nodes meet: the
-//! nodes before the middle with a loop on the left, and the nodes from which the middle leads to a loop on the right.
-//! Both sides are searched in the same way. The left periods are read backward, starting at the middle. The letters
-//! are found from left to right. At each place the walk takes the edge to the least node from which the goal can
-//! still be reached.
+//! span. The first placed configuration spans the fewest left periods in total, then the fewest right periods in total,
+//! then the fewest left periods in its middle, then the fewest right periods in its middle. Then it has the first
+//! letters in dictionary order.
+//!
+//! The search finds each of these four numbers as the least one for which two sets of nodes have a common node. The
+//! first set has the nodes before the middle to which left periods lead from a loop. The second set has the nodes from
+//! which the middle and right periods lead to a loop. The left periods are read backward, starting at the middle, so
+//! both sides are searched in the same way. The letters are found from left to right. At each place the walk takes the
+//! edge to the least node from which the goal can still be reached.
 //!
 //! A *relation* between nodes says from which nodes to which nodes a walk along a word leads.
 //!

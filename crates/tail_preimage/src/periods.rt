@@ -1,4 +1,7 @@
 //! The type `Periods`: walks along the periods on one side of a configuration, in the direction away from its middle.
+//!
+//! A walk along a word is a walk in the de Bruijn graph whose labels spell the word. A relation says from which nodes
+//! to which nodes such walks lead. A loop is a walk from a node back to it.
 
 ghost use Rattle.std.specs.Prelude.{◌≡◌, ◌-◌, ◌<◌, ◌≤◌, ℕ, IfSome, MatchOption};
 ghost use Rattle.word_image.specs.LocalRules.{most_nodes};
@@ -31,7 +34,7 @@ pub fn periods_of(graph: &Graph, period: Relation) -> Periods
     }
 }
 
-/// Returns the nodes from which a walk along n periods leads to some node.
+/// Returns the set of the nodes from which a walk along n periods begins.
 pub fn open(graph: &Graph, periods: &Periods, n: u8) -> u16
     requires few { n ≤ most_nodes }
     requires periods { ArePeriods graph.now periods.now }
@@ -40,7 +43,7 @@ pub fn open(graph: &Graph, periods: &Periods, n: u8) -> u16
     sources(graph, &periods.powers[usize::from(n)], graph.full())
 }
 
-/// Returns the nodes from which a walk along n periods leads back to the same node.
+/// Returns the set of the nodes from which a walk along n periods leads back to the same node.
 pub fn loops(graph: &Graph, periods: &Periods, n: u8) -> u16
     requires few { n ≤ most_nodes }
     requires periods { ArePeriods graph.now periods.now }
@@ -49,7 +52,7 @@ pub fn loops(graph: &Graph, periods: &Periods, n: u8) -> u16
     returning(graph, &periods.powers[usize::from(n)])
 }
 
-/// Returns the nodes from which n periods lead to a node with a loop of `on` periods.
+/// Returns the set of the nodes from which a walk along n periods leads to a node with a loop of `on` periods.
 pub fn rounds(graph: &Graph, periods: &Periods, n: u8, on: u8) -> u16
     requires n_few { n ≤ most_nodes }
     requires on_few { on ≤ most_nodes }
@@ -63,8 +66,8 @@ pub fn rounds(graph: &Graph, periods: &Periods, n: u8, on: u8) -> u16
     )
 }
 
-/// Returns the nodes from which n periods lead to a node with a loop of `on` periods, for some numbers n and `on`
-/// with n + on = `sum`. `on` is at least 1.
+/// Returns the set of the nodes from which a walk along some number n of periods leads to a node with a loop of
+/// `sum` - n periods. The number n is from 0 to `sum` - 1.
 pub fn some_rounds(graph: &Graph, periods: &Periods, sum: u8) -> u16
     requires few { sum ≤ most_nodes }
     requires periods { ArePeriods graph.now periods.now }
@@ -77,7 +80,7 @@ pub fn some_rounds(graph: &Graph, periods: &Periods, sum: u8) -> u16
     set
 }
 
-/// Returns the least number of periods for which no walk begins at a node of the set. Returns None if a walk along 16
+/// Returns the least n for which no walk along n periods begins at a node of the set. Returns None if a walk along 16
 /// periods begins at a node of the set.
 pub fn least_closed(graph: &Graph, periods: &Periods, set: u16) -> Option<u8>
     requires periods { ArePeriods graph.now periods.now }
@@ -93,7 +96,8 @@ pub fn least_closed(graph: &Graph, periods: &Periods, set: u16) -> Option<u8>
     None
 }
 
-/// Returns the least sum, from 0 to 16, for which `some_rounds` contains a node of the set. There is such a sum.
+/// Returns the least sum, from 0 to 16, for which the result of `some_rounds` contains a node of the set. There must be
+/// such a sum.
 pub fn least_sum(graph: &Graph, periods: &Periods, set: u16) -> u8
     requires periods { ArePeriods graph.now periods.now }
     requires some { (sum : ℕ) × (sum ≤ most_nodes) × Meets graph.now (SomeRounds (HasBit periods.now.period) sum) set }
@@ -108,8 +112,8 @@ pub fn least_sum(graph: &Graph, periods: &Periods, set: u16) -> u8
     unreachable!()
 }
 
-/// Returns the least n for which `rounds` with n and `sum` - n contains a node of the set. There is such an n below
-/// `sum`.
+/// Returns the least n for which the result of `rounds` with n and `sum` - n contains a node of the set. There must be
+/// such an n below `sum`.
 pub fn least_first(graph: &Graph, periods: &Periods, sum: u8, set: u16) -> u8
     requires few { sum ≤ most_nodes }
     requires periods { ArePeriods graph.now periods.now }

@@ -1,4 +1,5 @@
-//! Relations between nodes, and the sets of nodes that they give.
+//! Relations between nodes, and the sets of nodes that they give. A node is a word of m - 1 letters, and a set of nodes
+//! is a number: its bit u is 1 if node u is in the set.
 
 ghost use Rattle.std.specs.Prelude.{◌≡◌, ◌+◌, ◌<◌, ◌≤◌, ℕ, [], get_or, IsBitSet};
 ghost use Rattle.word_image.specs.LocalRules.{IsRule, IsWord, node_count, most_nodes};
@@ -36,7 +37,7 @@ pub fn edges(graph: &Graph, label: u8) -> Relation
     graph.edges()[usize::from(label)]
 }
 
-/// Returns the nodes that the relation `rows` relates to some node of the set.
+/// Returns the nodes that the relation `rows` relates to some node of `set`.
 pub fn sources(graph: &Graph, rows: &Relation, set: u16) -> u16
     ensures { IsNodeSet graph.now (λ u. (v : ℕ) × HasBit rows.now u v × IsBitSet set v) result }
 {
@@ -75,7 +76,7 @@ fn joined(graph: &Graph, first: &Relation, second: &Relation) -> Relation
     rows
 }
 
-/// Returns the converse of a relation, which relates v to u if the relation relates u to v.
+/// Returns the converse of a relation. The converse relates v to u if the relation relates u to v.
 pub fn reversed(graph: &Graph, relation: &Relation) -> Relation
     ensures { IsRelation graph.now (λ u v. HasBit relation.now v u) result }
 {
@@ -86,8 +87,8 @@ pub fn reversed(graph: &Graph, relation: &Relation) -> Relation
     rows
 }
 
-/// Returns the relation that relates each node to the nodes at the ends of those walks from it whose labels spell the
-/// word.
+/// Returns the relation of the walks along a word. It relates the first node of each walk whose labels spell the word
+/// to the last node of the walk.
 pub fn relation(graph: &Graph, word: &[u8]) -> Relation
     requires { IsWord graph.now.states word.now }
     ensures relation { IsRelation graph.now (HasWalk graph.now word.now) result }

@@ -1,4 +1,7 @@
 //! The function `first_shape`, which finds the first shape that a placed configuration can have.
+//!
+//! A placed configuration has a left period, a middle and a right period, and the middle begins at any place. The rule
+//! maps it to a given configuration. Its shape says how many periods of the given configuration its parts span.
 
 ghost use Rattle.std.specs.Prelude.{◌≡◌};
 ghost use Rattle.word_image.specs.LocalRules.{most_nodes};
@@ -11,7 +14,8 @@ use debruijn::Graph;
 use tail_config::Tail;
 use word_image::MOST_NODES;
 
-/// The relations of the parts of the given configuration.
+/// The relations of the parts of the given configuration. A relation says from which nodes to which nodes walks lead
+/// whose labels spell the part.
 #[derive(Clone, Copy)]
 pub struct PartRelations {
     /// The relations of the left periods, from the node at the end of a period to the node at its start.
@@ -49,8 +53,9 @@ pub fn parts_of(graph: &Graph, tail: &Tail) -> PartRelations
     }
 }
 
-/// Returns the first shape that a placed configuration can have. There must be a walk along 16 left periods, the
-/// middle and 16 right periods.
+/// Returns the first shape that a placed configuration can have: the fewest left periods in total, then the fewest
+/// right periods in total, then the fewest left and then the fewest right periods in its middle. There must be a walk
+/// along 16 left periods, the middle and 16 right periods.
 pub fn first_shape(graph: &Graph, parts: &PartRelations) -> Spans
     requires parts { HaveParts graph.now parts.now }
     requires some { PassesThrough graph.now parts.now most_nodes most_nodes }

@@ -1,5 +1,5 @@
-//! The function `least_walk`, which finds the first walk of a word from a node into a set of nodes, in dictionary
-//! order.
+//! The function `least_walk`, which finds the first walk from a node into a set of nodes whose labels spell a word. The
+//! first walk is the first in the dictionary order of the walks' letters.
 
 ghost use Rattle.std.specs.Prelude.{◌≡◌, ◌≢◌, ◌-◌, ◌^◌, ◌<◌, length, IfOk, IsBitSet};
 ghost use Rattle.word_image.specs.LocalRules.{IsWord, word_of, node_count};
@@ -20,8 +20,9 @@ pub fn least_node(set: u16) -> u8
     set.trailing_zeros() as u8
 }
 
-/// Returns for each place of the word the nodes from which the rest of the word leads into the goal. The places are
-/// in order from the end of the word to its start.
+/// Returns a set of nodes for each place of the word, and one for its end. A node is in the set of a place if some walk
+/// leads from it to a node of the goal, and the labels of the walk spell the rest of the word. The sets are in order
+/// from the end of the word to its start.
 fn open_sets(alloc: Global, graph: &Graph, word: &[u8], goal: u16) -> Result<Vec<u16>, AllocError>
     requires word { IsWord graph.now.states word.now }
     requires goal { goal < 2 ^ node_count graph.now }
@@ -48,8 +49,8 @@ fn node_letters(alloc: Global, rule: &Rule, u: u8) -> Result<Vec<u8>, AllocError
     Ok(word)
 }
 
-/// Returns the first walk whose labels spell the word from the node `start` into the set `goal`, and the node at its
-/// end. The walk is given by its letters. There is such a walk.
+/// Returns the first walk, in dictionary order, from the node `start` to a node of the set `goal` whose labels spell
+/// the word. The walk is returned as its letters, together with the node at its end. There must be such a walk.
 pub fn least_walk(
     alloc: Global,
     graph: &Graph,

@@ -1,5 +1,8 @@
-//! The edges of the de Bruijn graph, stored as sets of nodes, and steps from a set of nodes along the edges with one
+//! The edges of the de Bruijn graph, stored as sets of nodes, and the step from a set of nodes along all edges with one
 //! label.
+//!
+//! A node is a word of m - 1 letters, and an edge is a window of m letters. The label of an edge is the letter that the
+//! rule gives for the window. A set of nodes is a number: its bit u is 1 if node u is in the set.
 
 ghost use Rattle.std.specs.Prelude.{◌≡◌, ◌^◌, ◌<◌, ◌≤◌, ℕ, List, [], ◌∷◌, ◌++◌, length, slice_index, slice_index_or, IsBitSet};
 ghost use Rattle.word_image.specs.LocalRules.{IsRule, most_states, most_nodes};
@@ -10,11 +13,12 @@ ghost use Rattle.word_image.specs.Edges.{AreEdgeRows, IsStep};
 use crate::local_rule::{MOST_NODES, MOST_STATES, Rule};
 use crate::side::Side;
 
-/// For each label and each node, the set of nodes to which the edges with that label lead from the node. Bit v of a
-/// set says whether node v is in it. Entries past the last label or the last node are empty sets.
+/// The entry `[label][u]` is the set of nodes to which the edges with this label lead from node u. There is room for 16
+/// labels and 16 nodes. Entries past the last label or the last node are empty sets.
 pub type EdgeRows = [[u16; MOST_NODES]; MOST_STATES];
 
-/// Returns the edges of the rule's de Bruijn graph: on the right side as they are, and on the left side reversed.
+/// Returns the edges of the rule's de Bruijn graph. On the right side they are the edges as they are. On the left side
+/// each edge is reversed.
 pub fn edge_rows(rule: &Rule, side: Side) -> EdgeRows
     ensures edges { AreEdgeRows side rule.now result }
     ensures tall { length result ≡ most_states }
@@ -33,9 +37,9 @@ pub fn edge_rows(rule: &Rule, side: Side) -> EdgeRows
     ends
 }
 
-/// Returns the nodes to which edges with the label `a` lead from the nodes of `set`. Suppose that `set` has the last
-/// nodes of all preimages of a word. Then the result has the last nodes of all preimages of the word followed by `a`.
-/// `edges` are the rule's edges on the right side.
+/// Returns the nodes to which edges with the label `a` lead from the nodes of `set`. If `set` has the last nodes of all
+/// preimages of a word, the result has the last nodes of all preimages of the word followed by `a`. The last node of a
+/// word consists of its last m - 1 letters. `edges` are the rule's edges on the right side.
 pub fn step(rule: &Rule, edges: &EdgeRows, set: u16, a: u8) -> u16
     requires edges { AreEdgeRows Side.Right rule.now edges.now }
     requires letter { a < rule.now.states }

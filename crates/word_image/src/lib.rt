@@ -24,10 +24,10 @@
 //! A set of nodes is a number: its bit u is 1 if node u is in the set. The pair of the nodes u and v has the number
 //! u * N + v.
 //!
-//! `Word`, `SetList`, `RankRow` and `FluxRow` are the lists in the evidence for a verdict on a rule. The rank of a
-//! pair of nodes tells how long walks with equal labels can be that begin, or end, at the two nodes. A flux has a
-//! whole number for each node, and shows that a rule keeps the sum of every ring. `Weights` has a weight for each
-//! letter.
+//! `Word`, `SetList`, `RankRow` and `FluxRow` are the lists in the evidence for a verdict on a rule. The forward rank
+//! of two nodes is the greatest length of two walks with equal labels that begin at the nodes. The backward rank is the
+//! greatest length of two walks with equal labels that end at them. A flux is an integer for each node, and shows that
+//! a rule keeps the sum of every ring. `Weights` has a weight for each letter.
 //!
 //! `at` takes time O(1), `apply` O(m), and `image` takes time O(n m) and space O(n) for an image of n letters.
 #![tactic(auto)]

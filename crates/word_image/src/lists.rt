@@ -1,5 +1,9 @@
-//! Lists in the evidence for a verdict: words, sets of nodes, ranks and fluxes. In contracts each of them is the list
-//! of its items.
+//! Lists in the evidence for a verdict: words, sets of nodes, ranks and fluxes. Contracts treat a value of these types
+//! as the list of its items.
+//!
+//! A node is a word of m - 1 letters. The rank of two nodes is the greatest length of two walks with equal labels that
+//! begin at them (forward rank) or end at them (backward rank). A flux is an integer for each node. It shows that a
+//! rule keeps the sum of every ring.
 ghost use Rattle.std.specs.Prelude.{◌≡◌};
 
 use std::marker::Model;
@@ -64,7 +68,8 @@ impl SetList {
     }
 }
 
-/// The rank of each pair of nodes, in the order of the pairs' numbers. None stands for an infinite rank.
+/// The rank of each pair of nodes, in the order of the pairs' numbers. If there are N nodes, the pair of u and v has
+/// the number u * N + v. None stands for an infinite rank.
 #[derive(Debug, Drop)]
 pub struct RankRow {
     ranks: Vec<Option<u16>>,

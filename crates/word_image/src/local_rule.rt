@@ -1,4 +1,8 @@
 //! A rule, and the letter that the rule gives for a window.
+//!
+//! A rule has k states, which are the letters 0 to k - 1, a width m and an offset o. A window is a word of m letters,
+//! and the window of cell i begins at cell i + o. The value of a window is the base-k number whose most significant
+//! digit is the leftmost letter. The table has one letter for each window. A node is a word of m - 1 letters.
 ghost use Rattle.std.specs.Prelude.{◌≡◌, ℕ, ◌-◌, ◌^◌, ◌<◌, ◌≤◌, ◌↔◌, List, length, reverse, ℤ, nat_le, position, slice_index, IfOk, IfSome, IsOk, IsTrue};
 ghost use Rattle.std.specs.Cmp.Rules.{comparing};
 ghost use Rattle.std.proofs.Common.{rules};
@@ -32,7 +36,7 @@ pub const MOST_PAIRS: usize = 256;
 /// The greatest number of letters in a table. A rule of 16 states and width 2 has this many.
 pub const MOST_ENTRIES: usize = 256;
 
-/// The limit that a rule breaks, so that it isn't accepted.
+/// Why a rule isn't accepted: the limit that it breaks.
 #[derive(Clone, Copy, Debug, PartialEq, Eq)]
 pub enum RuleFault {
     /// The number of states isn't from 2 to 16.
@@ -49,7 +53,7 @@ pub enum RuleFault {
     Letter(u16),
 }
 
-/// An accepted local rule. In contracts it is a `LocalRule` with its states, width, offset and table.
+/// An accepted local rule. Contracts treat it as a `LocalRule`, which consists of states, width, offset and table.
 #[derive(Clone, Copy, Debug)]
 pub struct Rule {
     // The number of states, from 2 to 16.
@@ -95,8 +99,8 @@ impl Rule {
     ghost use Rattle.word_image.specs.Graphs.{node_letter};
     ghost use Rattle.word_image.specs.Words.{image};
 
-    /// Makes the rule with k states, width m, offset o and this table, whose letters are in the order of the windows'
-    /// values. Returns the first fault, in the order of `RuleFault`, if a rule can't have these parts.
+    /// Makes the rule with k states, width m, offset o and this table. The letters of the table are in the order of the
+    /// windows' values. If a rule can't have these parts, returns the first fault, in the order of `RuleFault`.
     pub fn new(k: u8, m: u8, o: i8, table: &[u8]) -> Result<Rule, RuleFault>
         ensures rule { IfOk result (λ r. r ≡ record { states = k; width = m; offset = o; table = table.now }) }
         ensures fault { result_err result ≡ rule_fault k m o table.now }
@@ -113,8 +117,8 @@ impl Rule {
         })
     }
 
-    /// Makes the rule with k states, width m and offset o that gives for each window the letter `letter(value)`,
-    /// where `value` is the value of the window.
+    /// Makes the rule with k states, width m and offset o whose table has the letter `letter(value)` for the window
+    /// with the value `value`.
     pub fn from_fn<F: Fn(u16) -> u8>(k: u8, m: u8, o: i8, letter: F) -> Rule
         requires rule { (r : LocalRule) × IsRuleBy k m o (F.post letter) r }
         requires callable { (v : ℕ) → v < k ^ m → F.pre letter v }
@@ -268,7 +272,7 @@ fn padded_table(table: &[u8]) -> [u8; MOST_ENTRIES]
     entries
 }
 
-/// Returns the number of words of m - 1 letters below k. It may be called only if some rule has k states and width m.
+/// Returns the number of words of m - 1 letters below k. Some rule must have k states and width m.
 fn node_count(k: u8, m: u8) -> u8
     requires { (o : ℤ) × IsShape k m o }
     ensures { result ≡ k ^ (m - 1) }
@@ -297,7 +301,7 @@ pub fn check_shape(k: u8, m: u8, o: i8) -> Result<(), RuleFault>
     Ok(())
 }
 
-/// Checks whether a rule with k states and width m can have this table. Returns the first of `Length` and `Letter`
+/// Checks whether this can be the table of a rule with k states and width m. Returns the first of `Length` and `Letter`
 /// that applies, if any. There are at most 256 windows.
 fn check_table(k: u8, m: u8, table: &[u8]) -> Result<(), RuleFault>
     requires { k ^ m ≤ most_windows }
@@ -333,8 +337,7 @@ fn value_of(k: u8, window: &[u8]) -> u16
     value
 }
 
-/// Returns the value of the window that is read from right to left. `window` is the value of this window read from
-/// left to right.
+/// Returns the value of the reversed window. `window` is the value of the window itself, which has m letters below k.
 fn backwards(k: u8, m: u8, window: u16) -> u16
     requires states { 0 < k }
     requires fits { k ^ m ≤ most_windows }

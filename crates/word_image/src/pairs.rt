@@ -1,4 +1,7 @@
 //! Pairs of nodes: their numbers, the steps between pairs, and the set of all nodes.
+//!
+//! A node is a word of m - 1 letters, given by its value. A pair is a pair of nodes. A step follows two edges with
+//! equal labels, one from each node of the pair.
 
 ghost use Rattle.std.specs.Prelude.{◌≡◌, ◌<◌, IfSome};
 ghost use Rattle.word_image.specs.LocalRules.{IsRule, node_count};

@@ -1,4 +1,5 @@
-//! Computes the image of a ring, and tests whether a ring and its image have the same sum of weights.
+//! Computes the image of a ring, and tests whether a ring and its image have the same sum of weights. A ring is a word
+//! that is read in a circle.
 ghost use Rattle.std.specs.Prelude.{◌≡◌, ◌^◌, ◌<◌, ◌↔◌, length, pos, slice_index, alloc_error, IfOk, IfSome, IfNone, IsOkUnless, IsTrue};
 ghost use Rattle.std.specs.Int.{int_rem_euclid};
 ghost use Rattle.word_image.specs.LocalRules.{IsRule, local_map};
@@ -20,8 +21,8 @@ pub enum RingFault {
     Memory(AllocError),
 }
 
-/// Returns the image of a ring: a ring of the same length. It has at each place the letter that the rule gives for
-/// the window of this place. The window may go around the ring. The ring must have at least one letter, and all its
+/// Returns the image of a ring, which is a ring of the same length. At each place it has the letter that the rule gives
+/// for the window of this place. The window may go around the ring. The ring must have at least one letter, and all its
 /// letters must be below k.
 ///
 /// Returns `Letter` if some letter isn't below k, and `Empty` if the ring has no letter. Returns `Memory` only if the
@@ -55,7 +56,7 @@ fn new_letters(alloc: Global, rule: &Rule, ring: &[u8]) -> Result<Vec<u8>, Alloc
     Ok(letters)
 }
 
-/// Returns the place of a ring with `count` letters at which the window of place 0 begins.
+/// Returns the place at which the window of place 0 begins on a ring with `count` letters: the offset modulo `count`.
 pub fn first_place(rule: &Rule, count: usize) -> usize
     requires some { 0 < count }
     requires fits { count < 2 ^ 63 }
@@ -64,7 +65,8 @@ pub fn first_place(rule: &Rule, count: usize) -> usize
     i64::from(rule.o()).rem_euclid(count as i64) as usize
 }
 
-/// Returns the letter that the rule gives for the window of m letters that begins at place `first` of a ring.
+/// Returns the letter that the rule gives for the window that begins at place `first` of a ring. The window may go
+/// around the ring.
 pub fn ring_apply(rule: &Rule, ring: &[u8], first: usize) -> u8
     requires ring { IsRing rule.now.states ring.now }
     requires first { first < length ring.now }

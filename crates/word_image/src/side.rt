@@ -26,8 +26,8 @@ impl Side {
         }
     }
 
-    /// Returns the value of the window that consists of a node and one more letter. On the right side the letter
-    /// follows the node, and on the left side it precedes the node.
+    /// Returns the value of the window that consists of a node and one more letter. A node is a word of m - 1 letters.
+    /// On the right side the letter follows the node, and on the left side it precedes the node.
     pub fn window_with(self, rule: &Rule, node: u8, letter: u8) -> u16
         requires node { node < node_count rule.now }
         requires letter { letter < rule.now.states }

@@ -1,4 +1,5 @@
-//! Computes the value of a word, and the letters of a word from its value.
+//! Computes the value of a word, and the letters of a word from its value. The value is the base-k number whose digits
+//! are the letters. The leftmost letter is the most significant digit.
 ghost use Rattle.std.specs.Prelude.{◌≡◌, ℕ, ◌^◌, ◌<◌, ◌≤◌, List, slice_index};
 ghost use Rattle.word_image.specs.LocalRules.{value, word_of, most_windows};
 ghost use Rattle.word_image.specs.WordsBy.{IsWordBy};
@@ -19,7 +20,8 @@ pub fn value_by<F: Fn(u8) -> u8>(k: u8, n: u8, letter: F) -> u16
     value
 }
 
-/// Returns the letter at a place of the word of n letters below k with this value. There are at most 256 such words.
+/// Returns the letter at place `place` of the word of n letters that has the value `word`. The letters are below k, and
+/// there are at most 256 words of n letters.
 pub fn letter_of(k: u8, n: u8, word: u16, place: u8) -> u8
     requires some { 0 < k }
     requires fits { k ^ n ≤ most_windows }

@@ -13,8 +13,8 @@ pub enum WeightFault {
     Length,
 }
 
-/// A weight from 0 to 255 for each of the k letters. There are from 2 to 16 letters. In contracts it is the list of
-/// the weights.
+/// A weight from 0 to 255 for each of the k letters. There are from 2 to 16 letters. Contracts treat a value of this
+/// type as the list of the weights.
 #[derive(Clone, Copy, Debug, PartialEq, Eq)]
 pub struct Weights {
     // The number of letters that have a weight.
