@@ -1,7 +1,7 @@
 -- The family of a rule is a list of sets of nodes. Each word has a set: the last m - 1 letters of each of its
--- preimages, if the rule has width m. The family has each of these sets once, in the order in which a breadth-first
--- search finds them. A tree is a family with the parent of each set: the place of an earlier set, and the letter of a
--- step that leads from the earlier set to this set.
+-- preimages, if the rule has width m. The family has these sets in the order in which a breadth-first search finds
+-- them, each set once, up to and including the empty set if there is one. A tree is a family with the parent of each
+-- set: the place of an earlier set, and the letter of a step that leads from the earlier set to this set.
 use Rattle.std.specs.Prelude.{◌≡◌, ℕ, ◌<◌, ◌≤◌, List, length, slice_index, slice_get, Option, Some, MatchOption}
 use Rattle.word_image.specs.LocalRules.{LocalRule, IsRule, most_sets}
 use Rattle.word_image.specs.Graphs.{full_set}

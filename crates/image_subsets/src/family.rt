@@ -17,10 +17,10 @@ use debruijn::Graph;
 use std::alloc::{AllocError, Global};
 use std::marker::Model;
 
-/// The family of a rule: its sets of last nodes in the order of their least words, and the parent of each set. The
-/// search found a set by a step from an earlier set. The parent is the place of the earlier set, and the letter of the
-/// step. Contracts treat a family as the list of sets and the list of their parents. `new` allocates all memory, less
-/// than 1 MB, once.
+/// The family of a rule: its sets of last nodes in the order of their least words, up to and including the empty set if
+/// there is one, and the parent of each set. The search found a set by a step from an earlier set. The parent is the
+/// place of the earlier set, and the letter of the step. Contracts treat a family as the list of sets and the list of
+/// their parents. `new` allocates all memory, less than 1 MB, once.
 ///
 /// `explore` is the subset construction: breadth first, with letters ascending. It takes time **O(s k + 2^8 k)** for
 /// s sets, and **O(N 2^N)** more if no set is empty. If there are N nodes, s is at most 2^N, so at most 65,536.

@@ -1,6 +1,7 @@
 -- The results of a search for the least orphan of a rule. Each word has the set of the last nodes of its preimages; a
--- last node is the last m - 1 letters of a preimage, if the rule has width m. The family of a rule is the list of these
--- sets. Its covers are the set of all nodes, and each set that contains no other set of the family.
+-- last node is the last m - 1 letters of a preimage, if the rule has width m. The family of a rule lists these sets in
+-- the order of their least words, up to and including the empty set if there is one. Its covers are the set of all
+-- nodes, and each set that contains no other set of the family.
 use Rattle.std.specs.Prelude.{◌≡◌, ◌≤◌, ℕ, List, [], length}
 use Rattle.word_image.specs.LocalRules.{LocalRule}
 use Rattle.word_image.specs.Words.{IsSurjective, IsLeastOrphan}

@@ -1,8 +1,8 @@
 //! The search for the least orphan, with its verdict and its evidence.
 //!
 //! An orphan is a word without a preimage. The set of a word consists of the last nodes of its preimages, which are the
-//! last m - 1 letters of these words. The family of a rule lists the different sets in the order of their least words.
-//! If a set is empty, it is the last one in the family. If no set is empty, the cover list has the set of all nodes and
+//! last m - 1 letters of these words. The family of a rule lists the different sets in the order of their least words,
+//! up to and including the empty set if there is one. If no set is empty, the cover list has the set of all nodes and
 //! each other set that contains no other set of the family.
 
 ghost use Rattle.std.specs.Prelude.{◌≡◌, ◌≤◌, ◌<◌, ◌↔◌, [], length, Contains, slice_index, vec_capacity, IfOk};
