@@ -2,7 +2,7 @@
 use Rattle.std.proofs.Common.{◌≡◌, ℕ, ◌+◌, ◌^◌, ◌<◌, zero, suc, List, length, All, pos, refl, sym, ap, ◌∙◌, subst, arith, None}
 use Rattle.word_image.proofs.Common.{AllByRecursion, range_with_len, same_Some, All-nil, All-cons, All-map, All-from_get_or, length-range_with_len, get_or-range_with_len, LocalRule, IsShape, IsRule, IsShape-shape_fault}
 use Rattle.rule_text.specs.declared.text_fault.TextFault.{TextFault}
-use Rattle.rule_text.specs.RuleTexts.{by_number, in_text}
+use Rattle.rule_text.specs.RuleTexts.{by_number, as_text_fault}
 use Rattle.rule_text.proofs.laws.Texts.{IsRuleText-no_fault, IsTextFault-unique}
 use Rattle.rule_text.proofs.laws.AcceptedRules.{IsRule-said, IsRule-text, none_map}
 use Rattle.rule_verdicts.specs.Numbers.{numbered_rule, numbers_fault}
@@ -40,7 +40,7 @@ sample_rules-rules k m seed (suc count) shape =
 -- what is asked of accepted rules is a question of accepted rules
 Asks-rules : {n : Name} {rules : List LocalRule} {operands : List (List ℕ)} {q : Question} → AllByRecursion IsRule rules → Asks n rules operands q → AreRules q
 Asks-rules accepted (Asks.Survey k m from count none) = survey_rules-rules _ _ _ _ none
-Asks-rules accepted (Asks.Sample k m seed count none) = sample_rules-rules _ _ _ _ (IsShape-shape_fault _ _ (pos 0) (none_map (in_text 0) _ none))
+Asks-rules accepted (Asks.Sample k m seed count none) = sample_rules-rules _ _ _ _ (IsShape-shape_fault _ _ (pos 0) (none_map (as_text_fault 0) _ none))
 Asks-rules accepted (Asks.Classes k m from count none) = survey_rules-rules _ _ _ _ none
 Asks-rules accepted (Asks.Compose r s) = (accepted.0, accepted.1.0)
 Asks-rules accepted (Asks.Same r s) = (accepted.0, accepted.1.0)

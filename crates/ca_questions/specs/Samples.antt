@@ -5,7 +5,7 @@ use Rattle.std.specs.List.{range_with_len}
 use Rattle.std.specs.Option.{option_map}
 use Rattle.word_image.specs.LocalRules.{LocalRule}
 use Rattle.word_image.specs.RuleFaults.{shape_fault}
-use Rattle.rule_text.specs.RuleTexts.{in_text}
+use Rattle.rule_text.specs.RuleTexts.{as_text_fault}
 use Rattle.rule_text.specs.declared.text_fault.TextFault.{TextFault}
 use Rattle.rule_verdicts.specs.Numbers.{numbered_rule}
 
@@ -37,4 +37,4 @@ sample_rules k m s (suc count) = drawn_rule k m s ∷ sample_rules k m (state_af
 
 -- the first fault of the shape of a sample, if there is one
 abbrev pub sample_fault : ℕ → ℕ → Option TextFault
-sample_fault k m = option_map (in_text 0) (shape_fault k m (pos 0))
+sample_fault k m = option_map (as_text_fault 0) (shape_fault k m (pos 0))

@@ -6,7 +6,7 @@ use Rattle.std.specs.Option.{option_map, option_or}
 use Rattle.word_image.specs.LocalRules.{LocalRule}
 use Rattle.word_image.specs.Grammars.{IsFormFault}
 use Rattle.word_image.specs.RuleFaults.{shape_fault, table_fault}
-use Rattle.rule_text.specs.RuleTexts.{Said, Entries, Says, IsSaid, in_text}
+use Rattle.rule_text.specs.RuleTexts.{Said, Entries, Says, IsSaid, as_text_fault}
 use Rattle.rule_text.specs.declared.text_fault.TextFault.{TextFault}
 use Rattle.rule_text.specs.declared.text_fault.TextFault.TheVariants as fault
 use Rattle.rule_text.specs.declared.beginnings.Beginning.{Beginning}
@@ -22,12 +22,12 @@ letters_of (Entries.Number n) = []
 
 -- the fault of the entries of a beginning whose shape is accepted, or None: they are a number and not a table, there are more letters than windows, or a letter isn't below k
 abbrev pub beginning_entries_fault : Said → Entries → Option TextFault
-beginning_entries_fault s (Entries.Table letters) = option_map (in_text s.place) (table_fault s.states s.width (filled (s.states ^ s.width) letters))
+beginning_entries_fault s (Entries.Table letters) = option_map (as_text_fault s.place) (table_fault s.states s.width (filled (s.states ^ s.width) letters))
 beginning_entries_fault s (Entries.Number n) = Some fault.Kind
 
 -- the first fault of a beginning, if there is one: faults of the shape come before faults of the entries
 abbrev pub beginning_fault : Said → Option TextFault
-beginning_fault s = option_or (option_map (in_text s.place) (shape_fault s.states s.width s.offset)) (beginning_entries_fault s s.entries)
+beginning_fault s = option_or (option_map (as_text_fault s.place) (shape_fault s.states s.width s.offset)) (beginning_entries_fault s s.entries)
 
 -- the rule of a beginning: its table has the given letters, followed by zeros
 abbrev pub beginning_rule : Said → LocalRule

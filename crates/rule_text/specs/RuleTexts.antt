@@ -69,13 +69,13 @@ abbrev pub IsSaid : List ℕ → Type 0
 IsSaid text = (said : Said) × Says text said
 
 -- a fault of a rule as a fault of its text: a wrong letter at place i of the table is at place `place` + i of the text
-abbrev pub in_text : ℕ → RuleFault → TextFault
-in_text place limit.States = fault.States
-in_text place limit.Width = fault.Width
-in_text place limit.Nodes = fault.Nodes
-in_text place limit.Offset = fault.Offset
-in_text place limit.Length = fault.Length
-in_text place (limit.Letter i) = fault.Letter (place + i)
+abbrev pub as_text_fault : ℕ → RuleFault → TextFault
+as_text_fault place limit.States = fault.States
+as_text_fault place limit.Width = fault.Width
+as_text_fault place limit.Nodes = fault.Nodes
+as_text_fault place limit.Offset = fault.Offset
+as_text_fault place limit.Length = fault.Length
+as_text_fault place (limit.Letter i) = fault.Letter (place + i)
 
 -- the fault of the Wolfram number n for k states and width m, which are accepted, or None: there are more than 6 states, or no table has this number
 abbrev pub number_fault : ℕ → ℕ → ℕ → Option TextFault
@@ -83,12 +83,12 @@ number_fault k m n = if nat_lt 6 k then Some fault.Kind else (if nat_le (k ^ (k 
 
 -- the fault of the entries of a text whose shape is accepted, if there is one
 abbrev pub entries_fault : Said → Entries → Option TextFault
-entries_fault s (Entries.Table letters) = option_map (in_text s.place) (table_fault s.states s.width letters)
+entries_fault s (Entries.Table letters) = option_map (as_text_fault s.place) (table_fault s.states s.width letters)
 entries_fault s (Entries.Number n) = number_fault s.states s.width n
 
 -- the first fault of the meaning of a text, or None. Faults of the shape come first, then faults of the kind, the length, the letters and the number
 abbrev pub fault_of : Said → Option TextFault
-fault_of s = option_or (option_map (in_text s.place) (shape_fault s.states s.width s.offset)) (entries_fault s s.entries)
+fault_of s = option_or (option_map (as_text_fault s.place) (shape_fault s.states s.width s.offset)) (entries_fault s s.entries)
 
 -- the table of a text; for a number its digits in base k, beginning with the least significant one
 abbrev pub table_of : Said → Entries → List ℕ

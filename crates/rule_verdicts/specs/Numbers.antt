@@ -3,7 +3,7 @@ use Rattle.std.specs.Prelude.{◌≡◌, ℕ, ◌+◌, ◌-◌, ◌<◌, List, l
 use Rattle.std.specs.Option.{option_map, option_or}
 use Rattle.word_image.specs.LocalRules.{LocalRule}
 use Rattle.word_image.specs.RuleFaults.{shape_fault}
-use Rattle.rule_text.specs.RuleTexts.{by_number, rule_of, in_text, number_fault}
+use Rattle.rule_text.specs.RuleTexts.{by_number, rule_of, as_text_fault, number_fault}
 use Rattle.rule_text.specs.declared.text_fault.TextFault.{TextFault}
 use Rattle.rule_verdicts.specs.declared.truths.Truths.{Truths}
 use Rattle.rule_verdicts.specs.Truths.{AreTruths, byte_of}
@@ -14,7 +14,7 @@ numbered_rule k m n = rule_of (by_number k m (pos 0) n)
 
 -- the first reason why first, .., first + count - 1 aren't all numbers of rules: a fault of the shape, or more than six states, or a last number that is too large (`count` is at least 1)
 abbrev pub numbers_fault : ℕ → ℕ → ℕ → ℕ → Option TextFault
-numbers_fault k m first count = option_or (option_map (in_text 0) (shape_fault k m (pos 0))) (number_fault k m (first + count - 1))
+numbers_fault k m first count = option_or (option_map (as_text_fault 0) (shape_fault k m (pos 0))) (number_fault k m (first + count - 1))
 
 -- the byte stands for the true verdicts on the rule r
 pub record IsVerdictByte (r : LocalRule) (byte : ℕ) : Type 0 where

@@ -1,7 +1,7 @@
 use Rattle.std.proofs.Common.{◌≡◌, ◌+◌, ◌-◌, ◌^◌, ◌≤◌, None, length, reverse, ap, ◌∙◌, subst, arith, pos, option_map}
 use Rattle.std.specs.Option.{option_or}
 use Rattle.word_image.proofs.Common.{value, shape_fault}
-use Rattle.rule_text.specs.RuleTexts.{by_number, in_text, number_fault}
+use Rattle.rule_text.specs.RuleTexts.{by_number, as_text_fault, number_fault}
 use Rattle.rule_text.specs.TextReadings.{IsReading}
 use Rattle.rule_verdicts.specs.Numbers.{numbers_fault, numbered_rule, AreVerdictBytes}
 use Rattle.rule_verdicts.proofs.laws.Numbers.{numbers_fault-room}
@@ -14,7 +14,7 @@ none : (c : After-copy_from_slice) → numbers_fault c.args.k c.args.m c.args.fi
 none c =
     let last : c.in-Some.last ≡ c.args.first + length c.args.bytes.now - 1 = omega (arith, c.in-Some.ensures.1, c.requires) in
     let reading = subst (IsReading (by_number c.args.k c.args.m (pos 0) c.in-Some.last)) c.in_ok-numbered.was c.numbered.ensures in
-    subst (λ n. option_or (option_map (in_text 0) (shape_fault c.args.k c.args.m (pos 0))) (number_fault c.args.k c.args.m n) ≡ None) last reading.0
+    subst (λ n. option_or (option_map (as_text_fault 0) (shape_fault c.args.k c.args.m (pos 0))) (number_fault c.args.k c.args.m n) ≡ None) last reading.0
 
 -- each number from the first on that has a byte is one of a rule
 room : (c : After-copy_from_slice) → c.args.first + length c.args.bytes.now ≤ c.args.k ^ (c.args.k ^ c.args.m)
