@@ -8,7 +8,7 @@ ghost use Rattle.ca_questions.specs.Values.{Settles, finding_of};
 use ca_questions::{Cause, Found};
 use word_image::Rule;
 
-/// Returns the answer to the question for the mirrored rule.
+/// Returns the mirrored rule as a finding, the answer to the question what the mirrored rule is.
 pub fn reflect(rule: &Rule) -> Found
     ensures { IsFinding (Question.Reflect rule.now) (finding_of result) }
 {

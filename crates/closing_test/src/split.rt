@@ -2,9 +2,9 @@
 //!
 //! A right split consists of two different configurations with the same image that agree far to the left. The marked
 //! graph has each pair of nodes twice, without a mark and with it. These are its states. A step on two different
-//! letters sets the mark. A normal right split consists of two walks in this graph. The middle leads from the pair of
-//! the node of zeros with itself to some state, and the period leads from there back to the pair of this state, with
-//! the mark.
+//! letters sets the mark. A normal right split consists of two walks in this graph, called the middle and the period.
+//! The middle leads from the unmarked pair of the node of zeros with itself to some state. The period leads from this
+//! state to the same pair of nodes with the mark.
 
 ghost use Rattle.std.specs.Prelude.{◌≡◌, ◌+◌, ◌*◌, ◌<◌, ◌≤◌, All, IfOk, IfSome, map};
 ghost use Rattle.least_walk.specs.Queues.{most_steps};

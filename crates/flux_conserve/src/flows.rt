@@ -1,8 +1,8 @@
-//! The gains of windows along the walks to node 0, and the test whether they form a flux.
+//! For each node, the sum of the gains along the walk to node 0, and the test whether these sums are a flux.
 //!
 //! A node is a word of m - 1 letters. The gain of a window is the weight of the letter that the rule gives for the
-//! window, minus the weight of the window's first letter. A flux has a number for each node. The gain of each window is
-//! the number of its first m - 1 letters minus the number of its last m - 1 letters.
+//! window, minus the weight of the window's first letter. A list with a number for each node is a flux if the gain of
+//! each window is the number of its first m - 1 letters minus the number of its last m - 1 letters.
 ghost use Rattle.std.specs.Prelude.{◌≡◌, ◌-◌, ◌^◌, ◌<◌, ◌↔◌, ◌≤ℤ◌, length, slice_index, IsTrue, pos, negsuc, ◌++◌, replicate};
 ghost use Rattle.word_image.specs.LocalRules.{node_count, most_nodes};
 ghost use Rattle.word_image.specs.Rings.{IsFlux};
