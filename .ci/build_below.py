@@ -115,7 +115,7 @@ class Builds:
         """Begins with a crate. The one with the longest way up gets all processors. The others get what it leaves of them, by
         several jobs each, so that the last ones don't leave processors idle."""
         is_first = self.ways[name] == max(self.ways[it] for it in self.below if it not in self.built)
-        words = [*rt, "lib", "--jobs", str(self.most)] if is_first else ["nice", *rt, "lib", "--jobs", str(self.jobs)]
+        words = [*rt, "lib", "--jobs", str(self.most)] if is_first else ["nice", "-n", "19", *rt, "lib", "--jobs", str(self.jobs)]
         folder = self.free.pop()
         move(name, top, folder)
         with open(folder / f"{name}.log", "wb") as log:
