@@ -9,4 +9,4 @@ returns c =
     IsSetOf-same (λ u l. (
       (λ (v, steps, bit). (v, (row u v l).0 steps)),
       (λ (v, steps). (v, (row u v l).1 steps, rw c.full.ensures.set (IsBitSet-full c.args.graph.now v (ArePeriods-end h l steps)))),
-    )) (rw c.from.ensures at c.sources-2.ensures)
+    )) (rw c.from.ensures at c.sources.ensures)

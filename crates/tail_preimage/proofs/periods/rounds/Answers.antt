@@ -11,4 +11,4 @@ returns c =
     IsSetOf-same (λ u l. (
       (λ (v, steps, bit). (v, (row u v l).0 steps, (back.nodes v (IsBitSet-below (node_count c.args.graph.now) c.loops.result v back.within bit)).0 bit)),
       (λ (v, steps, turn). (v, (row u v l).1 steps, (back.nodes v (ArePeriods-end h l steps)).1 turn)),
-    )) (rw c.from.ensures at c.sources-2.ensures)
+    )) (rw c.from.ensures at c.sources.ensures)

@@ -17,7 +17,7 @@ loop-u-preserved c =
     (IsSetOf-same (λ v _. (
       (λ (w, row, one). subst (HasBit table v) ((IsBitSet-shl u w few).0 one) row),
       (λ row. (u, row, (IsBitSet-shl u u few).1 refl)),
-    )) c.sources-in-loop-u.ensures)
+    )) c.sources.ensures)
 
 pub returns : goal.returns
 returns c = AreRowsFilled-all (omega arith) c.loop-u.invariant
