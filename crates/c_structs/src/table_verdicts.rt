@@ -10,7 +10,8 @@ use word_image::{Rule, RuleFault};
 #[repr(C)]
 #[derive(Clone, Copy, Debug, PartialEq, Eq)]
 pub struct RuleVerdicts {
-    /// This is 0 if there is a rule. Otherwise it is the number of its first fault, and all fields below are `false`.
+    /// This is 0 if the input gives a rule. Otherwise it is the number of the first fault of the input, and all fields
+    /// below are `false`.
     pub fault: u8,
     /// Whether every word has a preimage.
     pub surjective: bool,

@@ -2,13 +2,13 @@
 //!
 //! [`answer`] takes a question as a value, and calls the function that answers it. It returns a *finding*, which is the
 //! answer as a value, or a [`Stop`](ca_questions::Stop). A `Stop` is a *cause* why the question has no answer, or says
-//! that there was no memory. The contract of `answer` is `Answers` of ca_questions: the finding or the cause is right, by
-//! the definitions `IsFinding` and `IsUnfitFor`.
+//! that there was no memory. The contract of `answer` is `Answers` of ca_questions: the finding or the cause is right,
+//! by the definitions `IsFinding` and `IsUnfitFor`.
 //!
-//! Each other function takes the parts of one question. If it needs no memory, it returns a cause and not a `Stop`. If it
-//! always has a finding, it returns a [`Found`](ca_questions::Found). For example, [`shift`] of rule 110 by 1 returns the rule with offset 0. [`shift`]
-//! by 16 returns the cause that the offset breaks a limit. [`orphan`] of rule 110 returns 01010, and [`orphan`] of
-//! rule 90 returns None.
+//! Each other function takes the parts of one question. If it needs no memory, it returns a cause and not a `Stop`. If
+//! it always has a finding, it returns a [`Found`](ca_questions::Found). For example, [`shift`] of rule 110 by 1
+//! returns the rule with offset 0. [`shift`] by 16 returns the cause that the offset breaks a limit. [`orphan`] of rule
+//! 110 returns 01010, and [`orphan`] of rule 90 returns None.
 //!
 //! The evidence for a verdict has these kinds. An *orphan* is a word without a preimage. A *window* (n, c) says that
 //! n letters of an image determine the letter at place c of each preimage. *Twins* are two different words of the

@@ -1,5 +1,5 @@
--- The words of a command line may be a command, which asks a question. This file defines the question of the words,
--- and the reasons why nothing is found for them.
+-- The words of a command line may be a command, which asks a question. This file defines which question the words ask,
+-- and the reasons why the words get no answer to a question.
 use Rattle.std.specs.Prelude.{◌≡◌, ℕ, List, [], ◌∷◌, None}
 use Rattle.word_image.specs.LocalRules.{LocalRule}
 use Rattle.rule_text.specs.declared.text_fault.TextFault.{TextFault}

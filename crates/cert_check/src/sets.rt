@@ -122,8 +122,8 @@ fn first_not_kept(rule: &Rule, edges: &EdgeRows, kept: &Marks, set: u16) -> Opti
     None
 }
 
-/// Returns the place of the first listed set with a step that breaks the condition, and the letter of this step, or None
-/// if there is no such step. It compares each step with each listed set, so the list must be short.
+/// Returns the place of the first listed set with a step that breaks the condition, and the letter of this step, or
+/// None if there is no such step. It compares each step with each listed set, so the list must be short.
 fn first_open_of_few(
     version: CertVersion,
     rule: &Rule,

@@ -12,8 +12,9 @@ use cert_conditions::{Condition, Refusal};
 use cert_values::{Cert, InjectivePart};
 use word_image::{Rule, Side};
 
-/// Checks that the claims show that the window (n, c) is determined. Otherwise returns a refusal with the first pair of
-/// nodes that the claims don't exclude.
+/// Checks that by the claims the letters of an image determine the letter at place c. Otherwise returns a refusal with
+/// the first pair of nodes that have different letters at this place, but that two preimages can have as far as the
+/// claims say.
 pub fn window_claims(cert: &Cert) -> Result<(), Refusal>
     ensures { IsChecked cert.now Condition.WindowClaims result }
 {

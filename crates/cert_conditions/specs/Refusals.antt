@@ -1,6 +1,6 @@
--- Why the judge refuses bytes: they have a fault and aren't the text of a certificate, or the certificate doesn't meet
--- some condition. The refusal names the first such fault or condition, and the first place at which the condition
--- isn't met.
+-- The judge checks certificates. It refuses bytes if they have a fault and aren't the text of a certificate, or if the
+-- certificate doesn't meet some condition. This file defines the refusal, which names the first such fault or condition,
+-- and the first place at which the condition isn't met.
 use Rattle.std.specs.Prelude.{◌≡◌, ◌≢◌, ℕ, ◌^◌, ◌≤◌, List, length, slice_index, Contains, ℤ}
 use Rattle.word_image.specs.LocalRules.{LocalRule, word_of}
 use Rattle.word_image.specs.Rings.{ring_image}

@@ -18,8 +18,9 @@ pub struct Cert {
     /// The evidence that the rule is surjective, or that it isn't: sets of nodes, pairs of nodes, or a word over the
     /// letters of the rule.
     pub surjective: SurjectivePart,
-    /// The evidence that the rule is injective, or that it isn't: a window (n, c) with 1 ≤ n and c ≤ n + m - 2, for
-    /// width m, or two words.
+    /// The evidence that the rule is injective: a window (n, c), which says that n letters of an image determine the
+    /// letter at place c of each preimage. Here 1 ≤ n and c ≤ n + m - 2, if the rule has width m. Or the evidence that
+    /// the rule isn't injective: two words.
     pub injective: InjectivePart,
     /// The evidence that the rule closes on the right, or that it doesn't: a look-ahead of at least 1, or two
     /// configurations over the letters of the rule.

@@ -94,9 +94,9 @@ fn short_walks(
     Ok(best)
 }
 
-/// Returns the Tail of the first letters, or of the second letters, of the steps of two walks. The letters of the first
-/// walk are its middle, and the letters of the second walk are its right period. Its left period is the letter 0. The
-/// only error is lack of memory.
+/// Each step of the two walks has two letters, and `letter` says which of them is taken. Returns the Tail whose left
+/// period is the letter 0, whose middle has the letters of the first walk, and whose right period has the letters of
+/// the second walk. The only error is lack of memory.
 fn tail_of(alloc: Global, k: u8, walks: &Walks, letter: Letter) -> Result<Tail, AllocError>
     requires least { 2 ≤ k }
     requires most { k ≤ most_states }

@@ -53,7 +53,7 @@ image_of-one = refl
 mapped-one : run (mapped (record { states = 2; width = 1; offset = negsuc 0; table = 0 ∷ 1 ∷ [] }) (image_of left_shift one_in_zeros)) (negsuc 1) 5 ≡ 0 ∷ 0 ∷ 1 ∷ 0 ∷ 0 ∷ []
 mapped-one = refl
 
--- 0|1011|1 and 0|1100|0 are the least normal right split of rule 30: they have the same image, and their cells first differ at place 1. Under rule 90 their images differ at place 0
+-- 0|1011|1 and 0|1100|0 show that rule 30 isn't right-closing: they agree to the left of place 1, and have the same image. Under rule 90 their images differ at place 0
 
 abbrev a : TailConfig
 a = config_of (0 ∷ []) (1 ∷ 0 ∷ 1 ∷ 1 ∷ []) (1 ∷ [])
