@@ -1,6 +1,6 @@
 -- The commands of the program. A command has a name, the texts of rules, and other operands, whose form depends on the
 -- name.
-use Rattle.std.specs.Prelude.{◌≡◌, ℕ, List, [], ◌∷◌, ◌++◌, length, codes, ℤ, ⊤, ⊥}
+use Rattle.std.specs.Prelude.{◌≡◌, ℕ, List, [], ◌∷◌, ◌++◌, length, codes, ℤ, ⊤}
 use Rattle.tail_config.specs.TailFaults.{HasForm}
 use Rattle.rule_text.specs.RuleTexts.{IsDecimal, IsOffset}
 use Rattle.ca_commands.specs.Operands.{AreColours, IsCount, IsSeed}

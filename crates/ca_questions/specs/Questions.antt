@@ -1,5 +1,5 @@
 -- The questions that commands ask. A question has rules, weights, numbers and configurations as values, not as texts.
-use Rattle.std.specs.Prelude.{ℕ, List, Option, ℤ, All, ⊤, ⊥}
+use Rattle.std.specs.Prelude.{ℕ, List, Option, ℤ, All, ⊤}
 use Rattle.word_image.specs.LocalRules.{LocalRule, IsRule}
 use Rattle.tail_config.specs.Tails.{TailConfig}
 use Rattle.cert_values.specs.declared.cert_version.CertVersion.{CertVersion}
