@@ -1,4 +1,4 @@
-use Rattle.std.proofs.Common.{◌≡◌, ℕ, List, [], ◌∷◌, refl, sym, ◌∙◌, subst, inl, inr, ◌⊎◌, alloc_error, tt}
+use Rattle.std.proofs.Common.{◌≡◌, ℕ, List, [], ◌∷◌, refl, sym, ◌∙◌, subst, inl, inr, ◌⊎◌, alloc_error}
 use Rattle.word_image.proofs.Common.{LocalRule}
 use Rattle.tail_config.specs.TailFaults.{HasForm}
 use Rattle.tail_config.specs.declared.texts.TailTextFault.{TailTextFault}
