@@ -49,7 +49,10 @@ impl ClassTally {
     {
         let place = class_of(rule).unwrap();
         let least = decided(&mut self.leasts, &place.least)?;
-        tally::add(&mut self.counts, &member_truths(rule, place.mirrored, &least));
+        tally::add(
+            &mut self.counts,
+            &member_truths(rule, place.mirrored, &least),
+        );
         Ok(())
     }
 

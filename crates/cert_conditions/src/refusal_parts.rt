@@ -43,7 +43,9 @@ impl RefusalParts {
     {
         let parts = match refusal {
             Refusal::Format(fault) => shape_parts(fault),
-            Refusal::Rank(side, pair) => bare_parts("rank", RefusalNumbers::One(pair.into())).add_side(side),
+            Refusal::Rank(side, pair) => {
+                bare_parts("rank", RefusalNumbers::One(pair.into())).add_side(side)
+            }
             Refusal::NoFull => bare_parts("nofull", RefusalNumbers::None),
             Refusal::EmptySet(index) => bare_parts("emptyset", RefusalNumbers::One(index as u64)),
             Refusal::NotClosed(index, letter) => {
@@ -62,8 +64,12 @@ impl RefusalParts {
             }
             Refusal::Orphan => bare_parts("orphan", RefusalNumbers::None),
             Refusal::Window(pair) => bare_parts("window", RefusalNumbers::One(pair.into())),
-            Refusal::Twins(cause) => bare_parts("twins", RefusalNumbers::None).add_reason(twin_name(cause)),
-            Refusal::Ahead(side, pair) => bare_parts("ahead", RefusalNumbers::One(pair.into())).add_side(side),
+            Refusal::Twins(cause) => {
+                bare_parts("twins", RefusalNumbers::None).add_reason(twin_name(cause))
+            }
+            Refusal::Ahead(side, pair) => {
+                bare_parts("ahead", RefusalNumbers::One(pair.into())).add_side(side)
+            }
             Refusal::Split(side, cause) => {
                 bare_parts("split", RefusalNumbers::None)
                     .add_side(side)

@@ -48,8 +48,8 @@ pub use images::{ImageFault, image};
 pub use letters::{digit, letter, text_word, word_text};
 pub use lists::{FluxRow, RankRow, SetList, Word};
 pub use local_rule::{
-    GREATEST_PLACE, LEAST_PLACE, MOST_ENTRIES, MOST_NODES, MOST_PAIRS, MOST_STATES, MOST_WIDTH, Rule, RuleFault, check_shape,
-    first_foreign,
+    GREATEST_PLACE, LEAST_PLACE, MOST_ENTRIES, MOST_NODES, MOST_PAIRS, MOST_STATES, MOST_WIDTH,
+    Rule, RuleFault, check_shape, first_foreign,
 };
 pub use rings::{RingFault, first_place, keeps_sum, ring_apply, ring_image};
 pub use side::Side;

@@ -1,5 +1,5 @@
 -- Which commands may need memory, by the questions that they ask.
-use Rattle.std.proofs.Common.{ℕ, List, Result, Ok, Err, absurd}
+use Rattle.std.proofs.Common.{ℕ, List, Result, Ok, Err}
 use Rattle.word_image.proofs.Common.{LocalRule}
 use Rattle.ca_commands.specs.declared.names.Name.{Name}
 use Rattle.ca_commands.specs.Commands.{CommandNeedsMemory}
