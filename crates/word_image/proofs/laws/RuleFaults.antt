@@ -1,5 +1,5 @@
 -- No limit is broken exactly where the rule is accepted.
-use Rattle.std.proofs.Common.{◌≡◌, ℕ, suc, ap, pow-suc, mul-le-mul, ◌+◌, ◌*◌, ◌-◌, ◌^◌, ◌<◌, ◌≤◌, List, length, take, leb, None, ℤ, pos, negsuc, ◌+ℤ◌, ◌≤ℤ◌, ◌∙◌, arith, length-take-le, nat_le, position}
+use Rattle.std.proofs.Common.{◌≡◌, ℕ, suc, ap, pow-suc, mul-le-mul, ◌+◌, ◌*◌, ◌-◌, ◌^◌, ◌<◌, ◌≤◌, List, length, take, leb, None, ℤ, pos, ◌+ℤ◌, ◌≤ℤ◌, ◌∙◌, arith, length-take-le, nat_le, position}
 use Rattle.std.proofs.Math.Nat.{pow-le-pow_left, pow-le-pow_right}
 use Rattle.std.proofs.lemmas.Bool.Decides.{nat_tests}
 use Rattle.std.proofs.lemmas.Int.{ints}
