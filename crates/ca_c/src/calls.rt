@@ -82,7 +82,12 @@ fn output_in(alloc: Global, form: Form, reply: &Reply) -> Result<Output, AllocEr
 {
     match form {
         Form::Text => reply_text(alloc, reply),
-        Form::Json => Ok(Output::of(reply_json(alloc, reply)?.into_bytes())),
+        Form::Json => {
+            let json = reply_json(alloc, reply)?;
+            let mut output = Output::new(alloc)?;
+            output.push(json.as_bytes())?;
+            Ok(output)
+        }
     }
 }
 

@@ -1,4 +1,5 @@
 pub mod Reports
+pub mod Rooms
 pub mod Lines
 pub mod Texts
 pub mod StatusLines

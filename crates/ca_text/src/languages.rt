@@ -1,16 +1,17 @@
 //! The lines of answers about the words that have a preimage. The states of an automaton are called classes.
-ghost use Rattle.std.specs.Prelude.{◌≡◌, ℕ, ◌+◌, ◌<◌, ◌≤◌, ◌++◌, drop, length, slice_index, IfOk, OnOk};
+ghost use Rattle.std.specs.Prelude.{◌≡◌, ℕ, ◌+◌, ◌<◌, ◌≤◌, ◌++◌, drop, length, slice_index, OnOk};
 ghost use Rattle.std.specs.Fmt.{decimal};
 ghost use Rattle.image_minimal.specs.ImageLanguages as languages;
 ghost use Rattle.ca_questions.specs.Values.{automaton_of, pair_of};
 ghost use Rattle.ca_text.specs.Lines.{after_class, automaton_lines, class_line, dead_line};
+ghost use Rattle.ca_text.specs.Rooms.{IsAppended};
 ghost use Rattle.ca_text.specs.Texts.{erased_line, same_line};
 ghost use Rattle.ca_questions.specs.Writable.{HasDigits, HasRows, HavePairDigits};
 
-use crate::decimals::write_decimal;
+use crate::decimals::write_u32;
 use crate::output::Output;
 use ca_questions::{Automaton, Pair};
-use std::alloc::{AllocError, Global};
+use std::alloc::AllocError;
 use word_image::{MOST_STATES, Word};
 
 /// The greatest number of bytes for one class in a line: five digits, since its number is below 65,536, and a blank or
@@ -20,31 +21,28 @@ const MOST_PIECE: usize = 6;
 /// The greatest number of bytes of a line that lists the next class for each letter.
 const MOST_LINE: usize = MOST_PIECE * MOST_STATES;
 
-/// Returns the lines of an automaton: two lines about the whole automaton, and a line for each class.
-pub fn automaton_output(alloc: Global, automaton: &Automaton) -> Result<Output, AllocError>
+/// Appends the lines of an automaton: two lines about the whole automaton, and a line for each class.
+pub fn write_automaton(output: &mut Output, automaton: &Automaton) -> Result<(), AllocError>
     requires { HasRows (automaton_of automaton.now) }
-    ensures { IfOk result (λ output. output ≡ automaton_lines (automaton_of automaton.now)) }
+    ensures { OnOk result (output.new ≡ output.old ++ automaton_lines (automaton_of automaton.now)) }
 {
     let classes = automaton.classes;
-    let mut output = Output::with_room(
-        alloc,
-        MOST_PIECE * classes as usize * usize::from(automaton.states),
-    )?;
-    output.push_line(&format!(in alloc; "classes {classes}")?)?;
-    write_dead(alloc, &mut output, automaton.dead)?;
+    output.reserve(MOST_PIECE * classes as usize * usize::from(automaton.states))?;
+    output.push_line_with_number("classes ", u128::from(classes))?;
+    write_dead(output, automaton.dead)?;
     for class in 0..classes {
-        write_class(&mut output, automaton, class)?;
+        write_class(output, automaton, class)?;
     }
-    Ok(output)
+    Ok(())
 }
 
 /// Appends the line with the class of all orphans, or `dead none` if there is no such class.
-fn write_dead(alloc: Global, output: &mut Output, dead: Option<u32>) -> Result<(), AllocError>
+fn write_dead(output: &mut Output, dead: Option<u32>) -> Result<(), AllocError>
     ensures { OnOk result (output.new ≡ output.old ++ dead_line dead) }
 {
     match dead {
         None => output.push_line("dead none"),
-        Some(class) => output.push_line(&format!(in alloc; "dead {class}")?),
+        Some(class) => output.push_line_with_number("dead ", u128::from(class)),
     }
 }
 
@@ -86,32 +84,29 @@ fn write_short(class: u16, bytes: &mut [u8], end: usize) -> usize
     ensures few { (1 ≤ length (decimal class)) × (length (decimal class) ≤ 5) }
     ensures digits { drop result bytes.new ≡ decimal class ++ drop end bytes.old }
 {
-    write_decimal(u32::from(class), bytes, end)
+    write_u32(u32::from(class), bytes, end)
 }
 
-/// Returns the line with a word that is an orphan of only one of two rules, or `same yes` if there is no such word.
-pub fn same_output(alloc: Global, word: &Option<Word>) -> Result<Output, AllocError>
+/// Appends the line with a word that is an orphan of only one of two rules, or `same yes` if there is no such word.
+pub fn write_same(output: &mut Output, word: &Option<Word>) -> Result<(), AllocError>
     requires { HasDigits word.now }
-    ensures { IfOk result (λ output. output ≡ same_line word.now) }
+    ensures { IsAppended result output.old output.new (same_line word.now) }
 {
     match word {
-        None => Output::line(alloc, "same yes"),
-        Some(word) => Output::line_with_word(alloc, "same no ", word.as_slice()),
+        None => output.push_line("same yes"),
+        Some(word) => output.push_line_with_word("same no ", word.as_slice()),
     }
 }
 
-/// Returns the line with an erasable pair, or `erase none` if there is none.
-pub fn erased_output(alloc: Global, pair: &Option<Pair>) -> Result<Output, AllocError>
+/// Appends the line with an erasable pair, or `erase none` if there is none.
+pub fn write_erased(output: &mut Output, pair: &Option<Pair>) -> Result<(), AllocError>
     requires { HavePairDigits (pair_of pair.now) }
-    ensures { IfOk result (λ output. output ≡ erased_line (pair_of pair.now)) }
+    ensures { IsAppended result output.old output.new (erased_line (pair_of pair.now)) }
 {
     match pair {
-        None => Output::line(alloc, "erase none"),
-        Some(pair) => Output::line_with_words(
-            alloc,
-            "erase ",
-            pair.x.as_slice(),
-            pair.y.as_slice(),
-        ),
+        None => output.push_line("erase none"),
+        Some(pair) => {
+            output.push_line_with_words("erase ", pair.x.as_slice(), pair.y.as_slice())
+        }
     }
 }

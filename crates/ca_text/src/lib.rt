@@ -2,7 +2,7 @@
 //!
 //! A reply is the answer to the words of a command line as a value, and a *finding* is the answer to their question
 //! (crate ca_questions). This crate only formats these values. It decides nothing. The definition `reply_text` of
-//! specs/Replies.antt says what the text of a reply is, and the function [`reply_text`] writes it.
+//! specs/Replies.antt says what the text of a reply is, and the function [`write_reply`] writes it.
 //!
 //! The text of a finding has these lines:
 //!
@@ -29,7 +29,9 @@
 //! A word is written with a hexadecimal digit for each letter, so letters must be below 16. The law
 //! `right_findings_are_writable` of ca_questions says that they are, in each right finding about accepted rules.
 //!
-//! A text is in memory as a whole, as an [`Output`]. To make a text of n bytes takes **O(n)** time and memory.
+//! A text is appended to an [`Output`], which has room for [`MOST_TEXT`] bytes from the start. If the text fits, only
+//! the text of a certificate, of an automaton or of a judged certificate can fail for lack of memory. To write a text
+//! of n bytes takes **O(n)** time.
 #![tactic(auto)]
 
 mod counts;
@@ -44,5 +46,5 @@ mod report;
 mod texts;
 mod verdicts;
 
-pub use output::Output;
-pub use replies::reply_text;
+pub use output::{MOST_TEXT, Output};
+pub use replies::{reply_text, write_reply};

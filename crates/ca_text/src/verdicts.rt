@@ -1,5 +1,5 @@
 //! The lines about a certificate: its verdicts if it is accepted, or the reason why it is refused.
-ghost use Rattle.std.specs.Prelude.{◌≡◌, ◌++◌, codes, if◌then◌else◌, IfOk, OnOk};
+ghost use Rattle.std.specs.Prelude.{◌≡◌, ◌++◌, codes, if◌then◌else◌, OnOk};
 ghost use Rattle.std.specs.Option.{option_map};
 ghost use Rattle.std.specs.List.{flat_map, join_by};
 ghost use Rattle.std.specs.Fmt.{decimal};
@@ -10,35 +10,30 @@ ghost use Rattle.cert_conditions.specs.RefusalParts.{said_in};
 
 use crate::output::Output;
 use cert_conditions::{Refusal, RefusalNumbers, RefusalParts, Verdicts};
-use rule_text::print;
-use std::alloc::{AllocError, Global};
+use std::alloc::AllocError;
 use word_image::{Rule, Weights};
 
 /// Appends the seven lines of an accepted certificate, and an eighth line with the weights if some letter doesn't
 /// weigh its own value.
-pub fn write_accepted(
-    alloc: Global,
-    output: &mut Output,
-    verdicts: &Verdicts,
-) -> Result<(), AllocError>
+pub fn write_accepted(output: &mut Output, verdicts: &Verdicts) -> Result<(), AllocError>
     ensures { OnOk result (output.new ≡ output.old ++ accepted_lines verdicts.now) }
 {
-    write_rule(alloc, output, &verdicts.rule)?;
+    write_rule(output, &verdicts.rule)?;
     write_verdict(output, "surjective", verdicts.surjective)?;
     write_verdict(output, "injective", verdicts.injective)?;
     write_verdict(output, "right", verdicts.right)?;
     write_verdict(output, "left", verdicts.left)?;
     write_verdict(output, "open", verdicts.is_open())?;
     write_verdict(output, "conserving", verdicts.conserving)?;
-    write_weights(alloc, output, &verdicts.weights)
+    write_weights(output, &verdicts.weights)
 }
 
 /// Appends the line with the rule of an accepted certificate, for example `accepted 2:2:0:t0101`.
-fn write_rule(alloc: Global, output: &mut Output, rule: &Rule) -> Result<(), AllocError>
+fn write_rule(output: &mut Output, rule: &Rule) -> Result<(), AllocError>
     ensures { OnOk result (output.new ≡ output.old ++ line (codes "accepted " ++ printed_rule rule.now)) }
 {
     output.push(b"accepted ")?;
-    output.push(&print(alloc, rule)?)?;
+    output.push_rule(rule)?;
     output.push(b"\n")
 }
 
@@ -51,36 +46,44 @@ fn write_verdict(output: &mut Output, name: &str, yes: bool) -> Result<(), Alloc
 }
 
 /// Appends the line with the weight of each letter, if some letter doesn't weigh its own value.
-fn write_weights(alloc: Global, output: &mut Output, weights: &Weights) -> Result<(), AllocError>
+fn write_weights(output: &mut Output, weights: &Weights) -> Result<(), AllocError>
     ensures { OnOk result (output.new ≡ output.old ++ weights_lines weights.now) }
 {
     if weights.is_own() {
         return Ok(());
     }
     output.push(b"weights ")?;
-    write_numbers(alloc, output, weights.as_slice())?;
+    write_numbers(output, weights.as_slice())?;
     output.push(b"\n")
 }
 
 /// Appends the decimal digits of these numbers, with a comma between two of them.
-fn write_numbers(alloc: Global, output: &mut Output, numbers: &[u8]) -> Result<(), AllocError>
+fn write_numbers(output: &mut Output, numbers: &[u8]) -> Result<(), AllocError>
     ensures { OnOk result (output.new ≡ output.old ++ join_by decimal (codes ",") numbers.now) }
 {
     let Some((first, rest)) = numbers.split_first() else {
         return Ok(());
     };
-    output.push(format!(in alloc; "{first}")?.as_bytes())?;
-    write_others(alloc, output, rest)
+    output.push_number(u128::from(*first))?;
+    write_others(output, rest)
 }
 
 /// Appends the decimal digits of these numbers, with a comma before each of them.
-fn write_others(alloc: Global, output: &mut Output, numbers: &[u8]) -> Result<(), AllocError>
+fn write_others(output: &mut Output, numbers: &[u8]) -> Result<(), AllocError>
     ensures { OnOk result (output.new ≡ output.old ++ flat_map (λ n. codes "," ++ decimal n) numbers.now) }
 {
     for number in numbers {
-        output.push(format!(in alloc; ",{number}")?.as_bytes())?;
+        write_other(output, *number)?;
     }
     Ok(())
+}
+
+/// Appends a comma and the decimal digits of a number.
+fn write_other(output: &mut Output, number: u8) -> Result<(), AllocError>
+    ensures { OnOk result (output.new ≡ output.old ++ (codes "," ++ decimal number)) }
+{
+    output.push(b",")?;
+    output.push_number(u128::from(number))
 }
 
 fn verdict_name(yes: bool) -> &'static str
@@ -89,20 +92,18 @@ fn verdict_name(yes: bool) -> &'static str
     if yes { " yes" } else { " no" }
 }
 
-/// Returns the line of a refused certificate. If the refusal is lack of memory, returns it as the error.
-pub fn refused_output(alloc: Global, refusal: Refusal) -> Result<Output, AllocError>
-    ensures { IfOk result (λ output. output ≡ refused_line refusal) }
+/// Appends the line of a refused certificate. If the refusal is lack of memory, returns it as the error.
+pub fn write_refused(output: &mut Output, refusal: Refusal) -> Result<(), AllocError>
+    ensures { OnOk result (output.new ≡ output.old ++ refused_line refusal) }
 {
     let parts = RefusalParts::of(refusal)?;
-    let mut output = Output::new(alloc);
     output.push(b"refused ")?;
-    write_parts(alloc, &mut output, &parts)?;
-    output.push(b"\n")?;
-    Ok(output)
+    write_parts(output, &parts)?;
+    output.push(b"\n")
 }
 
 /// Appends the words and numbers of a refusal, with a blank between two of them.
-fn write_parts(alloc: Global, output: &mut Output, parts: &RefusalParts) -> Result<(), AllocError>
+fn write_parts(output: &mut Output, parts: &RefusalParts) -> Result<(), AllocError>
     ensures { OnOk result (output.new ≡ output.old ++ refusal_text (said_in parts.now)) }
 {
     output.push(parts.cause.as_bytes())?;
@@ -110,7 +111,7 @@ fn write_parts(alloc: Global, output: &mut Output, parts: &RefusalParts) -> Resu
     write_word(output, parts.because)?;
     write_word(output, parts.key)?;
     write_word(output, parts.fault)?;
-    write_places(alloc, output, parts.numbers)
+    write_places(output, parts.numbers)
 }
 
 /// Appends a blank and a word, or nothing if there is no word.
@@ -125,18 +126,28 @@ fn write_word(output: &mut Output, word: Option<&'static str>) -> Result<(), All
 }
 
 /// Appends the numbers of a refusal, with a blank before each of them.
-fn write_places(
-    alloc: Global,
-    output: &mut Output,
-    numbers: RefusalNumbers,
-) -> Result<(), AllocError>
+fn write_places(output: &mut Output, numbers: RefusalNumbers) -> Result<(), AllocError>
     ensures { OnOk result (output.new ≡ output.old ++ number_parts numbers) }
 {
-    let text = match numbers {
-        RefusalNumbers::None => return Ok(()),
-        RefusalNumbers::One(a) => format!(in alloc; " {a}")?,
-        RefusalNumbers::Two(a, b) => format!(in alloc; " {a} {b}")?,
-        RefusalNumbers::Three(a, b, c) => format!(in alloc; " {a} {b} {c}")?,
-    };
-    output.push(text.as_bytes())
+    match numbers {
+        RefusalNumbers::None => Ok(()),
+        RefusalNumbers::One(a) => write_place(output, a),
+        RefusalNumbers::Two(a, b) => {
+            write_place(output, a)?;
+            write_place(output, b)
+        }
+        RefusalNumbers::Three(a, b, c) => {
+            write_place(output, a)?;
+            write_place(output, b)?;
+            write_place(output, c)
+        }
+    }
+}
+
+/// Appends a blank and a number.
+fn write_place(output: &mut Output, number: u64) -> Result<(), AllocError>
+    ensures { OnOk result (output.new ≡ output.old ++ (codes " " ++ decimal number)) }
+{
+    output.push(b" ")?;
+    output.push_number(u128::from(number))
 }

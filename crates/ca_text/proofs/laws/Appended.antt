@@ -1,9 +1,25 @@
--- What is appended to a text.
-use Rattle.std.proofs.Common.{◌≡◌, ℕ, List, [], ◌++◌, append_assoc, ap, ◌∙◌}
+-- What is appended to an output.
+use Rattle.std.proofs.Common.{◌≡◌, ℕ, ◌+◌, List, ◌++◌, ◌≤◌, length, length-append, append_assoc, ap, refl, ◌∙◌, arith, Result, Ok, Err, IsErr}
+use Rattle.word_image.proofs.Common.{false≢true, on_ok_weaker}
+use Rattle.ca_text.specs.Rooms.{AppendsAtMost, IsAppended, most_text}
 
--- what is appended to nothing is all of it
-pub appended_to_nothing : {before after text : List ℕ} → before ≡ [] → after ≡ before ++ text → after ≡ text
-appended_to_nothing {text = text} empty appended = appended ∙ ap (λ o. o ++ text) empty
+-- a text is appended to what another text was appended to
+pub IsAppended-then : {A E : Type 0} (result : Result A E) (old new first second : List ℕ) {between : List ℕ}
+    → between ≡ old ++ first → IsAppended result between new second → IsAppended result old new (first ++ second)
+IsAppended-then result old new first second is (appended, fits) = (
+  on_ok_weaker result (λ e. e ∙ ap (λ t. t ++ second) is ∙ append_assoc old first second) appended,
+  λ room. fits (omega (arith, ap length is, length-append old first, length-append first second, room)),
+)
+
+-- a text of at most so many bytes is appended
+pub AppendsAtMost-appended : {A E : Type 0} (count : ℕ) (result : Result A E) (old new text : List ℕ) → IsAppended result old new text → length text ≤ count → AppendsAtMost count result old new
+AppendsAtMost-appended count (Ok a) old new text (is, fits) few room = (refl, omega (arith, ap length is, length-append old text, few))
+AppendsAtMost-appended count (Err e) old new text (is, fits) few room = absurd (false≢true (fits (omega (arith, few, room))))
+
+-- a call may fail if the text doesn't fit the room
+pub IsAppended-failed : {A E : Type 0} (result : Result A E) (old new text : List ℕ) → IsErr result → ¬ (length old + length text ≤ most_text) → IsAppended result old new text
+IsAppended-failed (Ok a) old new text failed full = absurd (false≢true failed)
+IsAppended-failed (Err e) old new text failed full = (tt, λ room. absurd (full room))
 
 -- what is appended in two steps is appended as one
 pub appended_twice : (before first second : List ℕ) {between after : List ℕ} → between ≡ before ++ first → after ≡ between ++ second → after ≡ before ++ (first ++ second)

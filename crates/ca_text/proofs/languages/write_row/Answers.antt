@@ -52,4 +52,4 @@ returns c =
     written ∙ ap (λ (x : List ℕ). c.args.output.now ++ x) (whole ∙ c.write_short-first-2.ensures.digits
     ∙ ap₂ (λ (n : ℕ) (x : List ℕ). decimal n ++ x) number (c.loop-letter.invariant.written a i states row ∙ ap₂ (λ (l n : ℕ). others l n ++ 10 ∷ []) first all)
     ∙ sym (append_assoc (decimal (after_class a i 0)) (others 1 (a.states - 1)) (10 ∷ []))))
-    c.push.ensures
+    c.push.ensures.0
