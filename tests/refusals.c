@@ -5,9 +5,11 @@
  *                   of descriptor 1.
  *   REFUSED_NUMBER  the number of the call that is refused, from 1 on; none where it is 0
  *   REFUSED_LATER   all calls after it are refused too, where this is set
+ *   REFUSED_AFTER   a number of bytes: after the first request for so many bytes, which is served, all requests
+ *                   for memory are refused
  *   SHORT           a read or a write moves one byte at most, where this is set
  *
- * A refusal is told by a byte on descriptor 9.
+ * A refusal is told by the byte x on descriptor 9, and the request of REFUSED_AFTER by the byte r.
  */
 #include <errno.h>
 #include <stdbool.h>
@@ -40,6 +42,23 @@ static bool refuses(const char *call)
     return is;
 }
 
+/* Whether a request for this many bytes of memory is refused. */
+static bool refuses_memory(size_t size)
+{
+    static bool after = false;
+    const char *last = getenv("REFUSED_AFTER");
+    if (last == NULL)
+        return refuses("memory");
+    if (after)
+        syscall(SYS_write, 9, "x", 1);
+    else if (size == (size_t)atol(last)) {
+        after = true;
+        syscall(SYS_write, 9, "r", 1);
+        return false;
+    }
+    return after;
+}
+
 static size_t most(size_t count)
 {
     return is_set("SHORT") && count > 1 ? 1 : count;
@@ -47,12 +66,12 @@ static size_t most(size_t count)
 
 void *malloc(size_t size)
 {
-    return refuses("memory") ? NULL : __libc_malloc(size);
+    return refuses_memory(size) ? NULL : __libc_malloc(size);
 }
 
 void *realloc(void *block, size_t size)
 {
-    return refuses("memory") ? NULL : __libc_realloc(block, size);
+    return refuses_memory(size) ? NULL : __libc_realloc(block, size);
 }
 
 ssize_t read(int descriptor, void *bytes, size_t count)

@@ -1,5 +1,6 @@
 pub mod Inputs
 pub mod Memory
+pub mod Small
 pub mod RightAnswers
 pub mod CheckAnswers
 pub mod OneStatus

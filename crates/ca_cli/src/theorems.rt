@@ -8,6 +8,7 @@ ghost use Rattle.cert_conditions.specs.declared.refusal.Refusal.{Refusal};
 ghost use Rattle.cert_conditions.specs.declared.verdicts.Verdicts.{Verdicts};
 ghost use Rattle.cert_values.specs.declared.cert_version.CertVersion.{CertVersion};
 ghost use Rattle.rule_text.specs.declared.text_fault.TextFault.{TextFault};
+ghost use Rattle.ca_commands.specs.Asking.{NeedMemory};
 ghost use Rattle.ca_commands.specs.Commands.{Command, IsCommand, check_command};
 ghost use Rattle.ca_questions.specs.Questions.{Question};
 ghost use Rattle.ca_questions.specs.Findings.{Unfit, IsUnfitFor, weights_by};
@@ -16,6 +17,7 @@ ghost use Rattle.ca_questions.specs.Writable.{IsWritableReply};
 ghost use Rattle.ca_commands.specs.Asked.{IsAsked, IsOperandFault};
 ghost use Rattle.ca_cli.specs.Inputs.{most_input};
 ghost use Rattle.ca_cli.specs.Readings.{ReadsNothing};
+ghost use Rattle.ca_text.specs.Rooms.{IsSmallReply};
 ghost use Rattle.ca_text.specs.StatusLines.{accepted_lines, operand_fault_line, refused_line, too_long_line, usage_line};
 ghost use Rattle.ca_cli.specs.RightAnswers.{IsAnswer, IsReplyOf, IsReplyTo};
 
@@ -107,3 +109,10 @@ pub fn right_replies_are_writable()
 {
     right_findings_are_writable();
 }
+
+/// Law: each right reply to words has a text of a few lines, whatever the rule, or the words are a command that may
+/// need memory.
+pub fn right_replies_are_small()
+    ensures { (words : List (List ℕ)) (input : Option (List ℕ)) (reply : Reply) → IsReplyTo words input reply
+        → NeedMemory words ⊎ IsSmallReply reply }
+{}

@@ -1,7 +1,8 @@
-//! The function `run`, which carries out a command from its words to its output.
+//! The functions `run` and `run_in`, which carry out a command from its words to its output.
 ghost use Rattle.std.specs.Prelude.{◌≡◌, ◌≢◌, ℕ, ◌+◌, ◌-◌, ◌^◌, ◌<◌, List, length, take, map, is_some, string_bytes};
 ghost use Rattle.std.specs.Io.KnownBytes.{Appends};
 ghost use Rattle.ca_io.specs.Faults.{Rose};
+ghost use Rattle.ca_commands.specs.Asking.{NeedMemory};
 ghost use Rattle.ca_commands.specs.Commands.{IsCommand, check_command};
 ghost use Rattle.ca_cli.specs.Inputs.{most_input};
 ghost use Rattle.ca_cli.specs.Readings.{IsReadFor, TakesAtMost};
@@ -9,6 +10,7 @@ ghost use Rattle.ca_cli.specs.RightAnswers.{IsAnswer};
 ghost use Rattle.ca_cli.specs.Statuses.{IsAnswered};
 
 use crate::answers::answer_to;
+use crate::room::Room;
 use crate::status::Status;
 use ca_io::{Failed, InputFault, Sink, Source, write_all};
 use std::alloc::Global;
@@ -71,9 +73,54 @@ pub fn run<S: Source, T: Sink>(
     ensures complete_read { S.faults source.new ≡ S.faults source.old → S.faults source.old ≢ 2 ^ 64 - 1 →
         result ≢ Status.ReadFault }
 {
-    match answer_to(alloc, words, source) {
-        Ok(answer) => match write_all(sink, answer.output.as_slice()) {
-            Ok(()) => answer.status,
+    let Ok(mut room) = Room::new(alloc) else {
+        return Status::Memory;
+    };
+    run_in(&mut room, words, source, sink)
+}
+
+/// Does what [`run`] does, but over a room, which may have served other calls before. Returns `Memory` only for the
+/// commands `decide`, `orphan`, `certify`, `brief`, `inverse`, `language`, `same`, `erase`, `preimage`, `classes` and
+/// `check`, if there is no memory for what they find.
+pub fn run_in<S: Source, T: Sink>(
+    room: &mut Room,
+    words: &[String],
+    source: &mut S,
+    sink: &mut T,
+) -> Status
+    // The room's memory is enough for the replies to all other words.
+    ensures room { result ≡ Status.Memory → NeedMemory (map string_bytes words.now) }
+
+    // These clauses are those of `run`.
+    ensures answer { IsAnswered result → (out : List ℕ)
+        × IsAnswer (map string_bytes words.now) (S.left source.old) result out
+        × Appends (T.taken sink.old) (T.taken sink.new) out }
+    ensures write_counted { result ≡ Status.WriteFault →
+        Rose (T.faults sink.old) (T.faults sink.new) }
+    ensures write_part { result ≡ Status.WriteFault → (status : Status) × (out : List ℕ) × (n : ℕ)
+        × IsAnswer (map string_bytes words.now) (S.left source.old) status out × (n < length out)
+        × Appends (T.taken sink.old) (T.taken sink.new) (take n out) }
+    ensures read_counted { result ≡ Status.ReadFault →
+        IsCommand (map string_bytes words.now) check_command
+        × Rose (S.faults source.old) (S.faults source.new) }
+    ensures read_fault { result ≡ Status.ReadFault → sink.new ≡ sink.old }
+    ensures memory { result ≡ Status.Memory → sink.new ≡ sink.old }
+    ensures unread { ¬ IsCommand (map string_bytes words.now) check_command → source.new ≡ source.old }
+    ensures read { IsCommand (map string_bytes words.now) check_command →
+        IsReadFor result (S.left source.old) (S.left source.new) }
+    ensures most { TakesAtMost (most_input + 1) (S.left source.old) (S.left source.new) }
+    ensures source_faults { result ≢ Status.ReadFault → S.faults source.new ≡ S.faults source.old }
+    ensures sink_faults { result ≢ Status.WriteFault → T.faults sink.new ≡ T.faults sink.old }
+    ensures source_telling { is_some (S.left source.new) ≡ is_some (S.left source.old) }
+    ensures sink_telling { is_some (T.taken sink.new) ≡ is_some (T.taken sink.old) }
+    ensures complete_write { T.faults sink.new ≡ T.faults sink.old → T.faults sink.old ≢ 2 ^ 64 - 1 →
+        result ≢ Status.WriteFault }
+    ensures complete_read { S.faults source.new ≡ S.faults source.old → S.faults source.old ≢ 2 ^ 64 - 1 →
+        result ≢ Status.ReadFault }
+{
+    match answer_to(room.alloc, &mut room.output, words, source) {
+        Ok(status) => match write_all(sink, room.output.as_slice()) {
+            Ok(()) => status,
             Err(Failed) => Status::WriteFault,
         },
         Err(InputFault::Failed) => Status::ReadFault,

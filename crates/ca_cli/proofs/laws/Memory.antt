@@ -13,7 +13,7 @@ use Rattle.ca_questions.specs.declared.found.Stop.TheVariants as stop
 use Rattle.ca_cli.specs.Outcomes.{IsOutcome}
 
 -- a command may need memory if the answer to its question does
-command_needs_memory : {n : Name} {rules : List LocalRule} {operands : List (List ℕ)} {q : Question} → Asks n rules operands q → AnswerNeedsMemory q → CommandNeedsMemory n
+pub command_needs_memory : {n : Name} {rules : List LocalRule} {operands : List (List ℕ)} {q : Question} → Asks n rules operands q → AnswerNeedsMemory q → CommandNeedsMemory n
 command_needs_memory (Asks.Decide _ _) needs = tt
 command_needs_memory (Asks.Certify _ _) needs = tt
 command_needs_memory (Asks.Brief _ _) needs = tt

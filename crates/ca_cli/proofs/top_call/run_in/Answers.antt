@@ -3,7 +3,7 @@ use Rattle.ca_cli.specs.declared.status.Status.{Status}
 use Rattle.ca_cli.specs.RightAnswers.{IsAnswer}
 use Rattle.ca_cli.specs.Statuses.{IsAnswered}
 use Rattle.ca_cli.proofs.laws.RightAnswers.{IsAnswered-answer}
-use Rattle.ca_cli.proofs.top_call.run.Goals as goal
+use Rattle.ca_cli.proofs.top_call.run_in.Goals as goal
 
 -- a status that is right for the words, by whatever name
 answered : {words : List (List ℕ)} {input : Option (List ℕ)} {s t : Status} {out : List ℕ} → IsAnswer words input s out → s ≡ t → IsAnswered t
