@@ -4,9 +4,11 @@ use Rattle.word_image.proofs.Common.{LocalRule, IsOrphan, word_cmp}
 use Rattle.image_minimal.specs.ImageLanguages.{Separates}
 use Rattle.tail_config.proofs.Common.{TailConfig}
 use Rattle.tail_preimage.specs.Preimages.{IsGap}
+use Rattle.tail_preimage.specs.Answers.{placed_config}
+use Rattle.tail_preimage.specs.declared.answer.Pre.{Pre}
 use Rattle.tail_preimage.specs.declared.answer.Pre.TheVariants as pre
 use Rattle.tail_preimage.proofs.laws.Answers.{IsPreimageAnswer-unique}
-use Rattle.ca_questions.proofs.Common.{Finding, IsSameFound, IsErasedFound, preimage_of}
+use Rattle.ca_questions.proofs.Common.{Finding, IsSameFound, IsErasedFound}
 use Rattle.answer_laws.proofs.Orders.{one_first}
 use Rattle.answer_laws.proofs.Least.{IsLeastErasable-unique}
 
@@ -39,6 +41,11 @@ IsErasedFound-unique r None (Some pair) all least = absurd (least.0 all.0)
 IsErasedFound-unique r (Some pair) None least all = absurd (least.0 all.0)
 IsErasedFound-unique r (Some p) (Some q) least also = let (first, second) = IsLeastErasable-unique least.1 also.1 in ap Some (λ i. (first i, second i))
 
+-- the finding that says this answer
+abbrev finding_of_pre : Pre → Finding
+finding_of_pre (pre.From p) = Finding.Preimage (placed_config p)
+finding_of_pre (pre.Gap before after w) = Finding.Gap before after w
+
 -- a configuration has one least gap
 pub IsGap-unique : {r : LocalRule} {t : TailConfig} {b a c d : ℕ} {w z : List ℕ} → IsGap r t b a w → IsGap r t c d z → Finding.Gap b a w ≡ Finding.Gap c d z
-IsGap-unique {r} {t} {b} {a} {c} {d} {w} {z} here there = ap preimage_of (IsPreimageAnswer-unique r t (pre.Gap b a w) (pre.Gap c d z) here there)
+IsGap-unique {r} {t} {b} {a} {c} {d} {w} {z} here there = ap finding_of_pre (IsPreimageAnswer-unique r t (pre.Gap b a w) (pre.Gap c d z) here there)

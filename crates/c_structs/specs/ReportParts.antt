@@ -1,7 +1,7 @@
 -- A report of the C library has verdicts on properties of a rule, with evidence. A word of the evidence is in a buffer
 -- of letters; its row says where. This file defines the part of a report for each property, and the letters of its
 -- words.
-use Rattle.std.specs.Prelude.{◌≡◌, ℕ, ◌-◌, ◌≤◌, List, [], ◌++◌, length, replicate, Option, Some, None, ℤ, pos, ⊤}
+use Rattle.std.specs.Prelude.{◌≡◌, ℕ, ◌-◌, List, [], ◌++◌, length, replicate, Option, Some, None, ℤ, pos}
 use Rattle.cert_values.specs.Evidence.{InjectiveEvidence, SideEvidence, SumEvidence, Window, Twins, Ahead, Split, Flux, Ring}
 use Rattle.c_structs.specs.declared.letter_rows.LetterRow.{LetterRow}
 use Rattle.c_structs.specs.declared.letter_rows.TwinRows.{TwinRows}
@@ -31,11 +31,6 @@ sum_letters (Ring p) = p
 -- the numbers of a flux, followed by zeros up to 16 numbers
 abbrev pub flux_row : List ℤ → List ℤ
 flux_row phi = phi ++ replicate (16 - length phi) (pos 0)
-
--- if the evidence is a flux, it has at most 16 numbers
-abbrev pub IsShortSum : SumEvidence → Type 0
-IsShortSum (Flux phi) = length phi ≤ 16
-IsShortSum (Ring p) = ⊤
 
 -- the part on surjectivity: 1 for yes, or 0 for no and the row of the orphan
 abbrev pub SaysSurjective : List ℕ → ℕ → LetterRow → Option (List ℕ) → Type 0

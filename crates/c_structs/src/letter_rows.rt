@@ -2,9 +2,9 @@
 ghost use Rattle.std.specs.Prelude.{◌≡◌, ◌++◌, IfOk, OnOk};
 ghost use Rattle.c_structs.specs.LetterRows.{IsRow, AreTwinRows, AreTailRows, AreSplitRows, tail_letters, split_letters};
 
+use short_words::ShortPair;
 use std::alloc::AllocError;
 use tail_config::Tail;
-use word_image::Word;
 
 /// The row of a word: where the word is in a buffer of letters.
 #[repr(C)]
@@ -79,12 +79,12 @@ pub fn add_word(letters: &mut Vec<u8>, word: &[u8]) -> Result<LetterRow, AllocEr
 }
 
 /// Appends two words to the letters, and returns their rows.
-pub fn add_twins(letters: &mut Vec<u8>, x: &Word, y: &Word) -> Result<TwinRows, AllocError>
-    ensures letters { OnOk result (letters.new.items ≡ letters.old.items ++ (x.now ++ y.now)) }
-    ensures rows { IfOk result (λ rows. AreTwinRows letters.new.items rows x.now y.now) }
+pub fn add_twins(letters: &mut Vec<u8>, pair: &ShortPair) -> Result<TwinRows, AllocError>
+    ensures letters { OnOk result (letters.new.items ≡ letters.old.items ++ (pair.now.x ++ pair.now.y)) }
+    ensures rows { IfOk result (λ rows. AreTwinRows letters.new.items rows pair.now.x pair.now.y) }
 {
-    let x = add_word(letters, x.as_slice())?;
-    let y = add_word(letters, y.as_slice())?;
+    let x = add_word(letters, pair.x.as_slice())?;
+    let y = add_word(letters, pair.y.as_slice())?;
     Ok(TwinRows { x, y })
 }
 

@@ -1,15 +1,19 @@
 //! The parts of a report, one for each property: a verdict and the least evidence for it. The words of the evidence are
 //! in a buffer of letters, and a row says where a word is.
 ghost use Rattle.std.specs.Prelude.{◌≡◌, ◌≤◌, ◌++◌, length, IfOk, OnOk};
-ghost use Rattle.cert_values.specs.Parts.{injective_of, side_of, sum_of};
-ghost use Rattle.c_structs.specs.ReportParts.{IsShortSum, SaysSurjective, SaysInjective, SaysSide, SaysConserving, orphan_letters, injective_letters, side_letters, sum_letters, flux_row};
+ghost use Rattle.cert_values.specs.Parts.{side_of};
+ghost use Rattle.rule_verdicts.specs.Reports.{injective_of, sum_of};
+ghost use Rattle.c_structs.specs.ReportParts.{SaysSurjective, SaysInjective, SaysSide, SaysConserving, orphan_letters, injective_letters, side_letters, sum_letters, flux_row};
 
 use crate::letter_rows::{
     LetterRow, NO_ROW, NO_SPLIT, NO_TWINS, SplitRows, TwinRows, add_split, add_twins, add_word,
 };
-use cert_values::{InjectivePart, SidePart, SumPart};
+use cert_values::SidePart;
+use flux_conserve::Keeping;
+use rule_verdicts::Injectivity;
+use short_words::LentWord;
 use std::alloc::AllocError;
-use word_image::{FluxRow, Word};
+use word_image::Rule;
 
 /// The greatest number of nodes of a rule. A flux has one entry for each node.
 pub const MOST_NODES: usize = 16;
@@ -54,7 +58,7 @@ pub struct Conserving {
 /// appended to `letters`.
 pub fn add_surjective(
     letters: &mut Vec<u8>,
-    orphan: &Option<Word>,
+    orphan: &Option<LentWord>,
 ) -> Result<Surjective, AllocError>
     ensures letters { OnOk result (letters.new.items ≡ letters.old.items ++ orphan_letters orphan.now) }
     ensures part { IfOk result (λ part. SaysSurjective letters.new.items part.holds part.orphan orphan.now) }
@@ -73,22 +77,22 @@ pub fn add_surjective(
 
 /// Returns the part of the report that says whether the rule is injective. If there are twins, their letters are
 /// appended to `letters`.
-pub fn add_injective(letters: &mut Vec<u8>, part: &InjectivePart) -> Result<Injective, AllocError>
+pub fn add_injective(letters: &mut Vec<u8>, part: &Injectivity) -> Result<Injective, AllocError>
     ensures letters { OnOk result (letters.new.items ≡ letters.old.items ++ injective_letters (injective_of part.now)) }
     ensures part { IfOk result (λ said. SaysInjective letters.new.items said.holds said.window said.place said.twins (injective_of part.now)) }
 {
     match part {
-        InjectivePart::Window { n, c } => Ok(Injective {
+        Injectivity::Window { n, c } => Ok(Injective {
             holds: 1,
             window: u32::from(*n),
             place: u32::from(*c),
             twins: NO_TWINS,
         }),
-        InjectivePart::Twins { x, y } => Ok(Injective {
+        Injectivity::Twins(pair) => Ok(Injective {
             holds: 0,
             window: 0,
             place: 0,
-            twins: add_twins(letters, x, y)?,
+            twins: add_twins(letters, pair)?,
         }),
     }
 }
@@ -113,35 +117,40 @@ pub fn add_side(letters: &mut Vec<u8>, part: &SidePart) -> Result<Side, AllocErr
     }
 }
 
-/// Returns the part of the report that says whether the rule is conserving. If there is a ring, its letters are
+/// Returns the part of the report that says whether this rule is conserving. If there is a ring, its letters are
 /// appended to `letters`.
-pub fn add_conserving(letters: &mut Vec<u8>, part: &SumPart) -> Result<Conserving, AllocError>
-    requires { IsShortSum (sum_of part.now) }
-    ensures letters { OnOk result (letters.new.items ≡ letters.old.items ++ sum_letters (sum_of part.now)) }
-    ensures part { IfOk result (λ said. SaysConserving letters.new.items said.holds said.nodes said.flux said.ring (sum_of part.now)) }
+pub fn add_conserving(
+    letters: &mut Vec<u8>,
+    rule: &Rule,
+    part: &Keeping,
+) -> Result<Conserving, AllocError>
+    ensures letters { OnOk result (letters.new.items ≡ letters.old.items ++ sum_letters (sum_of rule.now part.now)) }
+    ensures part { IfOk result (λ said. SaysConserving letters.new.items said.holds said.nodes said.flux said.ring (sum_of rule.now part.now)) }
 {
     match part {
-        SumPart::Flux(flux) => Ok(Conserving {
-            holds: 1,
-            nodes: flux.as_slice().len() as u8,
-            flux: numbers(flux),
-            ring: NO_ROW,
-        }),
-        SumPart::Ring(ring) => Ok(Conserving {
+        Keeping::Flux(flows) => {
+            let flux = &flows[..usize::from(rule.nodes())];
+            Ok(Conserving {
+                holds: 1,
+                nodes: flux.len() as u8,
+                flux: numbers(flux),
+                ring: NO_ROW,
+            })
+        }
+        Keeping::Ring(ring) => Ok(Conserving {
             holds: 0,
             nodes: 0,
             flux: [0; MOST_NODES],
-            ring: add_word(letters, ring.as_slice())?,
+            ring: add_word(letters, ring.letters())?,
         }),
     }
 }
 
 /// Returns the entries of a flux. The entries after them are 0.
-fn numbers(flux: &FluxRow) -> [i32; MOST_NODES]
-    requires { length flux.now ≤ 16 }
-    ensures { result ≡ flux_row flux.now }
+fn numbers(flows: &[i32]) -> [i32; MOST_NODES]
+    requires { length flows.now ≤ 16 }
+    ensures { result ≡ flux_row flows.now }
 {
-    let flows = flux.as_slice();
     let mut row = [0; MOST_NODES];
     row[..flows.len()].copy_from_slice(flows);
     row

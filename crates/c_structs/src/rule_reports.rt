@@ -1,17 +1,15 @@
 //! The report of a rule with its evidence, as a struct of C and a buffer of letters.
 ghost use Rattle.std.specs.Prelude.{◌≡◌, [], option_copied, IfOk};
-ghost use Rattle.cert_values.specs.Parts.{sum_of};
 ghost use Rattle.word_image.specs.LocalRules.{IsRule};
-ghost use Rattle.certificate_laws.specs.ReportValues.{evidence_of};
-ghost use Rattle.c_structs.specs.ReportParts.{IsShortSum};
+ghost use Rattle.rule_verdicts.specs.Reports.{evidence_of};
 ghost use Rattle.c_structs.specs.Reports.{IsReported, IsReportOf, letters_in, named_weights, no_report, rule_with};
 
 use crate::letter_rows::{LetterRow, NO_ROW, NO_SPLIT, NO_TWINS, SplitRows, TwinRows};
 use crate::report_parts::{MOST_NODES, add_conserving, add_injective, add_side, add_surjective};
 use crate::table_verdicts::fault_number;
 use ca_answering::weights_for;
-use cert_conditions::Report;
-use rule_verdicts::Evidence;
+use orphan_search::Search;
+use rule_verdicts::{Report, least_report};
 use std::alloc::{AllocError, Global};
 use word_image::Rule;
 
@@ -137,8 +135,9 @@ fn report_of_rule(alloc: Global, rule: &Rule, weights: &[u8]) -> Result<Reported
 {
     match weights_for(rule, named(weights)) {
         Some(weights) => {
-            let evidence = Evidence::of(alloc, rule, &weights)?;
-            written(alloc, &evidence.report)
+            let mut search = Search::new(alloc)?;
+            let report = least_report(alloc, &mut search, rule, &weights)?;
+            written(alloc, &report)
         }
         None => Ok(fault_reported(alloc, NO_WEIGHTS)),
     }
@@ -157,7 +156,6 @@ fn named(weights: &[u8]) -> Option<&[u8]>
 
 /// Returns a report in the layout of C, and the letters of its words.
 fn written(alloc: Global, found: &Report) -> Result<Reported, AllocError>
-    requires { IsShortSum (sum_of found.now.conserving) }
     ensures letters { IfOk result (λ made. made.letters.items ≡ letters_in (evidence_of found.now)) }
     ensures report { IfOk result (λ made. IsReportOf made.letters.items (evidence_of found.now) made.report) }
 {
@@ -166,7 +164,7 @@ fn written(alloc: Global, found: &Report) -> Result<Reported, AllocError>
     let injective = add_injective(&mut letters, &found.injective)?;
     let right = add_side(&mut letters, &found.right)?;
     let left = add_side(&mut letters, &found.left)?;
-    let conserving = add_conserving(&mut letters, &found.conserving)?;
+    let conserving = add_conserving(&mut letters, &found.rule, &found.conserving)?;
     let flux = conserving.flux;
     let report = RuleReport {
         fault: 0,

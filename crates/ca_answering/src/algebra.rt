@@ -9,21 +9,21 @@ use ca_questions::{Cause, Found};
 use word_image::Rule;
 
 /// Returns the mirrored rule as a finding, the answer to the question what the mirrored rule is.
-pub fn reflect(rule: &Rule) -> Found
+pub fn reflect(rule: &Rule) -> Found<'static>
     ensures { IsFinding (Question.Reflect rule.now) (finding_of result) }
 {
     found(rule.reflect())
 }
 
 /// Returns the rule without the cells at both ends of its window that it ignores. The width stays at least 2.
-pub fn trim(rule: &Rule) -> Found
+pub fn trim(rule: &Rule) -> Found<'static>
     ensures { IsFinding (Question.Trim rule.now) (finding_of result) }
 {
     found(rule_algebra::trim(rule))
 }
 
 /// Returns the rule whose window is `by` cells further to the right, or the cause why there is no such rule.
-pub fn shift(rule: &Rule, by: i8) -> Result<Found, Cause>
+pub fn shift(rule: &Rule, by: i8) -> Result<Found<'static>, Cause>
     ensures { Settles (Question.Shift rule.now by) result }
 {
     match rule_algebra::shift(rule, by) {
@@ -34,7 +34,7 @@ pub fn shift(rule: &Rule, by: i8) -> Result<Found, Cause>
 
 /// Returns the same map as a rule of this width, which ignores the cells that were added on the right. Returns the
 /// cause if there is no such rule.
-pub fn widen(rule: &Rule, width: u8) -> Result<Found, Cause>
+pub fn widen(rule: &Rule, width: u8) -> Result<Found<'static>, Cause>
     ensures { Settles (Question.Widen rule.now width) result }
 {
     match rule_algebra::widen(rule, width) {
@@ -45,7 +45,7 @@ pub fn widen(rule: &Rule, width: u8) -> Result<Found, Cause>
 
 /// Returns the rule with new names for its letters. Letter a gets the name at place a of `letters`. Returns the cause
 /// if the names aren't a permutation of the letters.
-pub fn permute(rule: &Rule, letters: &[u8]) -> Result<Found, Cause>
+pub fn permute(rule: &Rule, letters: &[u8]) -> Result<Found<'static>, Cause>
     ensures { Settles (Question.Permute rule.now letters.now) result }
 {
     match rule_algebra::permute(rule, letters) {
@@ -55,7 +55,7 @@ pub fn permute(rule: &Rule, letters: &[u8]) -> Result<Found, Cause>
 }
 
 /// Returns the composition of two rules, the second rule after the first, or the cause why there is no such rule.
-pub fn compose(first: &Rule, second: &Rule) -> Result<Found, Cause>
+pub fn compose(first: &Rule, second: &Rule) -> Result<Found<'static>, Cause>
     ensures { Settles (Question.Compose first.now second.now) result }
 {
     match rule_algebra::compose(first, second) {
@@ -65,7 +65,7 @@ pub fn compose(first: &Rule, second: &Rule) -> Result<Found, Cause>
 }
 
 /// Makes an answer of this rule.
-pub fn found(rule: Rule) -> Found
+pub fn found(rule: Rule) -> Found<'static>
     ensures made { result ≡ Found.Rule rule }
     ensures accepted { IsRule rule }
 {

@@ -10,21 +10,23 @@ use crate::inverses::inverse;
 use crate::languages::{erase, language, same};
 use crate::preimages::preimage;
 use crate::reports::{certificate, number, orphan, report};
+use crate::room::Room;
 use crate::summaries::{classes, sample, survey};
 use ca_questions::{Cause, Found, Question, ShortList, Stop};
 use std::alloc::Global;
 
-/// Returns the answer to a question, or the reason why there is none: a cause, or lack of memory.
-pub fn answer(alloc: Global, question: &Question) -> Result<Found, Stop>
+/// Returns the answer to a question, or the reason why there is none: a cause, or lack of memory. The answer lends its
+/// long lists from the room. Only splits, a certificate, an automaton and the number of classes need other memory.
+pub fn answer<'r>(alloc: Global, room: &'r mut Room, question: &Question) -> Result<Found<'r>, Stop>
     requires { IsWhole question.now }
     ensures { Answers (question_of question.now) result }
 {
     match question {
-        Question::Report(rule, weights) => report(alloc, rule, named(weights)),
+        Question::Report(rule, weights) => report(alloc, &mut room.search, rule, named(weights)),
         Question::Certify(version, rule, weights) => {
-            certificate(alloc, *version, rule, named(weights))
+            certificate(alloc, &mut room.search, *version, rule, named(weights))
         }
-        Question::Orphan(rule) => orphan(alloc, rule),
+        Question::Orphan(rule) => Ok(orphan(&mut room.search, rule)),
         Question::Number(rule) => Ok(number(rule)),
         Question::Reflect(rule) => Ok(reflect(rule)),
         Question::Trim(rule) => Ok(trim(rule)),
@@ -35,11 +37,11 @@ pub fn answer(alloc: Global, question: &Question) -> Result<Found, Stop>
         Question::Least(rule) => settled(least(rule)),
         Question::Lift(rule) => settled(lift(rule)),
         Question::Unlift(rule) => settled(unlift(rule)),
-        Question::Inverse(rule) => inverse(alloc, rule),
+        Question::Inverse(rule) => settled(inverse(&mut room.tables, rule)),
         Question::Language(rule) => language(alloc, rule),
-        Question::Same(first, second) => same(alloc, first, second),
-        Question::Erase(rule) => erase(alloc, rule),
-        Question::Preimage(rule, tail) => preimage(alloc, rule, tail),
+        Question::Same(first, second) => settled(same(&mut room.separations, first, second)),
+        Question::Erase(rule) => Ok(erase(rule)),
+        Question::Preimage(rule, tail) => Ok(preimage(&mut room.preimages, rule, tail)),
         Question::Survey(rules) => Ok(survey(*rules)),
         Question::Sample(rules) => Ok(sample(*rules)),
         Question::Classes(rules) => Ok(classes(alloc, *rules)?),
@@ -47,8 +49,8 @@ pub fn answer(alloc: Global, question: &Question) -> Result<Found, Stop>
 }
 
 /// Turns the result of a function that needs no memory into the result of `answer`.
-fn settled(found: Result<Found, Cause>) -> Result<Found, Stop>
-    ensures { (q : questions.Question) → Settles q found → Answers q result }
+fn settled(found: Result<Found<'_>, Cause>) -> Result<Found<'_>, Stop>
+    ensures { (q : questions.Question) → Settles q found.entry → Answers q result }
 {
     match found {
         Ok(found) => Ok(found),

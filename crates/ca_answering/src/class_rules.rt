@@ -9,7 +9,7 @@ use word_image::Rule;
 
 /// Returns the rule with the least Wolfram number in the class of a rule, or the cause `Colours` if the rule has 7
 /// states or more.
-pub fn least(rule: &Rule) -> Result<Found, Cause>
+pub fn least(rule: &Rule) -> Result<Found<'static>, Cause>
     ensures { Settles (Question.Least rule.now) result }
 {
     match class_of(rule) {
@@ -20,7 +20,7 @@ pub fn least(rule: &Rule) -> Result<Found, Cause>
 
 /// Returns the second-order lift of a rule, whose letters are pairs of letters, or the cause why there is no lift.
 /// The lift is injective.
-pub fn lift(rule: &Rule) -> Result<Found, Cause>
+pub fn lift(rule: &Rule) -> Result<Found<'static>, Cause>
     ensures { Settles (Question.Lift rule.now) result }
 {
     match rule_classes::lift(rule) {
@@ -30,7 +30,7 @@ pub fn lift(rule: &Rule) -> Result<Found, Cause>
 }
 
 /// Returns the rule that undoes the second-order lift, or the cause why there is no lift.
-pub fn unlift(rule: &Rule) -> Result<Found, Cause>
+pub fn unlift(rule: &Rule) -> Result<Found<'static>, Cause>
     ensures { Settles (Question.Unlift rule.now) result }
 {
     match rule_classes::unlift(rule) {

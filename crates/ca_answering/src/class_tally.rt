@@ -57,7 +57,7 @@ impl ClassTally {
     }
 
     /// Returns the finding with the counts and the number of classes.
-    pub fn found(&self) -> Found
+    pub fn found(&self) -> Found<'static>
         ensures { (k m : ℕ) (rules : List LocalRule) → IsClassTally k m rules self.now → IsFinding (Question.Classes rules) (finding_of result) }
     {
         Found::Classes(self.counts, self.leasts.len())

@@ -2,19 +2,20 @@
 ghost use Rattle.std.specs.Prelude.{◌≤◌, IfOk, ◌≡◌};
 ghost use Rattle.image_minimal.specs.ImageLanguages.{IsLeastAutomaton};
 ghost use Rattle.ca_questions.specs.Questions.{Question};
-ghost use Rattle.ca_questions.specs.Values.{Answers, automaton_of};
+ghost use Rattle.ca_questions.specs.Findings.{IsFinding};
+ghost use Rattle.ca_questions.specs.Values.{Answers, Settles, automaton_of, finding_of};
 ghost use Rattle.ca_answering.specs.OneClass as one;
 
-use ca_questions::{Automaton, Cause, Found, Pair, Stop};
+use ca_questions::{Automaton, Cause, Found, Stop};
 use debruijn::Graph;
-use eden_law::{erasable, is_surjective};
-use image_minimal::{Minimal, SepFault, separate};
-use least_walk::Walker;
+use eden_law::{is_surjective, least_erasable};
+use image_minimal::{Minimal, SeparationRoom};
+use short_words::LentWord;
 use std::alloc::{AllocError, Global};
 use word_image::Rule;
 
 /// Returns the answer with the least automaton of the words that have a preimage.
-pub fn language(alloc: Global, rule: &Rule) -> Result<Found, Stop>
+pub fn language(alloc: Global, rule: &Rule) -> Result<Found<'static>, Stop>
     ensures { Answers (Question.Language rule.now) result }
 {
     if is_surjective(&Graph::of(rule)) {
@@ -50,27 +51,26 @@ fn automaton(alloc: Global, minimal: &Minimal) -> Result<Automaton, AllocError>
 
 /// Returns the least word that is an orphan of exactly one of the two rules, or an answer without a word if they have
 /// the same orphans. Returns the cause `States` if the rules have different numbers of states.
-pub fn same(alloc: Global, first: &Rule, second: &Rule) -> Result<Found, Stop>
-    ensures { Answers (Question.Same first.now second.now) result }
+pub fn same<'r>(
+    room: &'r mut SeparationRoom,
+    first: &Rule,
+    second: &Rule,
+) -> Result<Found<'r>, Cause>
+    ensures { Settles (Question.Same first.now second.now) result }
 {
-    match separate(alloc, first, second) {
-        Ok(word) => Ok(Found::Same(word)),
-        Err(SepFault::States) => Err(Stop::Unfit(Cause::States)),
-        Err(SepFault::Memory(fault)) => Err(Stop::Memory(fault)),
+    if first.k() != second.k() {
+        return Err(Cause::States);
+    }
+    match room.separate(first, second) {
+        Some(word) => Ok(Found::Same(Some(LentWord::of(word)))),
+        None => Ok(Found::Same(None)),
     }
 }
 
 /// Returns the least erasable pair: two words that can replace each other in any configuration without a change of the
 /// image. The answer has no pair if the rule is surjective.
-pub fn erase(alloc: Global, rule: &Rule) -> Result<Found, Stop>
-    ensures { Answers (Question.Erase rule.now) result }
+pub fn erase(rule: &Rule) -> Found<'static>
+    ensures { IsFinding (Question.Erase rule.now) (finding_of result) }
 {
-    let mut walker = Walker::new(alloc)?;
-    match erasable(alloc, rule, &mut walker)? {
-        None => Ok(Found::Erased(None)),
-        Some(pair) => Ok(Found::Erased(Some(Pair {
-            x: pair.x,
-            y: pair.y,
-        }))),
-    }
+    Found::Erased(least_erasable(rule))
 }

@@ -30,7 +30,8 @@
 //! 1969).
 //!
 //! The functions that decide are in other crates. Each function here takes the time and the memory of the function
-//! that it calls.
+//! that it calls. An answer lends its long lists, such as an orphan, from a [`Room`]. Then only the splits of
+//! a report, a certificate, an automaton and the classes of many rules need other memory.
 #![tactic(auto)]
 
 mod algebra;
@@ -42,6 +43,7 @@ mod inverses;
 mod languages;
 mod preimages;
 mod reports;
+mod room;
 mod summaries;
 mod tally;
 
@@ -52,4 +54,5 @@ pub use inverses::inverse;
 pub use languages::{erase, language, same};
 pub use preimages::preimage;
 pub use reports::{certificate, number, orphan, report, weights_for};
+pub use room::Room;
 pub use summaries::{classes, sample, survey};

@@ -7,18 +7,27 @@ ghost use Rattle.ca_questions.specs.Values.{Answers, finding_of};
 
 use ca_questions::{Cause, Found, Stop};
 use cert_values::CertVersion;
-use rule_verdicts::{Evidence, least_orphan};
-use std::alloc::{AllocError, Global};
+use orphan_search::Search;
+use rule_verdicts::least_orphan;
+use std::alloc::Global;
 use word_image::{Rule, Weights};
 
 /// Returns the verdicts on a rule under these weights, each with the least evidence. Without weights, each letter
 /// weighs its own value. Returns the cause `Weights` if there isn't one weight for each letter.
-pub fn report(alloc: Global, rule: &Rule, weights: Option<&[u8]>) -> Result<Found, Stop>
+pub fn report<'r>(
+    alloc: Global,
+    search: &'r mut Search,
+    rule: &Rule,
+    weights: Option<&[u8]>,
+) -> Result<Found<'r>, Stop>
     ensures { Answers (Question.Report rule.now (option_copied weights.entry)) result }
 {
     rule.keeps_limits();
     match weights_for(rule, weights) {
-        Some(weights) => Ok(Found::Report(Evidence::of(alloc, rule, &weights)?.report)),
+        Some(weights) => {
+            let report = rule_verdicts::least_report(alloc, search, rule, &weights)?;
+            Ok(Found::Report(report))
+        }
         None => Err(Stop::Unfit(Cause::Weights)),
     }
 }
@@ -44,16 +53,17 @@ pub fn weights_for(rule: &Rule, weights: Option<&[u8]>) -> Option<Weights>
 /// `Weights` if there isn't one weight for each letter.
 pub fn certificate(
     alloc: Global,
+    search: &mut Search,
     version: CertVersion,
     rule: &Rule,
     weights: Option<&[u8]>,
-) -> Result<Found, Stop>
+) -> Result<Found<'static>, Stop>
     requires { names_weights version ≡ true }
     ensures { Answers (Question.Certify version rule.now (option_copied weights.entry)) result }
 {
     match weights_for(rule, weights) {
         Some(weights) => {
-            let cert = Evidence::of(alloc, rule, &weights)?.certificate(alloc, version)?;
+            let cert = rule_verdicts::certificate(alloc, search, version, rule, &weights)?;
             Ok(Found::Written(cert))
         }
         None => Err(Stop::Unfit(Cause::Weights)),
@@ -61,14 +71,14 @@ pub fn certificate(
 }
 
 /// Returns the answer with the least orphan, or without an orphan if the rule is surjective.
-pub fn orphan(alloc: Global, rule: &Rule) -> Result<Found, Stop>
-    ensures { Answers (Question.Orphan rule.now) result }
+pub fn orphan<'r>(search: &'r mut Search, rule: &Rule) -> Found<'r>
+    ensures { IsFinding (Question.Orphan rule.now) (finding_of result) }
 {
-    Ok(Found::Orphan(least_orphan(alloc, rule)?))
+    Found::Orphan(least_orphan(search, rule))
 }
 
 /// Returns the answer with the Wolfram number of a rule, or without a number if the rule has 7 states or more.
-pub fn number(rule: &Rule) -> Found
+pub fn number(rule: &Rule) -> Found<'static>
     ensures { IsFinding (Question.Number rule.now) (finding_of result) }
 {
     Found::Number(rule_text::number(rule))

@@ -25,7 +25,7 @@ use word_image::{MOST_ENTRIES, Rule};
 const MOST_RULES: usize = 4096;
 
 /// Counts for each property how many of the rules with these numbers have it. It needs no memory.
-pub fn survey(rules: Numbered) -> Found
+pub fn survey(rules: Numbered) -> Found<'static>
     requires { AreNumbered rules }
     ensures { IsFinding (Question.Summary (survey_rules rules.states rules.width rules.first rules.count)) (finding_of result) }
 {
@@ -33,7 +33,7 @@ pub fn survey(rules: Numbered) -> Found
 }
 
 /// Counts for each property how many of the rules that a generator draws from a seed have it. It needs no memory.
-pub fn sample(rules: Drawn) -> Found
+pub fn sample(rules: Drawn) -> Found<'static>
     requires { AreDrawn rules }
     ensures { IsFinding (Question.Summary (sample_rules rules.states rules.width rules.seed rules.count)) (finding_of result) }
 {
@@ -41,7 +41,7 @@ pub fn sample(rules: Drawn) -> Found
 }
 
 /// Makes the answer that has these counts.
-fn summary(counts: Counts) -> Found
+fn summary(counts: Counts) -> Found<'static>
     ensures { (rules : List LocalRule) → AreCounts rules (counts_of counts) → IsFinding (Question.Summary rules) (finding_of result) }
 {
     Found::Summary(counts)
@@ -49,7 +49,7 @@ fn summary(counts: Counts) -> Found
 
 /// Counts for each property how many of the rules with these numbers have it, and counts the classes of these rules.
 /// It decides each class only once.
-pub fn classes(alloc: Global, rules: Numbered) -> Result<Found, AllocError>
+pub fn classes(alloc: Global, rules: Numbered) -> Result<Found<'static>, AllocError>
     requires { AreNumbered rules }
     ensures { IfOk result (λ found. IsFinding (Question.Classes (survey_rules rules.states rules.width rules.first rules.count)) (finding_of found)) }
 {

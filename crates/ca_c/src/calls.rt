@@ -7,6 +7,7 @@ ghost use Rattle.ca_c.specs.Calls.{IsAnswerIn, IsHandedBack, bytes_in};
 
 use crate::blocks::words;
 use crate::sources::SliceSource;
+use ca_answering::Room;
 use ca_cli::{Status, reply, right_replies_are_writable};
 use ca_json::reply_json;
 use ca_questions::Reply;
@@ -64,7 +65,8 @@ pub fn call(alloc: Global, form: Form, block: &[u8], input: &[u8]) -> Result<For
     ensures none { result ≡ Err CallFault.NoWords → (words : List (List ℕ)) → ¬ AreWords block.now words }
 {
     let words = words(alloc, block)?;
-    let Ok(reply) = reply(alloc, &words, &mut SliceSource::new(input)) else {
+    let mut room = Room::new(alloc)?;
+    let Ok(reply) = reply(alloc, &mut room, &words, &mut SliceSource::new(input)) else {
         return Err(CallFault::Memory);
     };
     right_replies_are_writable();

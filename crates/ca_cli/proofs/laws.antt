@@ -1,6 +1,6 @@
 pub mod Inputs
 pub mod Memory
-pub mod Small
+pub mod Fitting
 pub mod RightAnswers
 pub mod CheckAnswers
 pub mod OneStatus

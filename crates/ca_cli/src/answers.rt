@@ -8,16 +8,18 @@ ghost use Rattle.ca_cli.specs.RightAnswers.{IsAnswer};
 
 use crate::replies::reply;
 use crate::status::Status;
-use crate::theorems::{right_replies_are_small, right_replies_are_writable};
+use crate::theorems::{right_replies_are_writable, right_replies_fit};
+use ca_answering::Room;
 use ca_io::{InputFault, Source};
 use ca_text::{Output, write_reply};
 use std::alloc::{AllocError, Global};
 
 /// Writes to `output` the answer to these words and to the bytes that the source has left, which only `check` reads,
 /// and returns its status. Returns an error if a read fails, or if there is no memory. What `output` had before is
-/// gone.
+/// gone. The room serves one answer after another.
 pub fn answer_to<S: Source>(
     alloc: Global,
+    room: &mut Room,
     output: &mut Output,
     words: &[String],
     source: &mut S,
@@ -33,9 +35,9 @@ pub fn answer_to<S: Source>(
     ensures reading { Reading (result ≡ Err InputFault.Failed)
         (S.left source.old) (S.left source.new) (S.faults source.old) (S.faults source.new) }
 {
-    let reply = reply(alloc, words, source)?;
+    let reply = reply(alloc, room, words, source)?;
     right_replies_are_writable();
-    right_replies_are_small();
+    right_replies_fit();
     output.clear();
     write_reply(alloc, output, &reply)?;
     Ok(Status::of(&reply))

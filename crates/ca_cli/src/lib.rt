@@ -17,8 +17,8 @@
 //! 5. The text goes to the sink. If a write fails, a sink that tells its bytes (crate ca_io) has taken a part of the
 //!   text, but not all of it.
 //!
-//! [`run`] makes a room for one call. [`run_in`] does the same over a room that can serve many calls, and then the
-//! commands that need no lists can't end for lack of memory.
+//! [`run`] makes a room for one call. [`run_in`] does the same over a room that can serve many calls. Then only
+//! `decide`, `certify`, `brief`, `language`, `preimage`, `classes` and `check` can end for lack of memory.
 //!
 //! The definition `IsAnswer` of specs/RightAnswers.antt says which status and which output are right for the words
 //! and for the bytes that the source has left. The contract of [`run`] is about this definition. These laws follow
@@ -28,8 +28,8 @@
 //!   commands which status and output are right.
 //! - [`check_exactly`] says it for the command `check`.
 //! - [`certified_is_accepted`] says that `check` accepts what `certify` writes.
-//! - [`right_replies_are_writable`] says that each right reply has a text, and [`right_replies_are_small`] says which
-//!   commands have a text of a few lines.
+//! - [`right_replies_are_writable`] says that each right reply has a text, and [`right_replies_fit`] says for which
+//!   words an output has room for it.
 //!
 //! By these laws:
 //!
@@ -78,6 +78,6 @@ pub use room::Room;
 pub use status::Status;
 pub use theorems::{
     certified_is_accepted, check_exactly, done_or_not_fit, one_status, right_exactly,
-    right_replies_are_small, right_replies_are_writable, rule_fault_exactly, usage_exactly,
+    right_replies_are_writable, right_replies_fit, rule_fault_exactly, usage_exactly,
 };
 pub use top_call::{run, run_in};

@@ -9,19 +9,20 @@ ghost use Rattle.ca_cli.specs.RightAnswers.{IsReplyTo};
 ghost use Rattle.ca_cli.specs.Statuses.{reply_status};
 
 use crate::checks::check;
-use ca_answering::answer;
+use ca_answering::{Room, answer};
 use ca_commands::{is_check, question};
 use ca_io::{InputFault, Source};
 use ca_questions::{Found, Reply, Stop};
 use std::alloc::{AllocError, Global};
 
-/// Returns the reply to these words and to the bytes that the source has left, which only `check` reads. Returns an
-/// error if a read fails, or if there is no memory.
-pub fn reply<S: Source>(
+/// Returns the reply to these words and to the bytes that the source has left, which only `check` reads. The reply lends
+/// its long lists from the room. Returns an error if a read fails, or if there is no memory.
+pub fn reply<'r, S: Source>(
     alloc: Global,
+    room: &'r mut Room,
     words: &[String],
     source: &mut S,
-) -> Result<Reply, InputFault>
+) -> Result<Reply<'r>, InputFault>
     ensures reply { IfOk result (λ reply.
         IsReplyTo (map string_bytes words.now) (S.left source.old) (reply_of reply)) }
 
@@ -37,7 +38,7 @@ pub fn reply<S: Source>(
         return check(alloc, source);
     }
     let found = match question(alloc, words) {
-        Ok(question) => answer(alloc, &question),
+        Ok(question) => answer(alloc, room, &question),
         Err(stop) => Err(stop),
     };
     Ok(said(found)?)
@@ -45,8 +46,8 @@ pub fn reply<S: Source>(
 
 /// Returns the reply for an answer to a question, or for the reason why there is none. If this reason is lack of
 /// memory, returns it as the error.
-fn said(found: Result<Found, Stop>) -> Result<Reply, AllocError>
-    ensures { (words : List (List ℕ)) (input : Option (List ℕ)) → IsOutcome words found →
+fn said(found: Result<Found<'_>, Stop>) -> Result<Reply<'_>, AllocError>
+    ensures { (words : List (List ℕ)) (input : Option (List ℕ)) → IsOutcome words found.entry →
         MatchResult result (λ reply. IsReplyTo words input (reply_of reply)) (λ _. NeedMemory words) }
 {
     match found {

@@ -3,17 +3,23 @@
 use ca_text::Output;
 use std::alloc::{AllocError, Global};
 
-/// The memory that calls of `run_in` use again and again, some 80 KB.
+/// The memory that calls of `run_in` use again and again, some 8 MB.
 #[derive(Drop)]
 pub struct Room {
     pub(crate) alloc: Global,
+    /// For the long lists of answers.
+    pub(crate) answers: ca_answering::Room,
+    /// For the text of a reply.
     pub(crate) output: Output,
 }
 
 impl Room {
     /// Takes all the memory of a room. The only error is lack of memory.
     pub fn new(alloc: Global) -> Result<Room, AllocError> {
-        let output = Output::new(alloc)?;
-        Ok(Room { alloc, output })
+        Ok(Room {
+            alloc,
+            answers: ca_answering::Room::new(alloc)?,
+            output: Output::new(alloc)?,
+        })
     }
 }

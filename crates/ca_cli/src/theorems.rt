@@ -17,7 +17,7 @@ ghost use Rattle.ca_questions.specs.Writable.{IsWritableReply};
 ghost use Rattle.ca_commands.specs.Asked.{IsAsked, IsOperandFault};
 ghost use Rattle.ca_cli.specs.Inputs.{most_input};
 ghost use Rattle.ca_cli.specs.Readings.{ReadsNothing};
-ghost use Rattle.ca_text.specs.Rooms.{IsSmallReply};
+ghost use Rattle.ca_text.specs.Rooms.{FitsRoom};
 ghost use Rattle.ca_text.specs.StatusLines.{accepted_lines, operand_fault_line, refused_line, too_long_line, usage_line};
 ghost use Rattle.ca_cli.specs.RightAnswers.{IsAnswer, IsReplyOf, IsReplyTo};
 
@@ -110,9 +110,9 @@ pub fn right_replies_are_writable()
     right_findings_are_writable();
 }
 
-/// Law: each right reply to words has a text of a few lines, whatever the rule, or the words are a command that may
-/// need memory.
-pub fn right_replies_are_small()
+/// Law: each right reply to words has a text for which an output has room, or the words are `check` or ask a question
+/// whose answer may need memory.
+pub fn right_replies_fit()
     ensures { (words : List (List ℕ)) (input : Option (List ℕ)) (reply : Reply) → IsReplyTo words input reply
-        → NeedMemory words ⊎ IsSmallReply reply }
+        → NeedMemory words ⊎ FitsRoom reply }
 {}

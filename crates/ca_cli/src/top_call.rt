@@ -80,8 +80,8 @@ pub fn run<S: Source, T: Sink>(
 }
 
 /// Does what [`run`] does, but over a room, which may have served other calls before. Returns `Memory` only for the
-/// commands `decide`, `orphan`, `certify`, `brief`, `inverse`, `language`, `same`, `erase`, `preimage`, `classes` and
-/// `check`, if there is no memory for what they find.
+/// commands `decide`, `certify`, `brief`, `language`, `preimage`, `classes` and `check`, if there is no memory for what
+/// they find or for the configuration of `preimage`. If an operand is refused, it never returns `Memory`.
 pub fn run_in<S: Source, T: Sink>(
     room: &mut Room,
     words: &[String],
@@ -118,7 +118,13 @@ pub fn run_in<S: Source, T: Sink>(
     ensures complete_read { S.faults source.new ≡ S.faults source.old → S.faults source.old ≢ 2 ^ 64 - 1 →
         result ≢ Status.ReadFault }
 {
-    match answer_to(room.alloc, &mut room.output, words, source) {
+    match answer_to(
+        room.alloc,
+        &mut room.answers,
+        &mut room.output,
+        words,
+        source,
+    ) {
         Ok(status) => match write_all(sink, room.output.as_slice()) {
             Ok(()) => status,
             Err(Failed) => Status::WriteFault,

@@ -1,19 +1,19 @@
 -- The words of a command line may be a command, which asks a question. This file defines which question the words ask,
 -- and the reasons why the words get no answer to a question.
-use Rattle.std.specs.Prelude.{◌≡◌, ℕ, List, [], ◌∷◌, None}
+use Rattle.std.specs.Prelude.{◌≡◌, ℕ, List, [], ◌∷◌, None, ◌⊎◌}
 use Rattle.word_image.specs.LocalRules.{LocalRule}
 use Rattle.rule_text.specs.declared.text_fault.TextFault.{TextFault}
 use Rattle.rule_text.specs.RuleTexts.{IsTextFault, decimal_value}
 use Rattle.ca_commands.specs.declared.names.Name.{Name}
 use Rattle.ca_commands.specs.declared.names.Name.TheVariants as name
-use Rattle.ca_commands.specs.Commands.{Command, CommandNeedsMemory, IsCommand, word_of}
+use Rattle.ca_commands.specs.Commands.{Command, IsCommand, word_of}
 use Rattle.ca_questions.specs.declared.found.Stop.{Stop}
 use Rattle.ca_questions.specs.declared.found.Stop.TheVariants as stop
 use Rattle.ca_questions.specs.declared.question.Numbered.{Numbered}
 use Rattle.ca_questions.specs.declared.question.Drawn.{Drawn}
 use Rattle.ca_questions.specs.declared.question.Question as code
 use Rattle.ca_questions.specs.QuestionValues.{AreNumbered, AreDrawn, IsWhole, question_of}
-use Rattle.ca_questions.specs.Questions.{Question}
+use Rattle.ca_questions.specs.Questions.{AnswerNeedsMemory, Question}
 use Rattle.ca_questions.specs.Samples.{sample_fault}
 use Rattle.ca_questions.specs.Findings.{IsUnfitFor}
 use Rattle.ca_questions.specs.Values.{unfit_of}
@@ -39,11 +39,11 @@ pub record Ask (words : List (List ℕ)) (q : Question) : Type 0 where
 abbrev pub IsAskedBy : List (List ℕ) → code.Question → Type 0
 IsAskedBy words q = Ask words (question_of q) × IsWhole q
 
--- the words are a command that may need memory
+-- the words are the command `check`, or they ask a question whose answer may need memory besides a room
 abbrev pub NeedMemory : List (List ℕ) → Type 0
-NeedMemory words = (c : Command) × IsCommand words c × CommandNeedsMemory c.name
+NeedMemory words = ((c : Command) × IsCommand words c × (c.name ≡ name.Check)) ⊎ ((q : Question) × Ask words q × AnswerNeedsMemory q)
 
--- why nothing is found for the words: they are no command, or an operand has a fault, or the question has no finding, or there is no memory, which their command may need
+-- why nothing is found for the words: they are no command, or an operand has a fault, or the question has no finding, or there is no memory, which the answer may need
 abbrev pub IsStop : List (List ℕ) → Stop → Type 0
 IsStop words stop.Usage = (c : Command) → ¬ IsCommand words c
 IsStop words (stop.RuleFault operand f) = (c : Command) × IsCommand words c × IsOperandFault c operand f

@@ -44,22 +44,6 @@ rule_count name.Classes = 0
 rule_count name.Check = 0
 rule_count _ = 1
 
--- a command of this name may need memory, since it reads an input or a configuration, or answers with lists
-abbrev pub CommandNeedsMemory : Name → Type 0
-CommandNeedsMemory name.Number = ⊥
-CommandNeedsMemory name.Reflect = ⊥
-CommandNeedsMemory name.Trim = ⊥
-CommandNeedsMemory name.Shift = ⊥
-CommandNeedsMemory name.Widen = ⊥
-CommandNeedsMemory name.Permute = ⊥
-CommandNeedsMemory name.Compose = ⊥
-CommandNeedsMemory name.Least = ⊥
-CommandNeedsMemory name.Lift = ⊥
-CommandNeedsMemory name.Unlift = ⊥
-CommandNeedsMemory name.Survey = ⊥
-CommandNeedsMemory name.Sample = ⊥
-CommandNeedsMemory _ = ⊤
-
 -- the forms of operands after the rules: none, optional weights, an offset, a width of one digit, new letters, a configuration, or the shape with numbers or a seed of many rules
 pub data Form : Type 0 where
   Nothing : Form

@@ -1,8 +1,8 @@
 //! The JSON of a report: the verdicts of a rule with their evidence.
 ghost use Rattle.std.specs.Prelude.{◌≡◌, IfOk};
 ghost use Rattle.serde_json.specs.View.{view};
-ghost use Rattle.cert_values.specs.Parts.{injective_of, side_of, sum_of};
-ghost use Rattle.certificate_laws.specs.ReportValues.{evidence_of};
+ghost use Rattle.cert_values.specs.Parts.{side_of};
+ghost use Rattle.rule_verdicts.specs.Reports.{evidence_of, injective_of, sum_of};
 ghost use Rattle.ca_questions.specs.Findings.{Finding};
 ghost use Rattle.rule_text.specs.PrintedRules.{number_found};
 ghost use Rattle.ca_questions.specs.Writable.{HasDigits, HasRingDigits, HasTwinDigits, IsWritable};
@@ -10,21 +10,23 @@ ghost use Rattle.ca_json.specs.Findings.{report_json};
 ghost use Rattle.ca_json.specs.Values.{conserving_json, injective_json, number_or_null, side_json, surjective_json, tail_json};
 
 use crate::values::{number_or_null, pair_value, tail_value};
-use cert_conditions::Report;
 use cert_format::{flux_value, rule_value, weights_value, word_value};
-use cert_values::{InjectivePart, SidePart, SumPart};
+use cert_values::SidePart;
+use flux_conserve::Keeping;
 use rule_text::number;
+use rule_verdicts::{Injectivity, Report};
 use serde_json::{Map, Value, json, put};
+use short_words::LentWord;
 use std::alloc::{AllocError, Global};
 use tail_config::Tail;
-use word_image::{Rule, Word};
+use word_image::{FluxRow, Rule};
 
 /// Returns the object of a report: the rule, its number, the weights, and the verdicts with their evidence.
 pub fn report_value(alloc: Global, report: &Report) -> Result<Value, AllocError>
     requires { IsWritable (Finding.Report (evidence_of report.now)) }
     ensures { IfOk result (λ v. view v ≡ report_json (evidence_of report.now)) }
 {
-    let conserving = conserving_value(alloc, &report.conserving)?;
+    let conserving = conserving_value(alloc, &report.rule, &report.conserving)?;
     let injective = injective_value(alloc, &report.injective)?;
     let left = side_value(alloc, &report.left)?;
     let number = number_value(alloc, &report.rule)?;
@@ -54,7 +56,7 @@ fn number_value(alloc: Global, rule: &Rule) -> Result<Value, AllocError>
 }
 
 /// Returns the object that says whether the rule is surjective, with the orphan if it isn't.
-fn surjective_value(alloc: Global, orphan: &Option<Word>) -> Result<Value, AllocError>
+fn surjective_value(alloc: Global, orphan: &Option<LentWord>) -> Result<Value, AllocError>
     requires { HasDigits orphan.now }
     ensures { IfOk result (λ v. view v ≡ surjective_json orphan.now) }
 {
@@ -68,14 +70,14 @@ fn surjective_value(alloc: Global, orphan: &Option<Word>) -> Result<Value, Alloc
 }
 
 /// Returns the object that says whether the rule is injective, with a window if it is, and with twins if it isn't.
-fn injective_value(alloc: Global, found: &InjectivePart) -> Result<Value, AllocError>
+fn injective_value(alloc: Global, found: &Injectivity) -> Result<Value, AllocError>
     requires { HasTwinDigits (injective_of found.now) }
     ensures { IfOk result (λ v. view v ≡ injective_json (injective_of found.now)) }
 {
     match found {
-        InjectivePart::Window { n, c } => json!(in alloc; {"holds": true, "window": [*n, *c]}),
-        InjectivePart::Twins { x, y } => {
-            let twins = pair_value(alloc, x.as_slice(), y.as_slice())?;
+        Injectivity::Window { n, c } => json!(in alloc; {"holds": true, "window": [*n, *c]}),
+        Injectivity::Twins(pair) => {
+            let twins = pair_value(alloc, pair.x.as_slice(), pair.y.as_slice())?;
             json!(in alloc; {"holds": false, "twins": twins})
         }
     }
@@ -96,19 +98,20 @@ fn side_value(alloc: Global, found: &SidePart) -> Result<Value, AllocError>
     }
 }
 
-/// Returns the object that says whether the rule conserves the sum, with a flux if it does, and with a ring if it
+/// Returns the object that says whether this rule conserves the sum, with a flux if it does, and with a ring if it
 /// doesn't.
-fn conserving_value(alloc: Global, found: &SumPart) -> Result<Value, AllocError>
-    requires { HasRingDigits (sum_of found.now) }
-    ensures { IfOk result (λ v. view v ≡ conserving_json (sum_of found.now)) }
+fn conserving_value(alloc: Global, rule: &Rule, found: &Keeping) -> Result<Value, AllocError>
+    requires { HasRingDigits (sum_of rule.now found.now) }
+    ensures { IfOk result (λ v. view v ≡ conserving_json (sum_of rule.now found.now)) }
 {
     match found {
-        SumPart::Flux(flux) => {
-            let flux = flux_value(alloc, flux)?;
+        Keeping::Flux(flows) => {
+            let flows = &flows[..usize::from(rule.nodes())];
+            let flux = flux_value(alloc, &FluxRow::of(flows.to_vec(alloc)?))?;
             json!(in alloc; {"flux": flux, "holds": true})
         }
-        SumPart::Ring(ring) => {
-            let ring = word_value(alloc, ring.as_slice())?;
+        Keeping::Ring(ring) => {
+            let ring = word_value(alloc, ring.letters())?;
             json!(in alloc; {"holds": false, "ring": ring})
         }
     }

@@ -1,7 +1,7 @@
 //! The JSON of a finding: the answer to a question about rules.
 ghost use Rattle.std.specs.Prelude.{◌≡◌, codes, IfOk};
 ghost use Rattle.serde_json.specs.View.{view};
-ghost use Rattle.tail_preimage.specs.Answers.{placed_config};
+ghost use Rattle.tail_preimage.specs.Answers.{placed_config, placed_of_lent};
 ghost use Rattle.ca_questions.specs.Values.{counts_of, finding_of, pair_of, preimage_of};
 ghost use Rattle.ca_questions.specs.Writable.{HasTailDigits, HavePairDigits, IsWritable};
 ghost use Rattle.ca_json.specs.Findings.{counts_json, finding_json, inverse_json, pair_or_null, placed_json, rule_or_null};
@@ -9,11 +9,12 @@ ghost use Rattle.ca_json.specs.Findings.{counts_json, finding_json, inverse_json
 use crate::evidence::report_value;
 use crate::languages::automaton_value;
 use crate::values::{number_or_null, pair_value, tagged, tail_value, word_or_null};
-use ca_questions::{Counts, Found, Inverse, Pair};
+use ca_questions::{Counts, Found, Inverse};
 use cert_format::{certificate_value, rule_value, word_value};
 use serde_json::{Value, json};
+use short_words::ShortPair;
 use std::alloc::{AllocError, Global};
-use tail_preimage::{Placed, Pre};
+use tail_preimage::{LentPlaced, LentPre};
 use word_image::Rule;
 
 /// Returns an object for a finding. For most findings its only key names the kind of the finding, for example
@@ -69,7 +70,7 @@ fn rule_or_null(alloc: Global, rule: &Option<Rule>) -> Result<Value, AllocError>
 }
 
 /// Returns the array of the two words of a pair, or null if there is no pair.
-fn pair_or_null(alloc: Global, pair: &Option<Pair>) -> Result<Value, AllocError>
+fn pair_or_null(alloc: Global, pair: &Option<ShortPair>) -> Result<Value, AllocError>
     requires { HavePairDigits (pair_of pair.now) }
     ensures { IfOk result (λ v. view v ≡ pair_or_null (pair_of pair.now)) }
 {
@@ -80,18 +81,18 @@ fn pair_or_null(alloc: Global, pair: &Option<Pair>) -> Result<Value, AllocError>
 }
 
 /// Returns the object for a preimage of a configuration, or for the first part of the configuration that is an orphan.
-fn preimage_value(alloc: Global, answer: &Pre) -> Result<Value, AllocError>
+fn preimage_value(alloc: Global, answer: &LentPre) -> Result<Value, AllocError>
     requires { IsWritable (preimage_of answer.now) }
     ensures { IfOk result (λ v. view v ≡ finding_json (preimage_of answer.now)) }
 {
     match answer {
-        Pre::From(placed) => tagged(alloc, "preimage", placed_value(alloc, placed)?),
-        Pre::Gap {
+        LentPre::From(placed) => tagged(alloc, "preimage", placed_value(alloc, placed)?),
+        LentPre::Gap {
             before,
             after,
             word,
         } => {
-            let word = word_value(alloc, word.as_slice())?;
+            let word = word_value(alloc, word)?;
             json!(in alloc; {"gap": {"after": *after, "before": *before, "word": word}})
         }
     }
@@ -99,12 +100,11 @@ fn preimage_value(alloc: Global, answer: &Pre) -> Result<Value, AllocError>
 
 /// Returns the object of a configuration whose middle begins at a given place: this place, and the three parts of the
 /// configuration.
-fn placed_value(alloc: Global, placed: &Placed) -> Result<Value, AllocError>
-    requires { HasTailDigits (placed_config placed.now).config }
-    ensures { IfOk result (λ v. view v ≡ placed_json (placed_config placed.now)) }
+fn placed_value(alloc: Global, placed: &LentPlaced) -> Result<Value, AllocError>
+    requires { HasTailDigits (placed_config (placed_of_lent placed.now)).config }
+    ensures { IfOk result (λ v. view v ≡ placed_json (placed_config (placed_of_lent placed.now))) }
 {
-    let (left, middle) = (placed.left.as_slice(), placed.middle.as_slice());
-    let tail = tail_value(alloc, left, middle, placed.right.as_slice())?;
+    let tail = tail_value(alloc, placed.left, placed.middle, placed.right)?;
     json!(in alloc; {"at": placed.at, "tail": tail})
 }
 

@@ -9,8 +9,8 @@ ghost use Rattle.ca_json.specs.Values as values;
 
 use cert_format::word_value;
 use serde_json::{Value, json};
+use short_words::LentWord;
 use std::alloc::{AllocError, Global};
-use word_image::Word;
 
 /// Returns an object with one member, which has this key and this value.
 pub fn tagged(alloc: Global, key: &str, value: Value) -> Result<Value, AllocError>
@@ -20,7 +20,7 @@ pub fn tagged(alloc: Global, key: &str, value: Value) -> Result<Value, AllocErro
 }
 
 /// Returns a word as a string of hexadecimal digits, or null if there is no word.
-pub fn word_or_null(alloc: Global, word: &Option<Word>) -> Result<Value, AllocError>
+pub fn word_or_null(alloc: Global, word: &Option<LentWord>) -> Result<Value, AllocError>
     requires { HasDigits word.now }
     ensures { IfOk result (λ v. view v ≡ values.word_or_null word.now) }
 {

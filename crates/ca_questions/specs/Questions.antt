@@ -27,20 +27,14 @@ pub data Question : Type 0 where
   Summary : (rules : List LocalRule) → Question
   Classes : (rules : List LocalRule) → Question
 
--- the answer to the question has lists, so it may need memory
+-- the answer to the question may need memory besides a room: it has splits, a certificate, an automaton or a number of classes, or the question has a configuration
 abbrev pub AnswerNeedsMemory : Question → Type 0
-AnswerNeedsMemory (Number r) = ⊥
-AnswerNeedsMemory (Reflect r) = ⊥
-AnswerNeedsMemory (Trim r) = ⊥
-AnswerNeedsMemory (Shift r by) = ⊥
-AnswerNeedsMemory (Widen r width) = ⊥
-AnswerNeedsMemory (Permute r letters) = ⊥
-AnswerNeedsMemory (Compose r s) = ⊥
-AnswerNeedsMemory (Least r) = ⊥
-AnswerNeedsMemory (Lift r) = ⊥
-AnswerNeedsMemory (Unlift r) = ⊥
-AnswerNeedsMemory (Summary rules) = ⊥
-AnswerNeedsMemory _ = ⊤
+AnswerNeedsMemory (Report r weights) = ⊤
+AnswerNeedsMemory (Certify version r weights) = ⊤
+AnswerNeedsMemory (Language r) = ⊤
+AnswerNeedsMemory (Preimage r t) = ⊤
+AnswerNeedsMemory (Classes rules) = ⊤
+AnswerNeedsMemory _ = ⊥
 
 -- each rule of the question is within the limits of rules
 abbrev pub AreRules : Question → Type 0

@@ -1,11 +1,12 @@
 -- The code has types for findings, causes and replies. This file says which finding, cause or reply of the definitions
 -- a value of these types represents, and which results are right for a question.
 use Rattle.std.specs.Prelude.{ℕ, List, Option, Some, None, Result, MatchResult}
-use Rattle.certificate_laws.specs.ReportValues.{evidence_of}
+use Rattle.rule_verdicts.specs.Reports.{evidence_of}
+use Rattle.short_words.specs.declared.short_word.ShortPair.{ShortPair}
 use Rattle.image_minimal.specs.ImageLanguages as languages
-use Rattle.tail_preimage.specs.Answers.{placed_config}
-use Rattle.tail_preimage.specs.declared.answer.Pre.{Pre}
-use Rattle.tail_preimage.specs.declared.answer.Pre.TheVariants.{From, Gap}
+use Rattle.tail_preimage.specs.Answers.{placed_config, placed_of_lent}
+use Rattle.tail_preimage.specs.declared.answer.LentPre.{LentPre}
+use Rattle.tail_preimage.specs.declared.answer.LentPre.TheVariants.{From, Gap}
 use Rattle.ca_questions.specs.declared.found.Found.{Found}
 use Rattle.ca_questions.specs.declared.found.Found.TheVariants as found
 use Rattle.ca_questions.specs.declared.found.Cause.{Cause}
@@ -13,7 +14,6 @@ use Rattle.ca_questions.specs.declared.found.Cause.TheVariants as unfit
 use Rattle.ca_questions.specs.declared.found.Stop.{Stop}
 use Rattle.ca_questions.specs.declared.found.Stop.TheVariants as stop
 use Rattle.ca_questions.specs.declared.found.Automaton as automaton
-use Rattle.ca_questions.specs.declared.found.Pair.{Pair}
 use Rattle.ca_questions.specs.declared.found.Counts as counted
 use Rattle.ca_questions.specs.declared.reply.Reply as said
 use Rattle.ca_questions.specs.declared.reply.Reply.TheVariants as reply
@@ -36,13 +36,13 @@ counts_of t = record {
   conserving = t.conserving;
 }
 
-abbrev pub pair_of : Option Pair → Option (List ℕ × List ℕ)
+abbrev pub pair_of : Option ShortPair → Option (List ℕ × List ℕ)
 pair_of None = None
 pair_of (Some p) = Some (p.x, p.y)
 
-abbrev pub preimage_of : Pre → Finding
-preimage_of (From p) = Finding.Preimage (placed_config p)
-preimage_of (Gap before after w) = Finding.Gap before after w
+abbrev pub preimage_of : LentPre → Finding
+preimage_of (From p) = Finding.Preimage (placed_config (placed_of_lent p))
+preimage_of (Gap before after w) = Finding.Gap before after w.now
 
 -- the finding that a value of the code represents
 abbrev pub finding_of : Found → Finding

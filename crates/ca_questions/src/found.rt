@@ -1,39 +1,41 @@
 //! Findings, which are the right answers to questions about rules, and causes, which say why a question has no finding.
-use cert_conditions::Report;
 use cert_values::Cert;
-use inverse_table::InverseMap;
+use inverse_table::LentMap;
 use rule_algebra::AlgebraFault;
 use rule_classes::LiftFault;
 use rule_text::TextFault;
+use rule_verdicts::Report;
+use short_words::{LentWord, ShortPair};
 use std::alloc::AllocError;
 use tail_config::TailFault;
-use tail_preimage::Pre;
-use word_image::{Rule, Word};
+use tail_preimage::LentPre;
+use word_image::Rule;
 
-/// A finding: the right answer to a question, as a value.
+/// A finding: the right answer to a question, as a value. It lends its long lists from the room in which they were
+/// found.
 #[derive(Drop)]
-pub enum Found {
+pub enum Found<'r> {
     /// The verdicts of a rule, each with the least evidence.
-    Report(Report),
+    Report(Report<'r>),
     /// The certificate of a rule, for the judge of certificates.
     Written(Cert),
     /// The least orphan of a rule, or None if the rule is surjective.
-    Orphan(Option<Word>),
+    Orphan(Option<LentWord<'r>>),
     /// The Wolfram number of a rule, or None if the rule has 7 states or more.
     Number(Option<u128>),
     /// The rule that the question asks for, for example the mirrored rule or a composition.
     Rule(Rule),
     /// The inverse map of a rule.
-    Inverse(Inverse),
+    Inverse(Inverse<'r>),
     /// The least automaton of the words that have a preimage.
     Language(Automaton),
     /// The least word that is an orphan of exactly one of two rules, or None if there is none.
-    Same(Option<Word>),
+    Same(Option<LentWord<'r>>),
     /// The least erasable pair of a rule, or None if the rule is surjective. An erasable pair is two words that can
     /// replace each other in any configuration without a change of the image.
-    Erased(Option<Pair>),
+    Erased(Option<ShortPair>),
     /// A preimage of a configuration, or a part of the configuration that is an orphan.
-    Preimage(Pre),
+    Preimage(LentPre<'r>),
     /// How many of the rules that the question names have each property.
     Summary(Counts),
     /// How many of the rules that the question names have each property, and how many classes these rules have.
@@ -43,10 +45,10 @@ pub enum Found {
 /// An inverse map: it reads n letters of an image and returns the letter at place c of the preimage. `rule` is the map
 /// as a rule, or None if it breaks a limit of rules.
 #[derive(Drop)]
-pub struct Inverse {
+pub struct Inverse<'r> {
     pub n: u16,
     pub c: u16,
-    pub map: InverseMap,
+    pub map: LentMap<'r>,
     pub rule: Option<Rule>,
 }
 
@@ -59,13 +61,6 @@ pub struct Automaton {
     pub classes: u32,
     pub next: Vec<u16>,
     pub dead: Option<u32>,
-}
-
-/// A pair of words: twins, which are two words whose rings have the same image, or an erasable pair.
-#[derive(Drop)]
-pub struct Pair {
-    pub x: Word,
-    pub y: Word,
 }
 
 /// How many rules there are, and how many of them have each property.
@@ -84,7 +79,7 @@ pub struct Counts {
 #[derive(Drop)]
 pub enum Cause {
     /// The rule has these twins, so it has no inverse.
-    Twins(Pair),
+    Twins(ShortPair),
     /// The inverse of the rule reads this many letters, which are too many.
     Wide(u16),
     /// The rule has too many states to search through all new names for its letters.

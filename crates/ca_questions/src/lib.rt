@@ -51,7 +51,7 @@ ghost use Rattle.ca_questions.specs.Questions.{AreRules};
 ghost use Rattle.ca_questions.specs.Questions as questions;
 ghost use Rattle.ca_questions.specs.Writable.{IsWritable, IsWritableUnfit};
 
-pub use found::{Automaton, Cause, Counts, Found, Inverse, Pair, Stop};
+pub use found::{Automaton, Cause, Counts, Found, Inverse, Stop};
 pub use question::{Drawn, Numbered, Question};
 pub use reply::Reply;
 pub use short_list::ShortList;

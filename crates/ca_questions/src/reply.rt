@@ -5,9 +5,9 @@ use rule_text::TextFault;
 
 /// The reply to the words of a command line.
 #[derive(Drop)]
-pub enum Reply {
+pub enum Reply<'r> {
     /// The words ask a question, and this is its right answer.
-    Found(Found),
+    Found(Found<'r>),
     /// The words ask a question that has no answer, because of this cause.
     NoFit(Cause),
     /// The operand with this number, starting at 1, isn't the text of a rule. If the words ask about many rules, a

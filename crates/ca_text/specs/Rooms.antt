@@ -1,12 +1,13 @@
 -- An output has room for a text from the start. This file says how long this text may be, and what it means that a text is
 -- appended to an output.
 use Rattle.std.specs.Prelude.{ℕ, ◌≡◌, ◌+◌, ◌≤◌, List, ◌++◌, length, Result, OnOk, IsOk, ⊤}
-use Rattle.ca_questions.specs.Findings.{Finding, Unfit}
+use Rattle.tail_preimage.specs.Lengths.{most_stretch}
+use Rattle.ca_questions.specs.Findings.{Finding}
 use Rattle.ca_questions.specs.Replies.{Reply}
 
 -- the number of bytes for which an output has room when it is made
 abbrev pub most_text : ℕ
-most_text = 80000
+most_text = 150000
 
 -- the text is appended to an output, and there is no error if both together fit its room
 abbrev pub IsAppended : {A E : Type 0} → Result A E → List ℕ → List ℕ → List ℕ → Type 0
@@ -29,13 +30,12 @@ IsShortReply (Reply.Accepted v) = ⊥
 IsShortReply (Reply.Refused f) = ⊥
 IsShortReply _ = ⊤
 
--- the reply has a text of a few lines, whatever the rule: a number, a rule, counts, a cause other than twins, a fault, or words that are no command
-abbrev pub IsSmallReply : Reply → Type 0
-IsSmallReply (Reply.Found (Finding.Number n)) = ⊤
-IsSmallReply (Reply.Found (Finding.Rule r)) = ⊤
-IsSmallReply (Reply.Found (Finding.Summary t)) = ⊤
-IsSmallReply (Reply.Found _) = ⊥
-IsSmallReply (Reply.NoFit (Unfit.Twins x y)) = ⊥
-IsSmallReply (Reply.Accepted v) = ⊥
-IsSmallReply (Reply.Refused f) = ⊥
-IsSmallReply _ = ⊤
+-- an output has room for the text of the reply: it is about neither a certificate nor an automaton, and a preimage or a gap has at most 33,792 letters
+abbrev pub FitsRoom : Reply → Type 0
+FitsRoom (Reply.Found (Finding.Preimage p)) = length p.config.left + length p.config.middle + length p.config.right ≤ most_stretch
+FitsRoom (Reply.Found (Finding.Gap before after w)) = length w ≤ most_stretch
+FitsRoom (Reply.Found (Finding.Written c)) = ⊥
+FitsRoom (Reply.Found (Finding.Language m)) = ⊥
+FitsRoom (Reply.Accepted v) = ⊥
+FitsRoom (Reply.Refused f) = ⊥
+FitsRoom _ = ⊤

@@ -3,18 +3,19 @@ ghost use Rattle.std.specs.Prelude.{◌++◌, codes};
 ghost use Rattle.rule_text.specs.PrintedRules.{offset_text};
 ghost use Rattle.ca_text.specs.Reports.{line};
 ghost use Rattle.ca_text.specs.Lines.{map_lines, rule_text};
-ghost use Rattle.ca_text.specs.Rooms.{IsAppended};
+ghost use Rattle.ca_text.specs.Rooms.{AppendsAtMost, IsAppended};
 
 use crate::output::Output;
 use crate::report::write_rule;
 use ca_questions::Inverse;
-use inverse_table::InverseMap;
+use inverse_table::LentMap;
 use std::alloc::AllocError;
 use word_image::Rule;
 
 /// Appends the four lines of an inverse map: its window, its offset, its letters, and the map as a rule.
 pub fn write_inverse(output: &mut Output, inverse: &Inverse) -> Result<(), AllocError>
-    ensures { IsAppended result output.old output.new (map_lines inverse.now.n inverse.now.c inverse.now.map inverse.now.rule) }
+    ensures appended { IsAppended result output.old output.new (map_lines inverse.now.n inverse.now.c inverse.now.map inverse.now.rule) }
+    ensures few { AppendsAtMost 66200 result output.old output.new }
 {
     output.push_line_with_numbers("window ", inverse.n, inverse.c)?;
     write_offset(output, &inverse.map)?;
@@ -23,8 +24,9 @@ pub fn write_inverse(output: &mut Output, inverse: &Inverse) -> Result<(), Alloc
 }
 
 /// Appends the line with the offset of an inverse map.
-fn write_offset(output: &mut Output, map: &InverseMap) -> Result<(), AllocError>
-    ensures { IsAppended result output.old output.new (line (codes "offset " ++ offset_text map.now.offset)) }
+fn write_offset(output: &mut Output, map: &LentMap) -> Result<(), AllocError>
+    ensures appended { IsAppended result output.old output.new (line (codes "offset " ++ offset_text map.now.offset)) }
+    ensures few { AppendsAtMost 50 result output.old output.new }
 {
     output.push(b"offset ")?;
     output.push_offset(i64::from(map.offset()))?;
@@ -33,7 +35,8 @@ fn write_offset(output: &mut Output, map: &InverseMap) -> Result<(), AllocError>
 
 /// Appends the line with the inverse map as a rule, or `rule none` if the map breaks a limit of rules.
 fn write_map_rule(output: &mut Output, rule: &Option<Rule>) -> Result<(), AllocError>
-    ensures { IsAppended result output.old output.new (line (codes "rule " ++ rule_text rule.now)) }
+    ensures appended { IsAppended result output.old output.new (line (codes "rule " ++ rule_text rule.now)) }
+    ensures few { AppendsAtMost 410 result output.old output.new }
 {
     match rule {
         Some(rule) => write_rule(output, rule),

@@ -4,15 +4,16 @@ ghost use Rattle.std.specs.Fmt.{decimal};
 ghost use Rattle.image_minimal.specs.ImageLanguages as languages;
 ghost use Rattle.ca_questions.specs.Values.{automaton_of, pair_of};
 ghost use Rattle.ca_text.specs.Lines.{after_class, automaton_lines, class_line, dead_line};
-ghost use Rattle.ca_text.specs.Rooms.{IsAppended};
+ghost use Rattle.ca_text.specs.Rooms.{AppendsAtMost, IsAppended};
 ghost use Rattle.ca_text.specs.Texts.{erased_line, same_line};
 ghost use Rattle.ca_questions.specs.Writable.{HasDigits, HasRows, HavePairDigits};
 
 use crate::decimals::write_u32;
 use crate::output::Output;
-use ca_questions::{Automaton, Pair};
+use ca_questions::Automaton;
+use short_words::{LentWord, ShortPair};
 use std::alloc::AllocError;
-use word_image::{MOST_STATES, Word};
+use word_image::MOST_STATES;
 
 /// The greatest number of bytes for one class in a line: five digits, since its number is below 65,536, and a blank or
 /// the end of the line.
@@ -88,9 +89,10 @@ fn write_short(class: u16, bytes: &mut [u8], end: usize) -> usize
 }
 
 /// Appends the line with a word that is an orphan of only one of two rules, or `same yes` if there is no such word.
-pub fn write_same(output: &mut Output, word: &Option<Word>) -> Result<(), AllocError>
+pub fn write_same(output: &mut Output, word: &Option<LentWord>) -> Result<(), AllocError>
     requires { HasDigits word.now }
-    ensures { IsAppended result output.old output.new (same_line word.now) }
+    ensures appended { IsAppended result output.old output.new (same_line word.now) }
+    ensures few { AppendsAtMost 131100 result output.old output.new }
 {
     match word {
         None => output.push_line("same yes"),
@@ -99,9 +101,10 @@ pub fn write_same(output: &mut Output, word: &Option<Word>) -> Result<(), AllocE
 }
 
 /// Appends the line with an erasable pair, or `erase none` if there is none.
-pub fn write_erased(output: &mut Output, pair: &Option<Pair>) -> Result<(), AllocError>
+pub fn write_erased(output: &mut Output, pair: &Option<ShortPair>) -> Result<(), AllocError>
     requires { HavePairDigits (pair_of pair.now) }
-    ensures { IsAppended result output.old output.new (erased_line (pair_of pair.now)) }
+    ensures appended { IsAppended result output.old output.new (erased_line (pair_of pair.now)) }
+    ensures few { AppendsAtMost 2100 result output.old output.new }
 {
     match pair {
         None => output.push_line("erase none"),

@@ -15,7 +15,7 @@ use tail_config::Tail;
 use word_image::{Rule, digit};
 
 /// The number of bytes for which an output has room when it is made. The longest report has fewer.
-pub const MOST_TEXT: usize = 80_000;
+pub const MOST_TEXT: usize = 150_000;
 
 /// The bytes of a text. In contracts it is the list of these bytes.
 ///
@@ -69,7 +69,8 @@ impl Output {
     /// Appends the digits of a word.
     pub fn push_word(&mut self, word: &[u8]) -> Result<(), AllocError>
         requires { IsWord 16 word.now }
-        ensures { IsAppended result self.old self.new (word_text word.now) }
+        ensures appended { IsAppended result self.old self.new (word_text word.now) }
+        ensures few { AppendsAtMost (length word.now) result self.old self.new }
     {
         self.bytes.reserve(word.len())?;
         write_digits(&mut self.bytes, word);
@@ -129,7 +130,8 @@ impl Output {
 
     /// Appends the text of a configuration.
     pub fn push_tail(&mut self, config: &Tail) -> Result<(), AllocError>
-        ensures { IsAppended result self.old self.new (tail.printed config.now.config) }
+        ensures appended { IsAppended result self.old self.new (tail.printed config.now.config) }
+        ensures few { AppendsAtMost 3074 result self.old self.new }
     {
         self.push_parts(config.left(), config.middle(), config.right())
     }
@@ -139,7 +141,8 @@ impl Output {
         requires left { IsWord 16 left.now }
         requires middle { IsWord 16 middle.now }
         requires right { IsWord 16 right.now }
-        ensures { IsAppended result self.old self.new (word_text left.now ++ codes "|" ++ word_text middle.now ++ codes "|" ++ word_text right.now) }
+        ensures appended { IsAppended result self.old self.new (word_text left.now ++ codes "|" ++ word_text middle.now ++ codes "|" ++ word_text right.now) }
+        ensures few { AppendsAtMost (length left.now + length middle.now + length right.now + 2) result self.old self.new }
     {
         self.push_word(left)?;
         self.push(b"|")?;
@@ -168,7 +171,8 @@ impl Output {
 
     /// Appends this text and two numbers, with a blank between them.
     pub fn push_numbers(&mut self, text: &str, n: u16, c: u16) -> Result<(), AllocError>
-        ensures { IsAppended result self.old self.new (text.now ++ decimal n ++ codes " " ++ decimal c) }
+        ensures appended { IsAppended result self.old self.new (text.now ++ decimal n ++ codes " " ++ decimal c) }
+        ensures few { AppendsAtMost (80 + length text.now) result self.old self.new }
     {
         self.push(text.as_bytes())?;
         self.push_number_then(u128::from(n), b" ")?;
@@ -177,7 +181,8 @@ impl Output {
 
     /// Appends a line with this text and two numbers, with a blank between them.
     pub fn push_line_with_numbers(&mut self, text: &str, n: u16, c: u16) -> Result<(), AllocError>
-        ensures { IsAppended result self.old self.new (line (text.now ++ decimal n ++ codes " " ++ decimal c)) }
+        ensures appended { IsAppended result self.old self.new (line (text.now ++ decimal n ++ codes " " ++ decimal c)) }
+        ensures few { AppendsAtMost (81 + length text.now) result self.old self.new }
     {
         self.push_numbers(text, n, c)?;
         self.push(b"\n")
@@ -186,7 +191,8 @@ impl Output {
     /// Appends a line with this text and the digits of a word.
     pub fn push_line_with_word(&mut self, text: &str, word: &[u8]) -> Result<(), AllocError>
         requires { IsWord 16 word.now }
-        ensures { IsAppended result self.old self.new (line (text.now ++ word_text word.now)) }
+        ensures appended { IsAppended result self.old self.new (line (text.now ++ word_text word.now)) }
+        ensures few { AppendsAtMost (1 + length text.now + length word.now) result self.old self.new }
     {
         self.push(text.as_bytes())?;
         self.push_word(word)?;
@@ -197,7 +203,8 @@ impl Output {
     pub fn push_line_with_words(&mut self, text: &str, x: &[u8], y: &[u8]) -> Result<(), AllocError>
         requires first { IsWord 16 x.now }
         requires second { IsWord 16 y.now }
-        ensures { IsAppended result self.old self.new (line (text.now ++ word_text x.now ++ codes " " ++ word_text y.now)) }
+        ensures appended { IsAppended result self.old self.new (line (text.now ++ word_text x.now ++ codes " " ++ word_text y.now)) }
+        ensures few { AppendsAtMost (2 + length text.now + length x.now + length y.now) result self.old self.new }
     {
         self.push(text.as_bytes())?;
         self.push_word(x)?;

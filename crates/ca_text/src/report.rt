@@ -1,41 +1,45 @@
 //! The lines of a report, for example `surjective no orphan 01010` and `open no`.
-ghost use Rattle.std.specs.Prelude.{◌++◌, codes, if◌then◌else◌};
+ghost use Rattle.std.specs.Prelude.{◌+◌, ◌*◌, ◌++◌, length, codes, if◌then◌else◌};
 ghost use Rattle.std.specs.List.{flat_map};
 ghost use Rattle.tail_config.specs.TailTexts as tail;
 ghost use Rattle.rule_text.specs.PrintedRules.{number_found, printed_rule, offset_text};
-ghost use Rattle.cert_values.specs.Parts.{injective_of, side_of, sum_of};
-ghost use Rattle.certificate_laws.specs.ReportValues.{evidence_of};
+ghost use Rattle.cert_values.specs.Parts.{side_of};
+ghost use Rattle.rule_verdicts.specs.Reports.{evidence_of, injective_of, sum_of};
 ghost use Rattle.ca_text.specs.Reports.{line, number_line, surjective_line, injective_line, side_line, conserving_line, report_lines};
 ghost use Rattle.ca_text.specs.Rooms.{AppendsAtMost, IsAppended};
 ghost use Rattle.ca_questions.specs.Findings.{Finding};
 ghost use Rattle.ca_questions.specs.Writable.{HasDigits, HasTwinDigits, HasRingDigits, IsWritable};
 
 use crate::output::Output;
-use cert_conditions::Report;
-use cert_values::{InjectivePart, SidePart, SumPart};
+use cert_values::SidePart;
+use flux_conserve::Keeping;
 use rule_text::number;
+use rule_verdicts::{Injectivity, Report};
+use short_words::LentWord;
 use std::alloc::AllocError;
 use tail_config::Tail;
-use word_image::{Rule, Word};
+use word_image::Rule;
 
 /// Appends the eight lines of a report: the rule, its number, and its six verdicts with their evidence.
 pub fn write_report(output: &mut Output, report: &Report) -> Result<(), AllocError>
     requires { IsWritable (Finding.Report (evidence_of report.now)) }
-    ensures { IsAppended result output.old output.new (report_lines (evidence_of report.now)) }
+    ensures appended { IsAppended result output.old output.new (report_lines (evidence_of report.now)) }
+    ensures few { AppendsAtMost 149000 result output.old output.new }
 {
     write_first_lines(output, report)?;
     write_side(output, "right", &report.right)?;
     write_side(output, "left", &report.left)?;
     write_open(output, report.is_open())?;
-    write_conserving(output, &report.conserving)
+    write_conserving(output, &report.rule, &report.conserving)
 }
 
 /// Appends the four lines with the rule, its number, and whether it is surjective and injective.
 fn write_first_lines(output: &mut Output, report: &Report) -> Result<(), AllocError>
     requires orphan { HasDigits report.now.orphan }
     requires twins { HasTwinDigits (injective_of report.now.injective) }
-    ensures { IsAppended result output.old output.new (line (codes "rule " ++ printed_rule report.now.rule)
+    ensures appended { IsAppended result output.old output.new (line (codes "rule " ++ printed_rule report.now.rule)
         ++ number_line (number_found report.now.rule) ++ surjective_line report.now.orphan ++ injective_line (injective_of report.now.injective)) }
+    ensures few { AppendsAtMost 134600 result output.old output.new }
 {
     write_rule(output, &report.rule)?;
     write_number(output, number(&report.rule))?;
@@ -45,7 +49,8 @@ fn write_first_lines(output: &mut Output, report: &Report) -> Result<(), AllocEr
 
 /// Appends the line with the text of the rule, for example `rule 2:3:-1:t01110110`.
 pub fn write_rule(output: &mut Output, rule: &Rule) -> Result<(), AllocError>
-    ensures { IsAppended result output.old output.new (line (codes "rule " ++ printed_rule rule.now)) }
+    ensures appended { IsAppended result output.old output.new (line (codes "rule " ++ printed_rule rule.now)) }
+    ensures few { AppendsAtMost 410 result output.old output.new }
 {
     output.push(b"rule ")?;
     output.push_rule(rule)?;
@@ -64,9 +69,10 @@ pub fn write_number(output: &mut Output, number: Option<u128>) -> Result<(), All
 }
 
 /// Appends the line that says whether the rule is surjective, with the orphan if it isn't.
-pub fn write_surjective(output: &mut Output, orphan: &Option<Word>) -> Result<(), AllocError>
+pub fn write_surjective(output: &mut Output, orphan: &Option<LentWord>) -> Result<(), AllocError>
     requires { HasDigits orphan.now }
-    ensures { IsAppended result output.old output.new (surjective_line orphan.now) }
+    ensures appended { IsAppended result output.old output.new (surjective_line orphan.now) }
+    ensures few { AppendsAtMost 131100 result output.old output.new }
 {
     match orphan {
         None => output.push_line("surjective yes"),
@@ -75,24 +81,28 @@ pub fn write_surjective(output: &mut Output, orphan: &Option<Word>) -> Result<()
 }
 
 /// Appends the line that says whether the rule is injective, with a window if it is, and with twins if it isn't.
-fn write_injective(output: &mut Output, found: &InjectivePart) -> Result<(), AllocError>
+fn write_injective(output: &mut Output, found: &Injectivity) -> Result<(), AllocError>
     requires { HasTwinDigits (injective_of found.now) }
-    ensures { IsAppended result output.old output.new (injective_line (injective_of found.now)) }
+    ensures appended { IsAppended result output.old output.new (injective_line (injective_of found.now)) }
+    ensures few { AppendsAtMost 2200 result output.old output.new }
 {
     match found {
-        InjectivePart::Window { n, c } => {
+        Injectivity::Window { n, c } => {
             output.push_line_with_numbers("injective yes window ", *n, *c)
         }
-        InjectivePart::Twins { x, y } => {
-            output.push_line_with_words("injective no twins ", x.as_slice(), y.as_slice())
-        }
+        Injectivity::Twins(pair) => output.push_line_with_words(
+            "injective no twins ",
+            pair.x.as_slice(),
+            pair.y.as_slice(),
+        ),
     }
 }
 
 /// Appends the line that says whether the rule closes on a side, with a look-ahead if it does, and with a split if it
 /// doesn't. `name` is the word for the side.
 fn write_side(output: &mut Output, name: &str, found: &SidePart) -> Result<(), AllocError>
-    ensures { IsAppended result output.old output.new (side_line name.now (side_of found.now)) }
+    ensures appended { IsAppended result output.old output.new (side_line name.now (side_of found.now)) }
+    ensures few { AppendsAtMost (6200 + length name.now) result output.old output.new }
 {
     match found {
         SidePart::Ahead(n) => {
@@ -105,7 +115,8 @@ fn write_side(output: &mut Output, name: &str, found: &SidePart) -> Result<(), A
 
 /// Appends the line of a rule that doesn't close on a side, with its split. `name` is the word for the side.
 fn write_split(output: &mut Output, name: &str, x: &Tail, y: &Tail) -> Result<(), AllocError>
-    ensures { IsAppended result output.old output.new (line (name.now ++ codes " no split " ++ tail.printed x.now.config ++ codes " " ++ tail.printed y.now.config)) }
+    ensures appended { IsAppended result output.old output.new (line (name.now ++ codes " no split " ++ tail.printed x.now.config ++ codes " " ++ tail.printed y.now.config)) }
+    ensures few { AppendsAtMost (6200 + length name.now) result output.old output.new }
 {
     output.push(name.as_bytes())?;
     output.push(b" no split ")?;
@@ -117,25 +128,28 @@ fn write_split(output: &mut Output, name: &str, x: &Tail, y: &Tail) -> Result<()
 
 /// Appends the line that says whether the rule is open. `both` says whether it closes on both sides.
 fn write_open(output: &mut Output, both: bool) -> Result<(), AllocError>
-    ensures { IsAppended result output.old output.new (line (if both then codes "open yes" else codes "open no")) }
+    ensures appended { IsAppended result output.old output.new (line (if both then codes "open yes" else codes "open no")) }
+    ensures few { AppendsAtMost 20 result output.old output.new }
 {
     output.push_line(if both { "open yes" } else { "open no" })
 }
 
-/// Appends the line that says whether the rule is conserving, with a flux if it is, and with a ring if it isn't.
-fn write_conserving(output: &mut Output, found: &SumPart) -> Result<(), AllocError>
-    requires { HasRingDigits (sum_of found.now) }
-    ensures { IsAppended result output.old output.new (conserving_line (sum_of found.now)) }
+/// Appends the line that says whether this rule is conserving, with a flux if it is, and with a ring if it isn't.
+fn write_conserving(output: &mut Output, rule: &Rule, found: &Keeping) -> Result<(), AllocError>
+    requires { HasRingDigits (sum_of rule.now found.now) }
+    ensures appended { IsAppended result output.old output.new (conserving_line (sum_of rule.now found.now)) }
+    ensures few { AppendsAtMost 700 result output.old output.new }
 {
     match found {
-        SumPart::Flux(row) => write_flux(output, row.as_slice()),
-        SumPart::Ring(ring) => output.push_line_with_word("conserving no ring ", ring.as_slice()),
+        Keeping::Flux(flows) => write_flux(output, &flows[..usize::from(rule.nodes())]),
+        Keeping::Ring(ring) => output.push_line_with_word("conserving no ring ", ring.letters()),
     }
 }
 
 /// Appends the line of a conserving rule, with the numbers of its flux.
 fn write_flux(output: &mut Output, flows: &[i32]) -> Result<(), AllocError>
-    ensures { IsAppended result output.old output.new (line (codes "conserving yes flux" ++ flat_map (λ z. codes " " ++ offset_text z) flows.now)) }
+    ensures appended { IsAppended result output.old output.new (line (codes "conserving yes flux" ++ flat_map (λ z. codes " " ++ offset_text z) flows.now)) }
+    ensures few { AppendsAtMost (20 + 41 * length flows.now) result output.old output.new }
 {
     output.push(b"conserving yes flux")?;
     write_flows(output, flows)?;
@@ -144,7 +158,8 @@ fn write_flux(output: &mut Output, flows: &[i32]) -> Result<(), AllocError>
 
 /// Appends the numbers of a flux, with a blank before each of them.
 fn write_flows(output: &mut Output, flows: &[i32]) -> Result<(), AllocError>
-    ensures { IsAppended result output.old output.new (flat_map (λ z. codes " " ++ offset_text z) flows.now) }
+    ensures appended { IsAppended result output.old output.new (flat_map (λ z. codes " " ++ offset_text z) flows.now) }
+    ensures few { AppendsAtMost (41 * length flows.now) result output.old output.new }
 {
     for flow in flows {
         write_flow(output, flow)?;
@@ -154,7 +169,8 @@ fn write_flows(output: &mut Output, flows: &[i32]) -> Result<(), AllocError>
 
 /// Appends a blank and a number of a flux.
 fn write_flow(output: &mut Output, flow: &i32) -> Result<(), AllocError>
-    ensures { IsAppended result output.old output.new (codes " " ++ offset_text flow.now) }
+    ensures appended { IsAppended result output.old output.new (codes " " ++ offset_text flow.now) }
+    ensures few { AppendsAtMost 41 result output.old output.new }
 {
     output.push(b" ")?;
     output.push_offset(i64::from(*flow))

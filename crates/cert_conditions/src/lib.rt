@@ -55,13 +55,11 @@
 mod condition;
 mod refusal;
 mod refusal_parts;
-mod report;
 mod theorems;
 mod verdicts;
 
 pub use condition::Condition;
 pub use refusal::{Refusal, SplitCause, TwinCause};
 pub use refusal_parts::{RefusalNumbers, RefusalParts};
-pub use report::Report;
 pub use theorems::{accepted_is_true, later_versions_ask_no_more, one_answer};
 pub use verdicts::Verdicts;

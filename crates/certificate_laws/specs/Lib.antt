@@ -1,3 +1,2 @@
 pub mod LeastEvidence
-pub mod ReportValues
 pub mod WrittenCertificates

@@ -1,12 +1,12 @@
 -- The order of splits by the numbers of their letter pairs, and where no split at a state comes before the least one so far.
-use Rattle.std.proofs.Common.{◌≡◌, ◌≢◌, ℕ, ◌+◌, ◌/◌, ◌%◌, ◌<◌, ◌≤◌, List, [], ◌∷◌, length, map, Option, Some, None, Bool, true≢false, refl, sym, ap, ap₂, ◌∙◌, subst, ⊎_elim, arith, nat_cmp, is_gt, ◌↔◌, IsTrue, MatchOption, SomeIff, Ordering, Less, Equal, Greater}
+use Rattle.std.proofs.Common.{◌≡◌, ◌≢◌, ℕ, ◌+◌, ◌/◌, ◌%◌, ◌<◌, ◌≤◌, List, [], ◌∷◌, length, map, Option, Some, None, Bool, true≢false, refl, sym, ap, ap₂, ◌∙◌, ⊎_elim, arith, nat_cmp, is_gt, ◌↔◌, IsTrue, MatchOption, Ordering, Less, Equal, Greater}
 use Rattle.std.proofs.lemmas.Cmp.{ranked, by_ranked}
 use Rattle.word_image.proofs.Common.{ordering_then, nat_cmp_is, slice_cmp, cases_lt, length-map, LocalRule, marked, pair_cmp}
 use Rattle.search_laws.proofs.Common.{PairWalk, IsLeastWalkTo, uncode}
 use Rattle.tail_config.proofs.Common.{splits_cmp}
 use Rattle.tail_laws.proofs.Common.{IsLeastSplitAt, split_of, with_mark, splits_cmp-walks, no_earlier-least}
 use Rattle.closing_test.specs.declared.walks.Walks.{Walks}
-use Rattle.closing_test.specs.Walks.{middle_pairs, period_pairs, split_by, ComesBefore, IsMostAfter, IsNoneBefore, AreEarlier}
+use Rattle.closing_test.specs.Walks.{middle_pairs, period_pairs, split_by, ComesBefore, IsMostAfter, IsNoneBefore}
 
 -- numbers of letter pairs are compared as the pairs are
 pair_cmp-uncode : (c d : ℕ) → pair_cmp (uncode 16 c) (uncode 16 d) ≡ nat_cmp c d
@@ -36,20 +36,20 @@ then_nested _ _ c d = refl
 pub splits_cmp-numbers : (x y : Walks)
     → splits_cmp (split_by x) (split_by y)
     ≡ ordering_then (ordering_then (ordering_then
-    (nat_cmp (length x.middle.items + length x.period.items) (length y.middle.items + length y.period.items))
-    (nat_cmp (length x.middle.items) (length y.middle.items)))
-    (slice_cmp nat_cmp x.middle.items y.middle.items))
-    (slice_cmp nat_cmp x.period.items y.period.items)
+    (nat_cmp (length x.middle + length x.period) (length y.middle + length y.period))
+    (nat_cmp (length x.middle) (length y.middle)))
+    (slice_cmp nat_cmp x.middle y.middle))
+    (slice_cmp nat_cmp x.period y.period)
 splits_cmp-numbers x y =
     let long : (u : List ℕ) → length (map (uncode 16) u) ≡ length u = λ u. length-map u (uncode 16) in
-    let letters : Ordering = nat_cmp (length x.middle.items + length x.period.items) (length y.middle.items + length y.period.items) in
-    let lengths : Ordering = nat_cmp (length x.middle.items) (length y.middle.items) in
-    let middles : Ordering = slice_cmp nat_cmp x.middle.items y.middle.items in
-    let periods : Ordering = slice_cmp nat_cmp x.period.items y.period.items in
+    let letters : Ordering = nat_cmp (length x.middle + length x.period) (length y.middle + length y.period) in
+    let lengths : Ordering = nat_cmp (length x.middle) (length y.middle) in
+    let middles : Ordering = slice_cmp nat_cmp x.middle y.middle in
+    let periods : Ordering = slice_cmp nat_cmp x.period y.period in
     splits_cmp-walks (middle_pairs x) (period_pairs x) (middle_pairs y) (period_pairs y)
-    ∙ ap₂ ordering_then (ap₂ nat_cmp (ap₂ (λ a b. a + b) (long x.middle.items) (long x.period.items)) (ap₂ (λ a b. a + b) (long y.middle.items) (long y.period.items)))
-    (ap₂ ordering_then (ap₂ nat_cmp (long x.middle.items) (long y.middle.items))
-    (ap₂ ordering_then (slice_cmp-uncode x.middle.items y.middle.items) (slice_cmp-uncode x.period.items y.period.items)))
+    ∙ ap₂ ordering_then (ap₂ nat_cmp (ap₂ (λ a b. a + b) (long x.middle) (long x.period)) (ap₂ (λ a b. a + b) (long y.middle) (long y.period)))
+    (ap₂ ordering_then (ap₂ nat_cmp (long x.middle) (long y.middle))
+    (ap₂ ordering_then (slice_cmp-uncode x.middle y.middle) (slice_cmp-uncode x.period y.period)))
     ∙ then_nested letters lengths middles periods
 
 -- an order is `Greater` exactly where the test says so
@@ -71,26 +71,26 @@ length-reach {u = u} {w} reach walk =
     (cases_lt (length w) (length u))
 
 -- a split of more letters comes later
-splits_cmp-more : (best : Walks) (w v : List (ℕ × ℕ)) → length best.middle.items + length best.period.items < length w + length v → splits_cmp (split_by best) (split_of w v) ≢ Greater
+splits_cmp-more : (best : Walks) (w v : List (ℕ × ℕ)) → length best.middle + length best.period < length w + length v → splits_cmp (split_by best) (split_of w v) ≢ Greater
 splits_cmp-more best w v more greater =
     let m : List (ℕ × ℕ) = middle_pairs best in
     let p : List (ℕ × ℕ) = period_pairs best in
     let letters : nat_cmp (length m + length p) (length w + length v) ≡ Less =
-    sym (nat_cmp_is (length m + length p) (length w + length v) Less (omega (arith, more, length-map best.middle.items (uncode 16), length-map best.period.items (uncode 16)))) in
+    sym (nat_cmp_is (length m + length p) (length w + length v) Less (omega (arith, more, length-map best.middle (uncode 16), length-map best.period (uncode 16)))) in
     let less : splits_cmp (split_by best) (split_of w v) ≡ Less =
     splits_cmp-walks m p w v
     ∙ ap (λ o. ordering_then o (ordering_then (nat_cmp (length m) (length w)) (ordering_then (slice_cmp pair_cmp m w) (slice_cmp pair_cmp p v)))) letters in
     true≢false (sym (ap is_gt greater) ∙ ap is_gt less)
 
 -- a split of as many letters with a longer middle comes later
-splits_cmp-middle : (best : Walks) (w v : List (ℕ × ℕ)) → length best.middle.items + length best.period.items ≡ length w + length v → length best.middle.items < length w → splits_cmp (split_by best) (split_of w v) ≢ Greater
+splits_cmp-middle : (best : Walks) (w v : List (ℕ × ℕ)) → length best.middle + length best.period ≡ length w + length v → length best.middle < length w → splits_cmp (split_by best) (split_of w v) ≢ Greater
 splits_cmp-middle best w v same longer greater =
     let m : List (ℕ × ℕ) = middle_pairs best in
     let p : List (ℕ × ℕ) = period_pairs best in
     let rest : Ordering = ordering_then (slice_cmp pair_cmp m w) (slice_cmp pair_cmp p v) in
     let letters : nat_cmp (length m + length p) (length w + length v) ≡ Equal =
-    sym (nat_cmp_is (length m + length p) (length w + length v) Equal (omega (arith, same, length-map best.middle.items (uncode 16), length-map best.period.items (uncode 16)))) in
-    let middles : nat_cmp (length m) (length w) ≡ Less = sym (nat_cmp_is (length m) (length w) Less (omega (arith, longer, length-map best.middle.items (uncode 16)))) in
+    sym (nat_cmp_is (length m + length p) (length w + length v) Equal (omega (arith, same, length-map best.middle (uncode 16), length-map best.period (uncode 16)))) in
+    let middles : nat_cmp (length m) (length w) ≡ Less = sym (nat_cmp_is (length m) (length w) Less (omega (arith, longer, length-map best.middle (uncode 16)))) in
     let less : splits_cmp (split_by best) (split_of w v) ≡ Less = splits_cmp-walks m p w v ∙ ap₂ (λ o q. ordering_then o (ordering_then q rest)) letters middles in
     true≢false (sym (ap is_gt greater) ∙ ap is_gt less)
 
@@ -107,12 +107,6 @@ IsNoneBefore-long {most = most} (Some best) is reach short all w v at before =
     (cases_lt most (length v))
 
 -- where the least split at a state doesn't come before the best one, no split there does
-IsNoneBefore-least : {r : LocalRule} {t : ℕ} (best : Option Walks) (found : Walks) → IsLeastSplitAt r t (middle_pairs found) (period_pairs found) → ¬ ComesBefore (split_by found) best → IsNoneBefore r t best
-IsNoneBefore-least None found here later w v at before = later tt
-IsNoneBefore-least (Some best) found here later w v at before = no_earlier-least here (middle_pairs best) (period_pairs best) later at before
-
--- the least split at a state, kept exactly where it comes before the best one, is an earlier one, or no split there is
-pub kept_if_before : {r : LocalRule} {t : ℕ} (best result : Option Walks) (found : Walks) → IsLeastSplitAt r t (middle_pairs found) (period_pairs found)
-    → SomeIff result (ComesBefore (split_by found) best) found → MatchOption result (IsNoneBefore r t best) (AreEarlier r t best)
-kept_if_before best None found here later = IsNoneBefore-least best found here later
-kept_if_before {r} {t} best (Some walks) found here kept = subst (AreEarlier r t best) (sym kept.1) (record { least = here; before = kept.0 })
+pub IsNoneBefore-least : {r : LocalRule} {t : ℕ} {w v : List (ℕ × ℕ)} (best : Option Walks) → IsLeastSplitAt r t w v → ¬ ComesBefore (split_of w v) best → IsNoneBefore r t best
+IsNoneBefore-least None here later w v at before = later tt
+IsNoneBefore-least (Some best) here later w v at before = no_earlier-least here (middle_pairs best) (period_pairs best) later at before

@@ -3,33 +3,22 @@
 -- first walk spells the two middles, and the second walk spells the two right periods. The number a * 16 + b stands for
 -- the pair of letters (a, b). The walks lead from state to state, and a state is a pair of nodes with a mark. The best
 -- walks are the walks of the least split that has been found so far.
-use Rattle.std.specs.Prelude.{◌≡◌, ℕ, ◌+◌, ◌/◌, ◌%◌, ◌<◌, ◌≤◌, ◌⊎◌, length, List, [], ◌∷◌, map, Option, Some, None}
+use Rattle.std.specs.Prelude.{◌≡◌, ℕ, ◌+◌, ◌<◌, ◌≤◌, ◌⊎◌, length, List, map, Option, Some, None}
 use Rattle.std.specs.declared.cmp.Ordering.TheVariants.{Greater}
 use Rattle.word_image.specs.LocalRules.{LocalRule, most_states}
 use Rattle.search_laws.specs.PairWalks.{uncode}
 use Rattle.tail_config.specs.Tails.{TailConfig}
 use Rattle.tail_config.specs.Splits.{splits_cmp}
 use Rattle.tail_laws.specs.SplitWalks.{IsNoSplitBelow, IsLeastSplitAt, IsLeastBelow, IsSplitAt, split_of}
-use Rattle.closing_test.specs.declared.split.Letter.{Letter}
-use Rattle.closing_test.specs.declared.split.Letter.TheVariants.{First, Second}
 use Rattle.closing_test.specs.declared.walks.Walks.{Walks}
 
 -- the pairs of letters of the walk of the middles
 abbrev pub middle_pairs : Walks → List (ℕ × ℕ)
-middle_pairs w = map (uncode most_states) w.middle.items
+middle_pairs w = map (uncode most_states) w.middle
 
 -- the pairs of letters of the walk of the right periods
 abbrev pub period_pairs : Walks → List (ℕ × ℕ)
-period_pairs w = map (uncode most_states) w.period.items
-
--- the first or the second letter of the pair of letters with this number
-abbrev pub letter_of : Letter → ℕ → ℕ
-letter_of First step = step / most_states
-letter_of Second step = step % most_states
-
--- the first or the second configuration of a split, as `letter` says: zeros to the left, then the letters of the first walk as the middle, then the letters of the second walk as the right period
-abbrev pub tail_by : Letter → Walks → TailConfig
-tail_by letter w = record { left = 0 ∷ []; middle = map (letter_of letter) w.middle.items; right = map (letter_of letter) w.period.items }
+period_pairs w = map (uncode most_states) w.period
 
 -- the split of two walks: the configuration of their first letters and the configuration of their second letters
 abbrev pub split_by : Walks → TailConfig × TailConfig
@@ -43,7 +32,7 @@ ComesBefore split (Some best) = splits_cmp (split_by best) split ≡ Greater
 -- each split with a middle of at least n letters and a right period of more than `most` letters is greater than the best split: it has more letters, or as many letters and a longer middle
 abbrev pub IsMostAfter : Walks → ℕ → ℕ → Type 0
 IsMostAfter best n most = (w v : ℕ) → n ≤ w → most < v
-    → (length best.middle.items + length best.period.items < w + v) ⊎ ((length best.middle.items + length best.period.items ≡ w + v) × (length best.middle.items < w))
+    → (length best.middle + length best.period < w + v) ⊎ ((length best.middle + length best.period ≡ w + v) × (length best.middle < w))
 
 -- no split whose right periods begin at the state t is less than the best split; if there is no best split, no split has right periods that begin at t
 abbrev pub IsNoneBefore : LocalRule → ℕ → Option Walks → Type 0

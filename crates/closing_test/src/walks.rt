@@ -2,8 +2,7 @@
 //! The states of the marked graph are the pairs of nodes, without a mark and with it. A step on two different letters
 //! sets the mark.
 
-ghost use Rattle.std.specs.Prelude.{◌≡◌, ◌*◌, ◌+◌, ◌<◌, ◌≤◌, ◌↔◌, IfOk, IsTrue, MatchOption, length};
-ghost use Rattle.std.specs.Option.{SomeIff};
+ghost use Rattle.std.specs.Prelude.{◌≡◌, ◌*◌, ◌+◌, ◌<◌, ◌≤◌, ◌↔◌, IsTrue, MatchOption, length};
 ghost use Rattle.std.specs.declared.cmp.Ordering.TheVariants.{Greater};
 ghost use Rattle.least_walk.specs.Queues.{most_steps};
 ghost use Rattle.word_image.specs.Graphs.{pair_count};
@@ -11,7 +10,7 @@ ghost use Rattle.tail_config.specs.Splits.{splits_cmp};
 
 use least_walk::{MOST_STEPS, WalkTree, Walker};
 use pair_graph::Pairs;
-use std::alloc::{AllocError, Global};
+use short_words::ShortWord;
 
 /// Two walks, which form two Tails with the same image. Each step is a pair of letters (a, b), stored as a * 16 + b.
 /// The first Tail has the letters a, and the second Tail the letters b. Both have the left period 0, the letters of the
@@ -19,11 +18,11 @@ use std::alloc::{AllocError, Global};
 #[derive(Debug, Drop)]
 pub struct Walks {
     /// The walk from the pair of the node of zeros with itself, without a mark, to a state of the marked graph.
-    pub middle: Vec<u8>,
+    pub middle: ShortWord,
     /// The walk from the state at which `middle` ends back to the pair of nodes of this state, with the mark.
-    pub period: Vec<u8>,
-    ghost short_middle: { length middle.items ≤ most_steps },
-    ghost short_period: { length period.items ≤ most_steps },
+    pub period: ShortWord,
+    ghost short_middle: { length middle ≤ most_steps },
+    ghost short_period: { length period ≤ most_steps },
 }
 
 impl Walks {
@@ -31,7 +30,7 @@ impl Walks {
 
     /// Returns the number of steps of both walks together.
     fn letters(&self) -> usize
-        ensures { result ≡ length self.now.middle.items + length self.now.period.items }
+        ensures { result ≡ length self.now.middle + length self.now.period }
     {
         self.middle.len() + self.period.len()
     }
@@ -41,57 +40,55 @@ impl Walks {
         ensures { IsTrue result ↔ (splits_cmp (split_by self.now) (split_by other.now) ≡ Greater) }
     {
         let (middle, other_middle) = (self.middle.as_slice(), other.middle.as_slice());
+        let (period, other_period) = (self.period.as_slice(), other.period.as_slice());
         self.letters()
             .cmp(&other.letters())
             .then(middle.len().cmp(&other_middle.len()))
             .then(middle.cmp(other_middle))
-            .then(self.period.cmp(&other.period))
+            .then(period.cmp(other_period))
             .is_gt()
     }
 
     /// Returns the walks of the least normal split that has the marked pair `state` between its two walks. Returns None
     /// if there is no such split, or if it isn't less than `best`, the least split so far. `middles` has the least
-    /// walks from the pair of the node of zeros with itself. The only error is lack of memory.
+    /// walks from the pair of the node of zeros with itself.
     pub fn earlier(
-        alloc: Global,
         pairs: &Pairs,
         walker: &mut Walker,
         middles: &WalkTree,
         state: u16,
         best: &Option<Walks>,
-    ) -> Result<Option<Walks>, AllocError>
-        requires middles { middles.now ≡ record { rule = pairs.now; start = 0; most = most_steps } }
+    ) -> Option<Walks>
+        requires middles { middles.now.source ≡ record { rule = pairs.now; start = 0; most = most_steps } }
         requires state { state < 2 * pair_count pairs.now }
-        ensures { IfOk result (λ found. MatchOption found (IsNoneBefore pairs.now state best.now) (AreEarlier pairs.now state best.now)) }
+        ensures { MatchOption result (IsNoneBefore pairs.now state best.now) (AreEarlier pairs.now state best.now) }
     {
-        let Some(steps) = middles.steps_to(state) else {
-            return Ok(None);
-        };
+        let steps = middles.steps_to(state)?;
         let most = Walks::most_steps(best, steps);
         if most == 0 {
-            return Ok(None);
+            return None;
         }
         let count = pairs.count();
-        let Some(period) = walker.walk_within(pairs, state, state % count + count, most) else {
-            return Ok(None);
-        };
-        let Some(middle) = middles.walk_to(alloc, state)? else {
-            return Ok(None);
-        };
+        let period = walker.walk_within(pairs, state, state % count + count, most)?;
+        let middle = middles.walk_to(state)?;
         let found = Walks {
             middle,
-            period: period.to_vec(alloc)?,
+            period: ShortWord::of(period),
         };
-        Ok(found.if_before(best))
+        if found.is_before(best) {
+            Some(found)
+        } else {
+            None
+        }
     }
 
-    /// Returns these walks if their split is less than `best`, the least split so far, and None otherwise.
-    fn if_before(self, best: &Option<Walks>) -> Option<Walks>
-        ensures { SomeIff result (ComesBefore (split_by self) best.now) self }
+    /// Returns whether the split of these walks is less than `best`, the least split so far.
+    fn is_before(&self, best: &Option<Walks>) -> bool
+        ensures { IsTrue result ↔ ComesBefore (split_by self.now) best.now }
     {
         match best {
-            Some(best) if !best.is_after(&self) => None,
-            _ => Some(self),
+            Some(best) => best.is_after(self),
+            None => true,
         }
     }
 

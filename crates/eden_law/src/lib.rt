@@ -34,10 +34,11 @@
 //! 1 for five windows of eight, so it isn't surjective. Rule 232, the majority of three cells, gives 1 for four
 //! windows, but six words of four letters have the image 0 0, and there are four nodes.
 //!
-//! If there are N = k^(m - 1) nodes, [`erasable`] takes time **O(N^3·k)** in operations on rows and O(N^2) memory: N
-//! searches in a graph of 2·N^2 states. Later searches end early. For a surjective rule it searches nothing.
-//! [`reached`] takes time **O(N^2·k^2)** and memory for N^2 pairs. [`is_surjective`] takes time **O(N^3·k)** at most,
-//! and no memory. The tests of a table take time **O(N·k^2)** at most.
+//! If there are N = k^(m - 1) nodes, [`least_erasable`] takes time **O(N^3·k)** in operations on rows: N searches in a
+//! graph of 2·N^2 states. Later searches end early. For a surjective rule it searches nothing. It needs no memory, and
+//! [`erasable`] copies the two words that it finds into memory of their own. [`reached`] takes time **O(N^2·k^2)** and
+//! memory for N^2 pairs. [`is_surjective`] takes time **O(N^3·k)** at most, and no memory. The tests of a table take
+//! time **O(N·k^2)** at most.
 #![tactic(auto)]
 
 mod erased;
@@ -46,7 +47,7 @@ mod reached_pairs;
 mod surjective;
 mod zeros;
 
-pub use erased::{Erased, erasable, erasable_over};
+pub use erased::{Erased, erasable, least_erasable};
 pub use even::is_even;
 pub use reached_pairs::reached;
 pub use surjective::is_surjective;

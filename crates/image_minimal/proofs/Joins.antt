@@ -1,5 +1,6 @@
 -- Ways from parent to parent: what halving them keeps, and what joining two roots does.
-use Rattle.image_minimal.proofs.Common.{◌≡◌, ◌≢◌, ℕ, ◌<◌, ◌≤◌, ◌⊎◌, List, length, set, slice_index, Bool, true, false, true≢false, refl, sym, ap, ◌∙◌, subst, arith, ⊎_elim, length-set, sum_by-set, AreColours, IsFalling, IsOnWay, IsJoin}
+use Rattle.image_minimal.proofs.Common.{◌≡◌, ◌≢◌, ℕ, ◌<◌, ◌≤◌, ◌⊎◌, List, length, set, slice_index, Bool, true, false, true≢false, refl, sym, ap, ◌∙◌, subst, arith, ⊎_elim, length-set, AreColours, IsFalling, IsOnWay, IsJoin}
+use Rattle.image_minimal.proofs.laws.ClassCounts.{class_count-lower, class_count-root}
 use Rattle.image_minimal.proofs.laws.Entries.{each-set}
 
 -- a way of no step
@@ -20,6 +21,7 @@ IsOnWay-next {old} {new} {number} {at} way inside no_root =
     let room : at < length new = omega (arith, h.long, way.within) in
     let below : parent ≤ at = h.falling at room in
     let lower : above ≤ parent = h.falling parent (omega arith) in
+    let less : above < at = omega (arith, lower, below, (λ (same : parent ≡ at). no_root same)) in
     let one : (f : ℕ → Bool) → AreColours old f → f above ≡ f at = λ f of. h.colours f of parent (omega arith) ∙ h.colours f of at room in
     record {
       halved = record {
@@ -28,7 +30,7 @@ IsOnWay-next {old} {new} {number} {at} way inside no_root =
         colours = λ f of. each-set (λ x up. f up ≡ f x) new at 0 above room (λ x l _. h.colours f of x l) (one f of);
         roots = λ x l root. each-set (λ y up. slice_index old y ≡ y → up ≡ y) new at 0 above room (λ y k _. h.roots y (omega (arith, h.long)))
             (λ root. absurd (no_root (h.roots at (omega (arith, h.long)) root))) x (omega (arith, h.long, length-set new at above)) root;
-        no_more = omega (arith, sum_by-set (λ x. x) new at above 0 room, h.no_more);
+        no_more = omega (arith, class_count-lower new at above room less, h.no_more);
       };
       within = omega (arith, way.within);
       one = λ f of. way.one f of ∙ sym (one f of);
@@ -61,5 +63,5 @@ IsJoin-roots {old} {middle} {new} {a = a} {b = b} first second inside also root_
           let one = first.one f of in
           let two = second.one f mid in
           each-set (λ i up. f up ≡ f i) new high 0 low high_is.0 (λ i l _. second.halved.colours f mid i l) (⊎_elim (λ (p, q). cc) (λ (p, q). cc) which);
-      fewer = omega (arith, sum_by-set (λ i. i) new high low 0 high_is.0, high_is.1, first.halved.no_more, second.halved.no_more);
+      fewer = omega (arith, class_count-root new high low high_is.0 high_is.1 less, first.halved.no_more, second.halved.no_more);
     }

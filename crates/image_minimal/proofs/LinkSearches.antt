@@ -1,5 +1,6 @@
 -- A search through linked sets of two rules, one edge more at a time.
 use Rattle.image_minimal.proofs.Common.{◌≡◌, ◌≢◌, ℕ, ◌+◌, ◌*◌, ◌^◌, ◌<◌, ◌⊎◌, inl, inr, List, [], ◌∷◌, ◌++◌, length, slice_index, Some, Bool, refl, sym, ap, ap₂, ◌∙◌, subst, subst₂, arith, ⊎_elim, not, nat_eq, true, false, true≢false, slice_get, eq-eqb, ne_eqb, pow-lt, beq, range_with_len, cases_eq, slice_get_within, length_push, map-append, get_or-range_with_len, length-range_with_len, LocalRule, IsRule, node_count, full_set, IsStep, node_count_pos, only_place, slice_get-append, slice_get-push, slice_get-push_cases, IsFilled, filled-later, IsFilled-start, IsFilled-there, IsFilled-new, IsSetOf-unique, mapped_at, Link, link_place, LinkStep, HaveOneColour, HasChain, set_count, IsLinkSearch, IsJoin}
+use Rattle.image_minimal.proofs.laws.ClassCounts.{class_count-le}
 
 -- a search in which the edges on the first letters have been followed from the link at a place, along the steps of its sets
 pub record IsLinkSearchAt (r q : LocalRule) (links : List Link) (parents : List ℕ) (place : ℕ) (firsts seconds : List ℕ) (letter : ℕ) : Type 0 where
@@ -67,7 +68,7 @@ IsLinkSearch-start {r} {q} rule other y first second =
       even = λ i x at. subst (λ (z : Link). nat_eq z.first 0 ≡ nat_eq z.second 0) (only_place y x i at).1 (full-some rule first ∙ sym (full-some other second));
       long = length-range_with_len 0 count;
       joined = λ f agree x l. ap f (get_or-range_with_len 0 count x 0 (omega (arith, length-range_with_len 0 count)) ∙ omega arith);
-      few = omega arith;
+      few = omega (arith, class_count-le (range_with_len 0 count), length-range_with_len 0 count);
     }
 
 -- of two sets exactly one is empty

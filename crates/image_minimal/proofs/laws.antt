@@ -1,4 +1,5 @@
 pub mod Entries
+pub mod ClassCounts
 pub mod Unread
 pub mod Closures
 pub mod ClosureTables

@@ -4,12 +4,11 @@
 -- second rule has the number n + s. Links join two sets if the sets have the same colour under every colouring that
 -- gives the two sets of each link the same colour.
 use Rattle.std.specs.Prelude.{◌≡◌, ℕ, ◌+◌, ◌≤◌, ◌^◌, List, length, map, slice_get, Some, Bool, nat_eq}
-use Rattle.std.specs.List.{range_with_len}
 use Rattle.search_laws.specs.SearchQueues.{Place, TreeSpells, IsFilled, filled}
 use Rattle.word_image.specs.LocalRules.{LocalRule, node_count}
 use Rattle.word_image.specs.Graphs.{full_set}
 use Rattle.word_image.specs.Edges.{IsStep}
-use Rattle.image_minimal.specs.Joins.{AreColours, total}
+use Rattle.image_minimal.specs.Joins.{AreColours, class_count}
 use Rattle.image_minimal.specs.declared.links.Link.{Link}
 
 -- a link as a place of a breadth-first search through pairs of sets
@@ -35,9 +34,9 @@ HasChain r links pair e = (f : ℕ → Bool) → HaveOneColour (2 ^ node_count r
 abbrev pub set_count : LocalRule → LocalRule → ℕ
 set_count r q = 2 ^ node_count r + 2 ^ node_count q
 
--- a bound on the number of links: each set has a parent, at first itself, and each new link makes the sum of all parents less
-abbrev pub most_links : LocalRule → LocalRule → ℕ
-most_links r q = total (range_with_len 0 (set_count r q)) + 1
+-- the greatest number of links of two rules: each link but the first joins two classes of sets, and there are at most 131,072 sets
+abbrev pub most_links : ℕ
+most_links = 131073
 
 -- A breadth-first search through pairs of a set of r and a set of q. It starts with the two sets of all nodes and has followed its first e edges. A pair makes no link if earlier links join its two sets. In each link both sets are empty or neither is. `parents` joins the sets of both rules into classes, as the links do.
 pub record IsLinkSearch (r q : LocalRule) (links : List Link) (parents : List ℕ) (e : ℕ) : Type 0 where
@@ -45,7 +44,7 @@ pub record IsLinkSearch (r q : LocalRule) (links : List Link) (parents : List �
   pub even : (i : ℕ) (x : Link) → slice_get links i ≡ Some x → nat_eq x.first 0 ≡ nat_eq x.second 0
   pub long : length parents ≡ set_count r q
   pub joined : (f : ℕ → Bool) → HaveOneColour (2 ^ node_count r) r.states links e f → AreColours parents f
-  pub few : length links + total parents ≤ most_links r q
+  pub few : length links + class_count parents ≤ set_count r q + 1
 
 -- the word has the letters of the steps from the first link to the link at this place
 abbrev pub SpellsLink : List Link → ℕ → List ℕ → Type 0

@@ -30,7 +30,8 @@
 //!
 //! For N nodes, u unread sets and c classes `least` takes time **O(u k N + 2^N N + c k)** and space **O(2^N)**. It
 //! doesn't store the c k classes that follow each class on each letter: `Minimal::rows` computes all of them in time
-//! **O(c k)**. For n sets under both rules together `separate` takes time **O(n k log n)** and space **O(n)**.
+//! **O(c k)**. For n sets under both rules together `separate` takes time **O(n k log n)**, in a [`SeparationRoom`] of
+//! 2.8 MB.
 #![tactic(auto)]
 
 mod classes;
@@ -42,4 +43,4 @@ mod separation;
 mod subsets;
 
 pub use classes::{Minimal, least, one_least_automaton};
-pub use separation::{SepFault, separate};
+pub use separation::{SepFault, SeparationRoom, separate};

@@ -1,6 +1,9 @@
 //! The type `Link`: a pair of sets that the same word reaches under two rules. A word reaches the set of its last
 //! nodes, which are the last m - 1 letters of its preimages.
 
+/// The greatest number of links of two rules.
+pub const MOST_LINKS: usize = 131_073;
+
 /// A set of nodes of the first rule and a set of nodes of the second rule, which the same word reaches.
 #[derive(Clone, Copy, Debug)]
 pub struct Link {

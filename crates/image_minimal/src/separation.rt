@@ -1,15 +1,16 @@
 //! The function `separate`, which finds the least word that is an orphan of exactly one of two rules. An orphan is a
-//! word without a preimage.
+//! word without a preimage. The type `SeparationRoom` does the same in memory that is allocated once.
 
-ghost use Rattle.std.specs.Prelude.{◌≡◌, ◌≢◌, ◌↔◌, ◌∷◌, [], ◌++◌, ◌<◌, List, ℕ, length, slice_get, Some, IfOk, IsErrOf, MatchOption};
+ghost use Rattle.std.specs.Prelude.{◌≡◌, ◌≢◌, ◌↔◌, ◌∷◌, [], ◌++◌, ◌<◌, ◌≤◌, List, ℕ, length, slice_get, vec_capacity, Some, IfOk, IfSome, IsErrOf, IsTrue, MatchOption, false};
 ghost use Rattle.image_minimal.specs.ImageLanguages.{HaveSameOrphans, Separates};
-ghost use Rattle.image_minimal.specs.Links.{SpellsLink};
+ghost use Rattle.image_minimal.specs.Links.{SpellsLink, most_links};
 ghost use Rattle.image_minimal.specs.declared.links.Link.{Link};
 
 use crate::joined::Joined;
-use crate::links::Link;
+use crate::links::{Link, MOST_LINKS};
 use crate::subsets::Subsets;
 use std::alloc::{AllocError, Global};
+use std::marker::Model;
 use word_image::{Rule, Word};
 
 /// Why two rules aren't compared.
@@ -34,7 +35,7 @@ impl From<AllocError> for SepFault {
 /// Returns the least word that is an orphan of exactly one of the two rules, or None if the rules have the same
 /// orphans.
 ///
-/// If n sets of nodes are reached under both rules together, this takes time **O(n k log n)** and space **O(n)**.
+/// If n sets of nodes are reached under both rules together, this takes time **O(n k log n)**, in a room of 2.8 MB.
 pub fn separate(alloc: Global, first: &Rule, second: &Rule) -> Result<Option<Word>, SepFault>
     ensures states { IsErrOf result SepFault.States ↔ (first.now.states ≢ second.now.states) }
     ensures word { IfOk result (λ word. MatchOption word (HaveSameOrphans first.now second.now) (Separates first.now second.now)) }
@@ -42,27 +43,105 @@ pub fn separate(alloc: Global, first: &Rule, second: &Rule) -> Result<Option<Wor
     if first.k() != second.k() {
         return Err(SepFault::States);
     }
-    let one = Subsets::of(alloc, first)?;
-    let other = Subsets::of(alloc, second)?;
-    Ok(search(alloc, &one, &other)?)
+    let mut room = SeparationRoom::new(alloc)?;
+    match room.separate(first, second) {
+        Some(word) => Ok(Some(Word::of(Vec::from_slice(alloc, word)?))),
+        None => Ok(None),
+    }
 }
 
-/// Searches for the least word that is an orphan of exactly one rule. Both rules have the same number of states. A link
-/// is a pair of sets of last nodes that the same word has under the two rules. The search follows links breadth first,
-/// with letters ascending, until a letter leads to two sets of which exactly one is empty.
-fn search(alloc: Global, first: &Subsets, second: &Subsets) -> Result<Option<Word>, AllocError>
-    requires { first.now.states ≡ second.now.states }
-    ensures { IfOk result (λ word. MatchOption word (HaveSameOrphans first.now second.now) (Separates first.now second.now)) }
+/// The memory of comparisons of two rules, which is allocated once: 2.8 MB. Contracts say nothing about its contents,
+/// because no result depends on an earlier comparison.
+#[derive(Debug, Drop)]
+pub struct SeparationRoom {
+    // The sets of nodes of the first rule, and the steps between them.
+    first: Subsets,
+    // The sets of nodes of the second rule, and the steps between them.
+    second: Subsets,
+    // The sets of both rules, in the classes into which the links of the last search join them.
+    joined: Joined,
+    // The links of the last search, with capacity for `MOST_LINKS` links.
+    links: Vec<Link>,
+    // The word that a search has found, with capacity for as many letters.
+    word: Vec<u8>,
+}
+
+impl Model for SeparationRoom {
+    ghost use Rattle.std.specs.Prelude.{⊤, ◌≤◌, vec_capacity};
+    ghost use Rattle.image_minimal.specs.Links.{most_links};
+
+    ghost Value = { ⊤ };
+
+    ghost view = { λ r. tt };
+
+    ghost invariant = { λ r. (most_links ≤ vec_capacity r.links) × (most_links ≤ vec_capacity r.word) };
+}
+
+impl SeparationRoom {
+    /// Allocates the memory of all comparisons. The only error is lack of memory.
+    pub fn new(alloc: Global) -> Result<SeparationRoom, AllocError> {
+        Ok(SeparationRoom {
+            first: Subsets::new(alloc)?,
+            second: Subsets::new(alloc)?,
+            joined: Joined::new(alloc)?,
+            links: Vec::with_capacity(alloc, MOST_LINKS)?,
+            word: Vec::with_capacity(alloc, MOST_LINKS)?,
+        })
+    }
+
+    /// Returns the least word that is an orphan of exactly one of the two rules, or None if the rules have the same
+    /// orphans. Both rules have the same number of states. The word has at most 131,073 letters.
+    pub fn separate(&mut self, first: &Rule, second: &Rule) -> Option<&[u8]>
+        requires { first.now.states ≡ second.now.states }
+        ensures word { MatchOption result (HaveSameOrphans first.now second.now) (λ word. Separates first.now second.now word.now) }
+        ensures short { IfSome result (λ word. length word.now ≤ most_links) }
+    {
+        self.first.set_rule(first);
+        self.second.set_rule(second);
+        let (one, other) = (&self.first, &self.second);
+        if search(
+            one,
+            other,
+            &mut self.joined,
+            &mut self.links,
+            &mut self.word,
+        ) {
+            Some(&self.word)
+        } else {
+            None
+        }
+    }
+}
+
+/// Searches for the least word that is an orphan of exactly one rule. Writes it into `word` and returns true, or
+/// returns false if the rules have the same orphans. Both rules have the same number of states. A link is a pair of
+/// sets of last nodes that the same word has under the two rules. The search follows links breadth first, with letters
+/// ascending, until a letter leads to two sets of which exactly one is empty.
+fn search(
+    first: &Subsets,
+    second: &Subsets,
+    joined: &mut Joined,
+    links: &mut Vec<Link>,
+    word: &mut Vec<u8>,
+) -> bool
+    requires states { first.now.states ≡ second.now.states }
+    requires links { most_links ≤ vec_capacity links.old }
+    requires word { most_links ≤ vec_capacity word.old }
+    ensures found { IsTrue result → Separates first.now second.now word.new.items }
+    ensures none { result ≡ false → HaveSameOrphans first.now second.now }
+    ensures short { IsTrue result → length word.new.items ≤ most_links }
+    ensures links { vec_capacity links.new ≡ vec_capacity links.old }
+    ensures word { vec_capacity word.new ≡ vec_capacity word.old }
 {
     let below = first.count();
-    let mut joined = Joined::new(alloc, below + second.count())?;
-    let mut links = Vec::new(alloc);
-    links.push(Link {
+    joined.reset(below + second.count());
+    links.clear();
+    links.push_reserved(Link {
         first: first.full(),
         second: second.full(),
         parent: 0,
         letter: 0,
-    })?;
+    });
     let mut place = 0;
     while place < links.len() {
         let link = links[place];
@@ -72,37 +151,41 @@ fn search(alloc: Global, first: &Subsets, second: &Subsets) -> Result<Option<Wor
             let s = firsts[letter as usize];
             let t = seconds[letter as usize];
             if (s == 0) != (t == 0) {
-                return Ok(Some(word_to(alloc, &links, place, letter)?));
+                write_word(links, place, letter, word);
+                return true;
             }
             // If earlier links already join the two sets, they aren't made a link.
             if joined.join(u32::from(s), below + u32::from(t)) {
-                links.push(Link {
+                links.push_reserved(Link {
                     first: s,
                     second: t,
                     parent: place,
                     letter,
-                })?;
+                });
             }
         }
         place += 1;
     }
-    Ok(None)
+    false
 }
 
-/// Returns the word that reaches the link at place `at`, followed by the letter `last`.
-fn word_to(alloc: Global, links: &[Link], at: usize, last: u8) -> Result<Word, AllocError>
+/// Writes the word that reaches the link at place `at`, followed by the letter `last`. It has at most as many letters
+/// as there are links.
+fn write_word(links: &[Link], at: usize, last: u8, word: &mut Vec<u8>)
     requires at { at < length links.now }
     requires earlier { (i : ℕ) (x : Link) → 0 < i → slice_get links.now i ≡ Some x → x.parent < i }
-    ensures { IfOk result (λ word. (w : List ℕ) → SpellsLink links.now at w → word ≡ w ++ last ∷ []) }
+    requires capacity { length links.now ≤ vec_capacity word.old }
+    ensures word { (w : List ℕ) → SpellsLink links.now at w → word.new.items ≡ w ++ last ∷ [] }
+    ensures short { length word.new.items ≤ length links.now }
+    ensures capacity { vec_capacity word.new ≡ vec_capacity word.old }
 {
-    let mut letters = Vec::new(alloc);
-    letters.push(last)?;
+    word.clear();
+    word.push_reserved(last);
     let mut place = at;
     while place > 0 {
         let link = links[place];
-        letters.push(link.letter)?;
+        word.push_reserved(link.letter);
         place = link.parent;
     }
-    letters.reverse();
-    Ok(Word::of(letters))
+    word.reverse();
 }

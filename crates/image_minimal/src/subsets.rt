@@ -1,8 +1,8 @@
 //! The type `Subsets`: the sets of nodes of a rule, and the steps between them. A step on a letter leads from a set to
 //! the ends of all edges that have this label and begin at a node of the set.
 
-ghost use Rattle.std.specs.Prelude.{◌≡◌, ◌^◌, ◌<◌, ℕ, slice_index, IfOk};
-ghost use Rattle.word_image.specs.LocalRules.{IsRule, node_count};
+ghost use Rattle.std.specs.Prelude.{◌≡◌, ◌^◌, ◌<◌, ◌≤◌, ℕ, slice_index, IfOk};
+ghost use Rattle.word_image.specs.LocalRules.{IsRule, node_count, most_sets};
 ghost use Rattle.word_image.specs.Graphs.{full_set};
 ghost use Rattle.word_image.specs.Edges.{IsStep};
 
@@ -33,6 +33,11 @@ impl Model for Subsets {
 }
 
 impl Subsets {
+    /// Allocates the memory of a subset automaton. It is the one of a rule that gives 0 for all windows.
+    pub fn new(alloc: Global) -> Result<Subsets, AllocError> {
+        Subsets::of(alloc, &Rule::from_fn(2, 2, 0, |_| 0))
+    }
+
     /// Makes the subset automaton of this rule.
     pub fn of(alloc: Global, rule: &Rule) -> Result<Subsets, AllocError>
         ensures { IfOk result (λ subsets. subsets ≡ rule.now) }
@@ -41,6 +46,14 @@ impl Subsets {
         let mut tables = StepTables::new(alloc)?;
         tables.fill(&graph);
         Ok(Subsets { graph, tables })
+    }
+
+    /// Makes this the subset automaton of another rule.
+    pub fn set_rule(&mut self, rule: &Rule)
+        ensures { self.new ≡ rule.now }
+    {
+        self.graph = Graph::of(rule);
+        self.tables.fill(&self.graph);
     }
 
     /// Returns the number of states k.
@@ -61,6 +74,7 @@ impl Subsets {
     /// Returns the number of sets of nodes, which is 2 to the power of the number of nodes.
     pub fn count(&self) -> u32
         ensures count { result ≡ 2 ^ node_count self.now }
+        ensures most { result ≤ most_sets }
         ensures rule { IsRule self.now }
     {
         1u32 << self.graph.nodes()

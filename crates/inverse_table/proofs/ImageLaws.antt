@@ -51,13 +51,17 @@ AreLonger-row {r} rule images values count node first h at is =
           (cases_lt word count);
     }
 
+-- how many words are one letter longer
+pub power-longer : (r : LocalRule) (n : ℕ) → r.states ^ (n + 1 + (r.width - 1)) ≡ r.states ^ (n + (r.width - 1)) * r.states
+power-longer r n = let next : n + 1 + (r.width - 1) ≡ suc (n + (r.width - 1)) = omega arith in ap (λ j. r.states ^ j) next ∙ pow-suc r.states (n + (r.width - 1))
+
 -- the values with one letter more are the images of the words that are one letter longer
 pub AreImageValues-longer : {r : LocalRule} → IsRule r → (n : ℕ) (images values : List ℕ)
     → AreLonger r images (length images) values → AreImageValues r n images → AreImageValues r (n + 1) values
 AreImageValues-longer {r} rule n images values longer before =
     let k : ℕ = r.states in
     let d : ℕ = r.width - 1 in
-    let power : k ^ (n + 1 + d) ≡ length images * k = let e : n + 1 + d ≡ suc (n + d) = omega arith in ap (λ j. k ^ j) e ∙ pow-suc k (n + d) ∙ ap (λ j. j * k) (sym before.long) in
+    let power : k ^ (n + 1 + d) ≡ length images * k = power-longer r n ∙ ap (λ j. j * k) (sym before.long) in
     record {
       long = longer.long ∙ sym power;
       each = λ y h e.

@@ -1,12 +1,12 @@
 -- From the letters that are read back from images to the inverse map, and what the map does.
-use Rattle.std.proofs.Common.{◌≡◌, ℕ, ◌+◌, ◌-◌, ◌/◌, ◌%◌, ◌^◌, ◌<◌, ◌≤◌, List, length, map, take, drop, slice_index, slice_range, ℤ, pos, neg_ℤ, ◌+ℤ◌, ◌-ℤ◌, refl, sym, ap, subst, ◌∙◌, arith, length-drop, length-take-le, get_or-take, get_or-drop}
+use Rattle.std.proofs.Common.{◌≡◌, ℕ, ◌+◌, ◌-◌, ◌/◌, ◌%◌, ◌^◌, ◌<◌, ◌≤◌, List, length, map, take, drop, slice_index, slice_range, ℤ, pos, ◌+ℤ◌, ◌-ℤ◌, refl, sym, ap, subst, ◌∙◌, arith, length-drop, length-take-le, get_or-take, get_or-drop}
 use Rattle.word_image.proofs.Common.{range_with_len, ints, fill_by_all, length-map-range_with_len, All-from_get_or, All-take, All-drop, LocalRule, IsRule, IsWord, value, word_of, local_map, image, IsPreimage, IsSurjective, IsDetermined, value-below, value-injective, length-word_of, IsWord-word_of, value-word_of, IsWord-image, length-image, get_or-image, image-drop, image-take, letter-value}
 use Rattle.tail_config.proofs.Common.{run, image_of, TailConfig, IsTail, cell, cells, image_cell, length-run, get_or-run, IsWord-run, image-run, cell-below, WindowMap, IsInverseMap, map_letter}
 use Rattle.tail_laws.proofs.Common.{IsInjective-determined}
 use Rattle.garden_laws.proofs.Preinjective.{IsSurjective-injective}
-use Rattle.inverse_table.specs.InverseMaps.{GivesBack, map_image}
+use Rattle.inverse_table.specs.InverseMaps.{AreMapLetters, GivesBack, map_image, map_over}
 use Rattle.inverse_table.specs.MapLimits.{IsWindowMap}
-use Rattle.inverse_table.specs.InverseFaults.{IsApartAt}
+use Rattle.inverse_table.specs.InverseFaults.{AreApartAt, IsApartAt}
 use Rattle.inverse_table.specs.ImageValues.{AreImageValues, AreReadBack, AreUndetermined, letter_by_unit}
 use Rattle.inverse_table.proofs.ImageLaws.{image-at}
 use Rattle.inverse_table.proofs.WordCounts.{length-most}
@@ -49,7 +49,7 @@ length-image-word_at : (r : LocalRule) (n v : ℕ) → length (image r (word_at 
 length-image-word_at r n v = length-image r (word_at r n v) ∙ ap (λ j. j - (r.width - 1)) (length-word_of r.states (n + (r.width - 1)) v) ∙ omega arith
 
 -- two values of words that are apart: the words show that the window isn't determined
-pub IsApartAt-apart : {r : LocalRule} {n c : ℕ} {letter : ℕ → ℕ} {images letters : List ℕ} → IsRule r → IsReadingBack r n c letter images letters → (u v : ℕ)
+IsApartAt-apart : {r : LocalRule} {n c : ℕ} {letter : ℕ → ℕ} {images letters : List ℕ} → IsRule r → IsReadingBack r n c letter images letters → (u v : ℕ)
     → AreUndetermined letter images u v → IsApartAt r n c (word_at r n u) (word_at r n v)
 IsApartAt-apart {r} {n} rule h u v apart =
     let first = letter-word_at h u apart.first in
@@ -66,6 +66,12 @@ IsApartAt-apart {r} {n} rule h u v apart =
       differ = λ same. apart.differ (first.1 ∙ same ∙ sym second.1);
     }
 
+-- the same two values, with their bounds
+pub AreApartAt-apart : {r : LocalRule} {n c : ℕ} {letter : ℕ → ℕ} {images letters : List ℕ} → IsRule r → IsReadingBack r n c letter images letters → (u v : ℕ)
+    → AreUndetermined letter images u v → AreApartAt r n c u v
+AreApartAt-apart rule h u v apart =
+    record { first = omega (arith, apart.first, h.values.long); second = omega (arith, apart.second, h.values.long); words = IsApartAt-apart rule h u v apart }
+
 -- where the letter of each word is read back, the letter at the image of a word is its letter c
 read_back : {r : LocalRule} {n c : ℕ} {letter : ℕ → ℕ} {images letters : List ℕ} → IsReadingBack r n c letter images letters → AreReadBack letter images (length images) letters
     → (x : List ℕ) → IsWord r.states x → length x ≡ n + (r.width - 1) → slice_index letters (value r.states (image r x)) ≡ slice_index x c
@@ -74,7 +80,7 @@ read_back {r} {images = images} {letters = letters} h all x word long =
     ap (slice_index letters) (sym (h.values.each x word long)) ∙ all (value r.states x) below ∙ h.reads x word long
 
 -- where the letter of each word is read back, the window is determined
-pub IsDetermined-read : {r : LocalRule} {n c : ℕ} {letter : ℕ → ℕ} {images letters : List ℕ} → IsReadingBack r n c letter images letters → AreReadBack letter images (length images) letters
+IsDetermined-read : {r : LocalRule} {n c : ℕ} {letter : ℕ → ℕ} {images letters : List ℕ} → IsReadingBack r n c letter images letters → AreReadBack letter images (length images) letters
     → IsDetermined r n c
 IsDetermined-read {r} {letters = letters} h all = record {
   some = h.some;
@@ -86,13 +92,9 @@ IsDetermined-read {r} {letters = letters} h all = record {
 IsSurjective-determined : {r : LocalRule} {n c : ℕ} → IsRule r → IsDetermined r n c → IsSurjective r
 IsSurjective-determined rule window = IsSurjective-injective rule (IsInjective-determined rule window)
 
--- the map of the letters that are read back
-abbrev pub map_of : LocalRule → ℕ → ℕ → List ℕ → WindowMap
-map_of r n c letters = record { states = r.states; width = n; offset = neg_ℤ r.offset -ℤ pos c; table = letters }
-
 -- the map of the letters that are read back is the inverse map
-pub IsInverseMap-read : {r : LocalRule} {n c : ℕ} {letter : ℕ → ℕ} {images letters : List ℕ} → IsRule r → IsReadingBack r n c letter images letters → AreReadBack letter images (length images) letters
-    → IsInverseMap r n c (map_of r n c letters)
+IsInverseMap-read : {r : LocalRule} {n c : ℕ} {letter : ℕ → ℕ} {images letters : List ℕ} → IsRule r → IsReadingBack r n c letter images letters → AreReadBack letter images (length images) letters
+    → IsInverseMap r n c (map_over r n c letters)
 IsInverseMap-read {r} {n} {c} {letter} {images} {letters} rule h all =
     let k : ℕ = r.states in
     record {
@@ -105,8 +107,8 @@ IsInverseMap-read {r} {n} {c} {letter} {images} {letters} rule h all =
     }
 
 -- the map that is read is one of the maps that there are
-pub IsWindowMap-read : {r : LocalRule} {n c : ℕ} {letter : ℕ → ℕ} {images letters : List ℕ} → IsRule r → IsReadingBack r n c letter images letters → AreReadBack letter images (length images) letters
-    → r.states ^ n ≤ 65536 → IsWindowMap (map_of r n c letters)
+IsWindowMap-read : {r : LocalRule} {n c : ℕ} {letter : ℕ → ℕ} {images letters : List ℕ} → IsRule r → IsReadingBack r n c letter images letters → AreReadBack letter images (length images) letters
+    → r.states ^ n ≤ 65536 → IsWindowMap (map_over r n c letters)
 IsWindowMap-read {r} {n} {c} {letters = letters} rule h all few =
     let shape = rule.shape in
     let most = length-most rule n few in
@@ -197,10 +199,18 @@ local_map-map_image {r} {n} {c} {g} rule window h x word long =
     ap (local_map r) (map_image-part rule some inside h long p) ∙ sym (get_or-image r z c (omega (arith, p.long))) ∙ ap (λ w. slice_index w c) p.maps
 
 -- what the map of a determined window does
-pub GivesBack-determined : {r : LocalRule} {n c : ℕ} {g : WindowMap} → IsRule r → IsDetermined r n c → IsInverseMap r n c g → GivesBack r n c g
+GivesBack-determined : {r : LocalRule} {n c : ℕ} {g : WindowMap} → IsRule r → IsDetermined r n c → IsInverseMap r n c g → GivesBack r n c g
 GivesBack-determined rule window h = record {
   cells = map_letter-cells rule window.inside window.some h;
   back = map_letter-image h;
   forth = local_map-map_image rule window h;
   onto = λ w word long. IsSurjective-determined rule window w word;
 }
+
+-- where the letter of each word is read back, these are the letters of the inverse map
+pub AreMapLetters-read : {r : LocalRule} {n c : ℕ} {letter : ℕ → ℕ} {images letters : List ℕ} → IsRule r → IsReadingBack r n c letter images letters → AreReadBack letter images (length images) letters
+    → r.states ^ n ≤ 65536 → AreMapLetters r n c letters
+AreMapLetters-read rule h all few =
+    let window = IsDetermined-read h all in
+    let map = IsInverseMap-read rule h all in
+    record { determined = window; map = map; gives_back = GivesBack-determined rule window map; limits = IsWindowMap-read rule h all few }

@@ -1,46 +1,68 @@
-//! The function `image_values`: the images of all words of one length. The value of a word is the base-k number whose
+//! The function `write_images`: the images of all words of one length. The value of a word is the base-k number whose
 //! digits are its letters.
-ghost use Rattle.std.specs.Prelude.{◌≡◌, ℕ, ◌+◌, ◌*◌, ◌^◌, ◌<◌, ◌≤◌, ◌++◌, All, length, map, slice_range, vec_len, vec_capacity, IfOk};
+ghost use Rattle.std.specs.Prelude.{◌≡◌, ℕ, ◌+◌, ◌*◌, ◌^◌, ◌<◌, ◌≤◌, ◌++◌, All, length, map, slice_range, vec_len, vec_capacity};
 ghost use Rattle.inverse_table.specs.MapLimits.{most_map_entries};
 ghost use Rattle.inverse_table.specs.ImageValues.{AreImageValues};
 
 use crate::cycles::next_row;
-use std::alloc::{AllocError, Global};
+use std::alloc::Global;
+use std::mem::{replace, swap};
 use word_image::Rule;
 
-/// Returns the value of the image of each word of n + m - 1 letters, in the order of the values of the words.
-pub(crate) fn image_values(alloc: Global, rule: &Rule, n: u16) -> Result<Vec<u16>, AllocError>
+/// The greatest number of words whose images are computed.
+pub(crate) const MOST_IMAGES: usize = 1_048_576;
+
+/// Fills `images` with the value of the image of each word of n + m - 1 letters, in the order of the values of the
+/// words. It also uses `other`, and what this list then has means nothing. It needs no memory: `alloc` only makes empty
+/// lists.
+pub(crate) fn write_images(
+    alloc: Global,
+    rule: &Rule,
+    n: u16,
+    images: &mut Vec<u16>,
+    other: &mut Vec<u16>,
+)
     requires fits { rule.now.states ^ n ≤ most_map_entries }
-    ensures { IfOk result (λ v. AreImageValues rule.now n v.items) }
+    requires room { MOST_IMAGES ≤ vec_capacity images.old }
+    requires other_room { MOST_IMAGES ≤ vec_capacity other.old }
+    ensures images { AreImageValues rule.now n images.new.items }
+    ensures room { MOST_IMAGES ≤ vec_capacity images.new }
+    ensures other_room { MOST_IMAGES ≤ vec_capacity other.new }
 {
-    let mut images = vec![in alloc; 0; usize::from(rule.nodes())]?;
+    images.clear();
+    images.resize(usize::from(rule.nodes()), 0).unwrap();
     for _ in 0..n {
-        images = longer(alloc, rule, &images)?;
+        write_longer(alloc, rule, images, other);
+        swap(images, other);
     }
-    Ok(images)
 }
 
-/// Returns the values of the images of all words that are one letter longer. `images` has the values of the images of
-/// all words of one length, in the order of these words. In this order the last m - 1 letters of the words repeat, and
-/// so do the rows of the table, which have the k labels of one node. The function isn't inlined, since otherwise the
-/// loop keeps more on the stack.
+/// Fills `values` with the values of the images of all words that are one letter longer. `images` has the values of the
+/// images of all words of one length, in the order of these words. In this order the last m - 1 letters of the words
+/// repeat, and so do the rows of the table, which have the k labels of one node.
+///
+/// The function isn't inlined, since otherwise the loop keeps more on the stack. For the same reason the list is taken
+/// out of `values` while it is filled.
 #[inline(never)]
-fn longer(alloc: Global, rule: &Rule, images: &[u16]) -> Result<Vec<u16>, AllocError>
+fn write_longer(alloc: Global, rule: &Rule, images: &[u16], values: &mut Vec<u16>)
     requires fits { All (λ image. image * rule.now.states + rule.now.states ≤ most_map_entries) images.now }
-    requires few { length images.now ≤ 1048576 }
-    ensures { (n : ℕ) → AreImageValues rule.now n images.now → IfOk result (λ v. AreImageValues rule.now (n + 1) v.items) }
+    requires few { length images.now * rule.now.states ≤ MOST_IMAGES }
+    requires room { MOST_IMAGES ≤ vec_capacity values.old }
+    ensures longer { (n : ℕ) → AreImageValues rule.now n images.now → AreImageValues rule.now (n + 1) values.new.items }
+    ensures room { MOST_IMAGES ≤ vec_capacity values.new }
 {
     let k = rule.k();
     let table = rule.table();
     let row = usize::from(k);
-    let mut values = Vec::with_capacity(alloc, images.len() * row)?;
+    let mut list = replace(values, Vec::new(alloc));
+    list.clear();
     let mut place = 0;
     for image in images {
         let first = *image * u16::from(k);
-        push_all(&mut values, first, row_at(table, place, row));
+        push_all(&mut list, first, row_at(table, place, row));
         place = next_row(place, row, table.len());
     }
-    Ok(values)
+    *values = list;
 }
 
 /// Returns the `row` letters of the table that begin at `place`.

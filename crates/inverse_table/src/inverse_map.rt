@@ -1,12 +1,14 @@
 //! The type `InverseMap`, and the function `as_rule`, which makes a rule of an inverse map.
-ghost use Rattle.std.specs.Prelude.{◌≡◌, ◌<◌, ◌^◌, ◌↔◌, slice_index, IfOk, IsOk};
+ghost use Rattle.std.specs.Prelude.{◌≡◌, ◌↔◌, IfOk, IsOk};
 ghost use Rattle.std.specs.Result.{result_err};
 ghost use Rattle.word_image.specs.LocalRules.{IsRule};
 ghost use Rattle.inverse_table.specs.InverseMaps.{map_rule};
 ghost use Rattle.inverse_table.specs.MapLimits.{IsWindowMap, rule_limit_fault};
 
+use crate::lent_map::LentMap;
+use std::alloc::{AllocError, Global};
 use std::marker::Model;
-use word_image::{Rule, RuleFault, check_shape};
+use word_image::{Rule, RuleFault};
 
 /// A map that computes a letter of a word from n letters of its image. It has a letter for each word of n letters, in
 /// the order of the values of these words.
@@ -34,17 +36,23 @@ impl Model for InverseMap {
 }
 
 impl InverseMap {
-    /// Makes the map for k letters that reads n letters, with this offset and these letters.
-    pub(crate) fn of(k: u8, n: u16, offset: i32, letters: Vec<u8>) -> Self
-        requires { IsWindowMap (record { states = k; width = n; offset = offset; table = letters.items }) }
-        ensures { result ≡ record { states = k; width = n; offset = offset; table = letters.items } }
+    /// Copies a map and its letters. The only error is lack of memory.
+    pub fn of(alloc: Global, map: &LentMap) -> Result<InverseMap, AllocError>
+        ensures { IfOk result (λ copy. copy ≡ map.now) }
     {
-        InverseMap {
-            k,
-            n,
-            offset,
-            letters,
-        }
+        Ok(InverseMap {
+            k: map.k(),
+            n: map.n(),
+            offset: map.offset(),
+            letters: map.table().to_vec(alloc)?,
+        })
+    }
+
+    /// Lends the map with its letters.
+    pub fn lent(&self) -> LentMap<'_>
+        ensures { result ≡ self.now }
+    {
+        LentMap::of(self.k, self.n, self.offset, &self.letters)
     }
 
     /// Returns the number of letters k, from 2 to 16.
@@ -91,20 +99,5 @@ pub fn as_rule(map: &InverseMap) -> Result<Rule, RuleFault>
     ensures fault { result_err result ≡ rule_limit_fault (map_rule map.now) }
     ensures accepted { IsOk result ↔ IsRule (map_rule map.now) }
 {
-    let m = map.n().max(2) as u8;
-    let o = map.offset() as i8;
-    check_shape(map.k(), m, o)?;
-    Ok(Rule::from_fn(map.k(), m, o, |window| letter_of(map, window)))
-}
-
-/// Returns the letter that the rule made by `as_rule` gives for a window. If the map reads one letter, the second cell
-/// is ignored.
-fn letter_of(map: &InverseMap, window: u16) -> u8
-    requires { window < map.now.states ^ (map_rule map.now).width }
-    ensures { result ≡ slice_index (map_rule map.now).table window }
-{
-    if map.n() == 1 {
-        return map.table()[usize::from(window / u16::from(map.k()))];
-    }
-    map.table()[usize::from(window)]
+    map.lent().as_rule()
 }

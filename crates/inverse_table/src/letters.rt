@@ -33,7 +33,9 @@ impl Place {
 
 /// Writes a letter for each image: the letter at this place of the words that have the image. If two words with the
 /// same image have different letters at this place, stops and returns two such words. The words are read in runs of
-/// `unit` words, which all have the same letter at this place.
+/// `unit` words, which all have the same letter at this place. The function isn't inlined, since otherwise its loop
+/// moves numbers between registers.
+#[inline(never)]
 pub(crate) fn read_letters(
     letters: &mut [u8],
     images: &[u16],

@@ -15,16 +15,21 @@
 //! A map with n up to 5 is a rule of width n if it keeps the limits of a rule. A map with n = 1 becomes a rule of
 //! width 2 that ignores its second cell. For rule 170 this rule has the table 0 0 1 1.
 //!
-//! [`table`] lists the images of all k^(n + m - 1) words, at most 2^20. It computes the image of each word from the
-//! image of the word without its last letter. It takes **O(k^(n + m - 1))** time and space. [`as_rule`] takes time
-//! **O(k^n)** and no memory.
+//! [`TableRoom::table`] lists the images of all k^(n + m - 1) words, at most 2^20. It computes the image of each word
+//! from the image of the word without its last letter. It takes **O(k^(n + m - 1))** time. A [`TableRoom`] has 4 MB of
+//! memory for these lists, and lends the letters of the map as a [`LentMap`]. [`table`] makes a room for one map, and
+//! copies the letters into an [`InverseMap`]. [`as_rule`] and [`LentMap::as_rule`] take time **O(k^n)** and no memory.
 #![tactic(auto)]
 
 mod cycles;
 mod image_values;
 mod inverse_map;
+mod lent_map;
 mod letters;
+mod table_room;
 mod tables;
 
 pub use inverse_map::{InverseMap, as_rule};
+pub use lent_map::LentMap;
+pub use table_room::{NoMap, TableRoom};
 pub use tables::{InvFault, table};

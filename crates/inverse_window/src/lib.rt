@@ -34,9 +34,9 @@
 //! least twins are the least of these walks over all pairs. Each search ends when its walk would be longer than the
 //! least walk so far. A least walk visits no state of the marked graph twice, so twins have at most 512 letters each.
 //!
-//! [`is_injective`] takes time **O(N)** in operations on rows of N bits, and [`window`] takes **O(m·N^2)**. Neither
-//! needs memory. [`twins`] takes time **O(N^4·k^2)**, for N^2 walks in a graph of 2·N^2 states, and memory for its
-//! words.
+//! [`is_injective`] takes time **O(N)** in operations on rows of N bits, and [`window`] takes **O(m·N^2)**.
+//! [`least_twins`] takes time **O(N^4·k^2)**, for N^2 walks in a graph of 2·N^2 states. None of them needs memory.
+//! [`twins`] copies the two words of the least twins into memory of their own.
 #![tactic(auto)]
 
 mod starts;
@@ -44,6 +44,6 @@ mod twin_pairs;
 mod verdicts;
 mod windows;
 
-pub use twin_pairs::{TwinPair, twins, twins_over};
+pub use twin_pairs::{TwinPair, least_twins, twins};
 pub use verdicts::is_injective;
 pub use windows::{WindowAt, window};

@@ -6,10 +6,10 @@ use Rattle.std.proofs.Math.Nat.{mul-le-mul_right}
 use Rattle.search_laws.proofs.Common.{TreeSpells, mapped_at, TreeSpells-some, PairWalk-leads, ArePairs-walk, pairs_cmp-codes, codes-uncode, code, Leads-walk, PairWalk, IsLeastWalkTo, uncode}
 use Rattle.search_laws.proofs.LeastFirst.{IsLeastTo-spelled, reached_all}
 use Rattle.least_walk.specs.declared.queue.Reached.{Reached}
-use Rattle.least_walk.specs.declared.queue.Arrival.{Arrival}
-use Rattle.least_walk.specs.declared.queue.Ends.{Ends}
+use Rattle.least_walk.specs.declared.breadth_first.Arrival.{Arrival}
+use Rattle.least_walk.specs.declared.breadth_first.Ends.{Ends}
 use Rattle.least_walk.specs.Queues.{places_of, place_of, SpellsBefore, IsWalking, IsEnded, IsArrival}
-use Rattle.least_walk.specs.Trees.{AreApart, IsWalkTree}
+use Rattle.least_walk.specs.Trees.{AreApart, IsWalkTree, pairs_of}
 use Rattle.least_walk.proofs.Walking.{place_at, reached_at, length-walking-le, length-walked, no_walk-edge, queued-below, all_followed}
 
 -- marked pairs are below 512
@@ -78,7 +78,7 @@ no_walk-absent {queue = queue} tree absent (ab ∷ w) short walk =
 
 -- with a bound of 512 what a walk leads to stands among them
 pub Contains-walk : {r : LocalRule} {start most t : ℕ} {queue : List Reached} {places : List ℕ} {w : List (ℕ × ℕ)} → IsWalkTree r start most queue places → 512 ≤ most → PairWalk (marked r) r.states start w t
-    → Contains (map (λ x. x.pair) queue) t
+    → Contains (pairs_of queue) t
 Contains-walk {t = t} {queue = queue} {w = w} tree large walk =
     let walking = tree.ended.walking in
     let reached = reached_all walking.filled (all_followed large tree.ended) (map (code 16) w) t (Leads-walk 16 walking.rule.shape.most_states walk) in
@@ -89,7 +89,7 @@ Contains-walk {t = t} {queue = queue} {w = w} tree large walk =
     )
 
 -- each pair that a walk tree has reached is a marked pair
-pub All-pairs : {r : LocalRule} {start most : ℕ} {queue : List Reached} {places : List ℕ} → IsWalkTree r start most queue places → All (λ t. t < 2 * pair_count r) (map (λ x. x.pair) queue)
+pub All-pairs : {r : LocalRule} {start most : ℕ} {queue : List Reached} {places : List ℕ} → IsWalkTree r start most queue places → All (λ t. t < 2 * pair_count r) (pairs_of queue)
 All-pairs {r} {queue = queue} tree =
     All-map (λ t. t < 2 * pair_count r) (λ (x : Reached). x.pair) queue
     (λ i d l. queued-below tree.ended.walking i (slice_index_or queue i d) (slice_get-get_or queue i d l))

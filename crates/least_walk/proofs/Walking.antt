@@ -8,7 +8,7 @@ use Rattle.search_laws.proofs.LeastSteps.{IsLeastStepsTo, IsLeastStepsTo-edge, n
 use Rattle.search_laws.proofs.QueueDepths.{AreDepths, depths-ascending, no_word_within}
 use Rattle.pair_laws.proofs.Common.{marked-below}
 use Rattle.least_walk.specs.declared.queue.Reached.{Reached}
-use Rattle.least_walk.specs.declared.queue.Ends.{Ends}
+use Rattle.least_walk.specs.declared.breadth_first.Ends.{Ends}
 use Rattle.least_walk.specs.Marks.{HasPair}
 use Rattle.least_walk.specs.Queues.{MarkedStep, step_count, place_of, places_of, HasDepths, IsWalking, IsWalkSearch, IsEnded, IsArrival, IsNearStart, IsOldBut, IsBackward, SpellsBefore}
 

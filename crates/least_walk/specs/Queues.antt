@@ -10,7 +10,7 @@ use Rattle.word_image.specs.MarkedPairs.{marked, most_marked_pairs}
 use Rattle.search_laws.specs.SearchQueues.{Place, TreeSpells, IsQueue, NoEdgeBefore}
 use Rattle.search_laws.specs.PairWalks.{CodeStep}
 use Rattle.least_walk.specs.declared.queue.Reached.{Reached}
-use Rattle.least_walk.specs.declared.queue.Ends.{Ends}
+use Rattle.least_walk.specs.declared.breadth_first.Ends.{Ends}
 use Rattle.least_walk.specs.Marks.{HasPair}
 
 -- a step from a marked pair to a marked pair on two letters a and b, which are given by the number a * 16 + b

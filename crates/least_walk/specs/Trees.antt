@@ -1,7 +1,7 @@
 -- The least walks from one marked pair, the start, to all marked pairs. A marked pair is a pair of nodes with a mark,
 -- which is 1 if the letters that led to the pair differed somewhere, and 0 if not. The queue has the marked pairs in
 -- the order in which a breadth-first search reaches them.
-use Rattle.std.specs.Prelude.{◌≡◌, ℕ, ◌<◌, ◌≤◌, List, length, slice_get, slice_index, Some, None}
+use Rattle.std.specs.Prelude.{◌≡◌, ℕ, ◌<◌, ◌≤◌, List, length, map, slice_get, slice_index, Some, None}
 use Rattle.word_image.specs.MarkedPairs.{most_marked_pairs}
 use Rattle.word_image.specs.LocalRules.{LocalRule}
 use Rattle.least_walk.specs.declared.queue.Reached.{Reached}
@@ -12,6 +12,15 @@ pub record WalkSource : Type 0 where
   pub rule : LocalRule
   pub start : ℕ
   pub most : ℕ
+
+-- the least of these walks to each marked pair, and the numbers of the marked pairs that they reach, in the order of the walks
+pub record LeastWalks : Type 0 where
+  pub source : WalkSource
+  pub reached : List ℕ
+
+-- the numbers of the marked pairs in the queue
+abbrev pub pairs_of : List Reached → List ℕ
+pairs_of = map (λ x. x.pair)
 
 -- the queue has each marked pair at most once
 pub record AreApart (queue : List Reached) : Type 0 where

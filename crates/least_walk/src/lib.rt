@@ -22,11 +22,12 @@
 //! away. The marked pairs that have been reached are also stored as bits in rows. For each marked pair and first
 //! letter, one look at two rows tells whether some second letter leads to a new marked pair.
 //!
-//! There are 2 N * N marked pairs, at most 512, and a least walk has at most that many steps. A search takes time
-//! **O(k·N²)** in operations on rows. [`Walker::new`] allocates the memory of all its searches. A [`WalkTree`] needs
-//! O(N²) memory, and it takes time proportional to the length of a walk to read it.
+//! There are 2 N * N marked pairs, at most 512, and a least walk has at most that many steps. So the queue and the steps
+//! of a walk are arrays, and a search needs no memory. It takes time **O(k·N²)** in operations on rows. To read a walk
+//! from a [`WalkTree`] takes time proportional to the length of the walk.
 #![tactic(auto)]
 
+mod breadth_first;
 mod letter_pairs;
 mod marks;
 mod queue;

@@ -3,7 +3,7 @@
 //! A marked pair is a pair of nodes, with or without a mark. A step on two letters follows one edge from each node, and
 //! the two edges have equal labels. The step sets the mark if the letters differ.
 
-ghost use Rattle.std.specs.Prelude.{All, Contains, ◌≡◌, ℕ, ◌*◌, ◌<◌, ◌≤◌, List, length, map, Some, slice_get, IfOk, IfSome, IfNone, MatchOption};
+ghost use Rattle.std.specs.Prelude.{All, Contains, ◌≡◌, ℕ, ◌*◌, ◌<◌, ◌≤◌, List, length, map, Some, slice_get, slice_index, IfSome, IfNone, MatchOption};
 ghost use Rattle.least_walk.specs.Queues.{most_steps};
 ghost use Rattle.word_image.specs.LocalRules.{most_states};
 ghost use Rattle.word_image.specs.Graphs.{pair_count};
@@ -12,16 +12,17 @@ ghost use Rattle.search_laws.specs.PairWalks.{PairWalk, IsLeastWalkTo, uncode};
 ghost use Rattle.least_walk.specs.declared.queue.Reached.{Reached};
 ghost use Rattle.least_walk.specs.Trees.{AreApart, IsPairIndex};
 
-use crate::queue::{Ends, MOST_MARKED_PAIRS, Reached, search};
+use crate::breadth_first::{Ends, search};
+use crate::queue::{MOST_MARKED_PAIRS, Queue, Reached};
 use crate::walker::{MOST_STEPS, spell};
 use pair_graph::Pairs;
-use std::alloc::{AllocError, Global};
+use short_words::ShortWord;
 use std::marker::Model;
 use word_image::Rule;
 
 /// The least walks of at most `most` steps from one marked pair to all others. One search finds all of them, and they
 /// are stored as the queue of this search. Contracts treat the tree as the rule, the number of the marked pair at the
-/// start, and `most`.
+/// start, `most`, and the numbers of the marked pairs that the walks reach.
 #[derive(Debug, Drop)]
 pub struct WalkTree {
     // The rule of the marked graph.
@@ -31,103 +32,95 @@ pub struct WalkTree {
     // The greatest number of steps of a walk.
     most: usize,
     // The marked pairs to which the walks lead, in the order of the walks.
-    queue: Vec<Reached>,
+    queue: Queue,
     // For each marked pair its place in the queue. If a marked pair isn't in the queue, its entry has no meaning.
     places: [u16; MOST_MARKED_PAIRS],
 }
 
 impl Model for WalkTree {
-    ghost use Rattle.least_walk.specs.Trees.{WalkSource, IsWalkTree};
+    ghost use Rattle.least_walk.specs.Trees.{LeastWalks, IsWalkTree, pairs_of};
 
-    ghost Value = { WalkSource };
+    ghost Value = { LeastWalks };
 
-    ghost view = { λ t. record { rule = t.rule; start = t.start; most = t.most } };
+    ghost view = { λ t. record { source = record { rule = t.rule; start = t.start; most = t.most }; reached = pairs_of t.queue } };
 
-    ghost invariant = { λ t. IsWalkTree t.rule t.start t.most t.queue.items t.places };
+    ghost invariant = { λ t. IsWalkTree t.rule t.start t.most t.queue t.places };
 }
 
 impl WalkTree {
-    /// Finds the least walks from this marked pair to all others. The only error is lack of memory.
-    pub fn of(alloc: Global, pairs: &Pairs, start: u16) -> Result<WalkTree, AllocError>
+    /// Finds the least walks from this marked pair to all others.
+    pub fn of(pairs: &Pairs, start: u16) -> WalkTree
         requires { start < 2 * pair_count pairs.now }
-        ensures { IfOk result (λ tree. tree ≡ record { rule = pairs.now; start = start; most = most_steps }) }
+        ensures { result.source ≡ record { rule = pairs.now; start = start; most = most_steps } }
     {
-        WalkTree::limited(alloc, pairs, start, MOST_STEPS)
+        WalkTree::limited(pairs, start, MOST_STEPS)
     }
 
-    /// Finds the least walks of at most `most` steps from this marked pair to all others. The only error is lack of
-    /// memory.
-    pub fn limited(
-        alloc: Global,
-        pairs: &Pairs,
-        start: u16,
-        most: usize,
-    ) -> Result<WalkTree, AllocError>
+    /// Finds the least walks of at most `most` steps from this marked pair to all others.
+    pub fn limited(pairs: &Pairs, start: u16, most: usize) -> WalkTree
         requires { start < 2 * pair_count pairs.now }
-        ensures { IfOk result (λ tree. tree ≡ record { rule = pairs.now; start = start; most = most }) }
+        ensures { result.source ≡ record { rule = pairs.now; start = start; most = most } }
     {
-        let mut queue = Vec::with_capacity(alloc, MOST_MARKED_PAIRS)?;
+        let mut queue = Queue::new();
         let ends = Ends { start, goal: None };
         search(&mut queue, pairs, ends, most);
-        let places = index(&queue);
-        Ok(WalkTree {
+        let places = index(queue.as_slice());
+        WalkTree {
             rule: *pairs.rule(),
             start,
             most,
             queue,
             places,
-        })
+        }
     }
 
-    /// Returns the numbers of the marked pairs that the walks reach, in the order of their least walks. The only error
-    /// is lack of memory.
-    pub fn pairs(&self, alloc: Global) -> Result<Vec<u16>, AllocError>
-        ensures below { IfOk result (λ pairs. All (λ t. t < 2 * pair_count self.now.rule) pairs.items) }
-        ensures all { IfOk result (λ pairs. most_steps ≤ self.now.most → (w : List (ℕ × ℕ)) (t : ℕ) → PairWalk (marked self.now.rule) self.now.rule.states self.now.start w t → Contains pairs.items t) }
+    /// Returns the number of marked pairs that the walks reach, at most 512.
+    pub fn len(&self) -> usize
+        ensures len { result ≡ length self.now.reached }
+        ensures most { result ≤ most_marked_pairs }
+        ensures below { All (λ t. t < 2 * pair_count self.now.source.rule) self.now.reached }
+        ensures all { most_steps ≤ self.now.source.most → (w : List (ℕ × ℕ)) (t : ℕ) → PairWalk (marked self.now.source.rule) self.now.source.rule.states self.now.source.start w t → Contains self.now.reached t }
     {
-        pairs_of(alloc, &self.queue)
+        self.queue.len()
+    }
+
+    /// Returns the number of a marked pair that the walks reach. The marked pairs are in the order of their least
+    /// walks, and `place` is the place of this one.
+    pub fn pair(&self, place: usize) -> u16
+        requires { place < length self.now.reached }
+        ensures { result ≡ slice_index self.now.reached place }
+    {
+        self.queue.at(place).pair
     }
 
     /// Returns the number of steps of the least walk to a marked pair, or None if every walk has more steps than the
     /// limit allows.
     pub fn steps_to(&self, to: u16) -> Option<usize>
-        requires { to < 2 * pair_count self.now.rule }
-        ensures steps { IfSome result (λ n. (w : List (ℕ × ℕ)) × IsLeastWalkTo (marked self.now.rule) self.now.rule.states self.now.start to w × (length w ≡ n)) }
-        ensures within { IfSome result (λ n. n ≤ self.now.most) }
-        ensures none { IfNone result ((w : List (ℕ × ℕ)) → length w ≤ self.now.most → ¬ PairWalk (marked self.now.rule) self.now.rule.states self.now.start w to) }
-        ensures all { IfNone result (most_steps ≤ self.now.most → (w : List (ℕ × ℕ)) → ¬ PairWalk (marked self.now.rule) self.now.rule.states self.now.start w to) }
+        requires { to < 2 * pair_count self.now.source.rule }
+        ensures steps { IfSome result (λ n. (w : List (ℕ × ℕ)) × IsLeastWalkTo (marked self.now.source.rule) self.now.source.rule.states self.now.source.start to w × (length w ≡ n)) }
+        ensures within { IfSome result (λ n. n ≤ self.now.source.most) }
+        ensures none { IfNone result ((w : List (ℕ × ℕ)) → length w ≤ self.now.source.most → ¬ PairWalk (marked self.now.source.rule) self.now.source.rule.states self.now.source.start w to) }
+        ensures all { IfNone result (most_steps ≤ self.now.source.most → (w : List (ℕ × ℕ)) → ¬ PairWalk (marked self.now.source.rule) self.now.source.rule.states self.now.source.start w to) }
     {
-        match place_of(&self.queue, &self.places, to) {
-            Some(place) => Some(usize::from(self.queue[usize::from(place)].depth)),
-            None => None,
-        }
+        let place = place_of(self.queue.as_slice(), &self.places, to)?;
+        Some(usize::from(self.queue.at(usize::from(place)).depth))
     }
 
     /// Returns the least walk to a marked pair: the shortest, and among the shortest the first in the dictionary
     /// order of their pairs of letters. The least walk to the start has no steps. Returns None if every walk has more
-    /// steps than the limit allows. A limit of [`MOST_STEPS`] or more excludes no walk. The only error is lack of
-    /// memory.
-    pub fn walk_to(&self, alloc: Global, to: u16) -> Result<Option<Vec<u8>>, AllocError>
-        requires { to < 2 * pair_count self.now.rule }
-        ensures walk { IfOk result (λ found. MatchOption found ((w : List (ℕ × ℕ)) → length w ≤ self.now.most → ¬ PairWalk (marked self.now.rule) self.now.rule.states self.now.start w to) (λ steps. IsLeastWalkTo (marked self.now.rule) self.now.rule.states self.now.start to (map (uncode most_states) steps.items))) }
-        ensures within { IfOk result (λ found. IfSome found (λ steps. length steps.items ≤ self.now.most)) }
-        ensures most { IfOk result (λ found. IfSome found (λ steps. length steps.items ≤ most_steps)) }
-        ensures all { IfOk result (λ found. IfNone found (most_steps ≤ self.now.most → (w : List (ℕ × ℕ)) → ¬ PairWalk (marked self.now.rule) self.now.rule.states self.now.start w to)) }
+    /// steps than the limit allows. A limit of [`MOST_STEPS`] or more excludes no walk.
+    pub fn walk_to(&self, to: u16) -> Option<ShortWord>
+        requires { to < 2 * pair_count self.now.source.rule }
+        ensures walk { MatchOption result ((w : List (ℕ × ℕ)) → length w ≤ self.now.source.most → ¬ PairWalk (marked self.now.source.rule) self.now.source.rule.states self.now.source.start w to) (λ steps. IsLeastWalkTo (marked self.now.source.rule) self.now.source.rule.states self.now.source.start to (map (uncode most_states) steps)) }
+        ensures within { IfSome result (λ steps. length steps ≤ self.now.source.most) }
+        ensures most { IfSome result (λ steps. length steps ≤ most_steps) }
+        ensures all { IfNone result (most_steps ≤ self.now.source.most → (w : List (ℕ × ℕ)) → ¬ PairWalk (marked self.now.source.rule) self.now.source.rule.states self.now.source.start w to) }
     {
-        let Some(place) = place_of(&self.queue, &self.places, to) else {
-            return Ok(None);
-        };
-        let mut steps = Vec::with_capacity(alloc, MOST_STEPS)?;
-        spell(&self.queue, place, &mut steps);
-        Ok(Some(steps))
+        let place = place_of(self.queue.as_slice(), &self.places, to)?;
+        let mut steps = ShortWord::new();
+        spell(self.queue.as_slice(), place, &mut steps);
+        Some(steps)
     }
-}
-
-/// Returns the numbers of the marked pairs in the queue, in its order. The only error is lack of memory.
-fn pairs_of(alloc: Global, queue: &[Reached]) -> Result<Vec<u16>, AllocError>
-    ensures { IfOk result (λ pairs. pairs.items ≡ map (λ reached. reached.pair) queue.now) }
-{
-    queue.iter().map(|reached| reached.pair).collect(alloc)
 }
 
 /// Returns for each marked pair its place in the queue. The entry of a marked pair that isn't in the queue has no

@@ -1,39 +1,37 @@
-//! Searches for least walks, with memory that is allocated once.
+//! Searches for least walks, without memory.
 //!
 //! A walk leads through marked pairs, which are pairs of nodes with or without a mark. Each step is a pair of letters.
 //! It follows one edge from each node, and the two edges have equal labels.
 
-ghost use Rattle.std.specs.Prelude.{ℕ, ◌+◌, ◌*◌, ◌<◌, ◌≤◌, List, length, map, vec_capacity, IfSome, IfNone, Some};
+ghost use Rattle.std.specs.Prelude.{ℕ, ◌+◌, ◌*◌, ◌<◌, ◌≤◌, List, length, map, IfSome, IfNone, Some};
 ghost use Rattle.word_image.specs.LocalRules.{most_states};
 ghost use Rattle.least_walk.specs.Queues.{IsBackward, SpellsBefore, most_steps};
 
-use crate::queue::{Ends, MOST_MARKED_PAIRS, Reached, put, search};
+use crate::breadth_first::{Ends, search};
+use crate::queue::{Queue, Reached};
 use pair_graph::Pairs;
+use short_words::ShortWord;
 use std::alloc::{AllocError, Global};
 use std::marker::Model;
 
 /// The greatest number of steps of a least walk, which visits no marked pair twice.
 pub const MOST_STEPS: usize = 512;
 
-/// Searches for least walks in memory that it allocates once. Contracts say nothing about its contents, because no
-/// result depends on an earlier search.
+/// Searches for least walks. Contracts say nothing about its contents, because no result depends on an earlier search.
 #[derive(Debug, Drop)]
 pub struct Walker {
-    // The marked pairs that the last search reached, with capacity for all marked pairs.
-    queue: Vec<Reached>,
-    // The steps of the walk that the last search found, with capacity for the longest walk.
-    steps: Vec<u8>,
+    // The marked pairs that the last search reached.
+    queue: Queue,
+    // The steps of the walk that the last search found.
+    steps: ShortWord,
 }
 
 impl Model for Walker {
-    ghost use Rattle.std.specs.Prelude.{⊤, ◌≤◌, vec_capacity};
-    ghost use Rattle.least_walk.specs.Queues.{most_steps};
+    ghost use Rattle.std.specs.Prelude.{⊤};
 
     ghost Value = { ⊤ };
 
     ghost view = { λ w. tt };
-
-    ghost invariant = { λ w. (most_steps ≤ vec_capacity w.queue) × (most_steps ≤ vec_capacity w.steps) };
 }
 
 impl Walker {
@@ -41,12 +39,17 @@ impl Walker {
     ghost use Rattle.word_image.specs.MarkedPairs.{marked};
     ghost use Rattle.search_laws.specs.PairWalks.{IsLeastWalk, PairWalk, uncode};
 
-    /// Allocates the memory of all searches.
-    pub fn new(alloc: Global) -> Result<Walker, AllocError> {
-        Ok(Walker {
-            queue: Vec::with_capacity(alloc, MOST_MARKED_PAIRS)?,
-            steps: Vec::with_capacity(alloc, MOST_STEPS)?,
-        })
+    /// Makes a walker. It needs no memory, so this never fails. The argument `_alloc` isn't used.
+    pub fn new(_alloc: Global) -> Result<Walker, AllocError> {
+        Ok(Walker::empty())
+    }
+
+    /// Makes a walker, which needs no memory.
+    pub fn empty() -> Walker {
+        Walker {
+            queue: Queue::new(),
+            steps: ShortWord::new(),
+        }
     }
 
     /// Returns the least walk of at least one step from one marked pair to another: the shortest, and among the
@@ -80,9 +83,9 @@ impl Walker {
         match search(&mut self.queue, pairs, ends, most) {
             Some(arrival) => {
                 self.steps.clear();
-                put(&mut self.steps, arrival.step);
-                spell(&self.queue, arrival.place, &mut self.steps);
-                Some(&self.steps)
+                self.steps.push(arrival.step);
+                spell(self.queue.as_slice(), arrival.place, &mut self.steps);
+                Some(self.steps.as_slice())
             }
             None => None,
         }
@@ -92,19 +95,17 @@ impl Walker {
 /// Completes a walk that a search has found. Before the call, `steps` has the last steps of the walk, in reverse order.
 /// After it, `steps` has all steps of the walk in their order. The added steps are those by which the search reached
 /// the marked pair at `place` of the queue.
-pub fn spell(queue: &[Reached], place: u16, steps: &mut Vec<u8>)
-    requires room { most_steps ≤ vec_capacity steps.old }
+pub fn spell(queue: &[Reached], place: u16, steps: &mut ShortWord)
     requires place { place < length queue.now }
-    requires most { length steps.old.items + place ≤ most_steps }
+    requires most { length steps.old + place ≤ most_steps }
     requires backward { IsBackward queue.now }
-    ensures room { most_steps ≤ vec_capacity steps.new }
-    ensures spelled { SpellsBefore queue.now place steps.old.items steps.new.items }
-    ensures most { length steps.new.items ≤ most_steps }
+    ensures spelled { SpellsBefore queue.now place steps.old steps.new }
+    ensures most { length steps.new ≤ most_steps }
 {
     let mut place = usize::from(place);
     while place > 0 {
         let reached = queue[place];
-        put(steps, reached.step);
+        steps.push(reached.step);
         place = usize::from(reached.parent);
     }
     steps.reverse();

@@ -1,4 +1,5 @@
 pub mod Openness
+pub mod Sums
 pub mod WrittenParts
 pub mod Means
 pub mod Tables

@@ -38,7 +38,7 @@
 //!
 //! The *forward rank* of a pair of nodes is the greatest n for which two words of n + m - 1 letters with the same
 //! image begin with these nodes. The *backward rank* is the same number for words that end with these nodes.
-//! [`Evidence::of`] finds the evidence for a rule and weights of its letters. [`Evidence::certificate`] adds the
+//! [`least_report`] finds the evidence for a rule and weights of its letters. [`certificate`] adds the
 //! other parts that the judge of certificates needs: the cover list in version 2 or the reached pairs in version 3,
 //! and the exact rank of each pair of nodes. [`keeps_sums`], [`least_orphan`] and [`injectivity`] answer one question
 //! each.
@@ -48,12 +48,14 @@
 //! nodes. Everything else takes time **O(N^4·k^2)** at most.
 #![tactic(auto)]
 
-mod evidence;
+mod certificates;
 mod numbers;
 mod parts;
+mod report;
 mod truths;
 
-pub use evidence::Evidence;
+pub use certificates::certificate;
 pub use numbers::{fault_past_all, next_table, verdict_bytes};
 pub use parts::{injectivity, least_orphan};
+pub use report::{Injectivity, Report, least_report};
 pub use truths::{Truths, keeps_sums, rule_of_table};

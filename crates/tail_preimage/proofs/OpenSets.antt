@@ -1,6 +1,6 @@
 -- The sets of nodes from which the rest of a word leads into a goal, from the end of the word on, and the first walk through them.
-use Rattle.std.proofs.Common.{◌≡◌, ◌≢◌, ℕ, zero, suc, ◌+◌, ◌-◌, ◌*◌, ◌/◌, ◌%◌, ◌^◌, ◌<◌, List, [], ◌∷◌, ◌++◌, length, drop, get_or, slice_index, IsBitSet, bit_and, refl, sym, ◌∙◌, ap, subst, subst₂, arith, ⊎_elim, mod-lt, mod-eq_of_lt, pow-suc, one-mul, mul_assoc, div-one, div-add-mod'}
-use Rattle.word_image.proofs.Common.{pow-zero, one-le-pow, add-mul-mod_self_right, cases_lt, mod-mul-add, get_or_append_left, get_or_default, get_or_push, length_push, drop_all, LocalRule, IsRule, word_of, node_count, next, node_letter, IsNodeSet, HasBit, next-below, IsEnds, IsEdge, IsSetOf-same}
+use Rattle.std.proofs.Common.{◌≡◌, ◌≢◌, ℕ, zero, suc, ◌+◌, ◌-◌, ◌*◌, ◌/◌, ◌%◌, ◌^◌, ◌<◌, List, [], ◌∷◌, ◌++◌, length, drop, slice_index, IsBitSet, bit_and, refl, sym, ◌∙◌, ap, subst, arith, ⊎_elim, mod-lt, mod-eq_of_lt, pow-suc, one-mul, mul_assoc, div-one, div-add-mod'}
+use Rattle.word_image.proofs.Common.{pow-zero, one-le-pow, add-mul-mod_self_right, cases_lt, mod-mul-add, get_or_append_left, get_or_push, length_push, drop_all, LocalRule, IsRule, word_of, node_count, next, node_letter, IsNodeSet, HasBit, next-below, IsEnds, IsEdge, IsSetOf-same}
 use Rattle.pair_laws.proofs.Common.{next-digits, IsBitSet-below, IsBitSet-and, IsBitSet-apart}
 use Rattle.word_image.specs.declared.side.Side.TheVariants.{Right}
 use Rattle.tail_preimage.specs.Walks.{Reaches}
@@ -49,11 +49,10 @@ AreOpen-more {r} {w} {sets} {edges} {goal} {n} {before} rule h inside rel step =
     }
 
 -- the set after a place
-pub open-after : {r : LocalRule} {w sets : List ℕ} {goal n set : ℕ} → AreOpen r w goal (length w) sets → n < length w → set ≡ get_or sets (length w - 1 - n) set → IsNodeSet r (Reaches r (drop (n + 1) w) goal) set
-open-after {r} {w} {sets} {goal} {n} {set} h inside e =
+pub open-after : {r : LocalRule} {w sets : List ℕ} {goal n : ℕ} → AreOpen r w goal (length w) sets → n < length w → IsNodeSet r (Reaches r (drop (n + 1) w) goal) (slice_index sets (length w - 1 - n))
+open-after {r} {w} {sets} {goal} {n} h inside =
     let back : length w - (length w - 1 - n) ≡ n + 1 = omega arith in
-    let stored : set ≡ slice_index sets (length w - 1 - n) = e ∙ get_or_default sets (length w - 1 - n) set 0 (omega (arith, h.long)) in
-    subst₂ (λ k a. IsNodeSet r (Reaches r (drop k w) goal) a) back (sym stored) (h.each (length w - 1 - n) (omega arith))
+    subst (λ k. IsNodeSet r (Reaches r (drop k w) goal) (slice_index sets (length w - 1 - n))) back (h.each (length w - 1 - n) (omega arith))
 
 -- where the rest of the word reaches the goal some edge leads on into it
 pub some_edge_on : {r : LocalRule} {w x : List ℕ} {goal u n v ends set : ℕ} → IsRule r → n < length w → IsLeastBegun r w u goal n v x → IsEnds Right r v (slice_index w n) ends → IsNodeSet r (Reaches r (drop (n + 1) w) goal) set → bit_and ends set ≢ 0

@@ -9,3 +9,4 @@ pub mod Shapes
 pub mod LeastWalks
 pub mod LeastPreimages
 pub mod Answers
+pub mod Lengths

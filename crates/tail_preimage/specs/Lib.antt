@@ -1,4 +1,5 @@
 pub mod Preimages
+pub mod Lengths
 pub mod Answers
 pub mod Walks
 pub mod Relations

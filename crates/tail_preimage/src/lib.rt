@@ -30,15 +30,18 @@
 //! place 0 and alternate after it, so the two neighbours differ only at place 0. Under rule 110 nothing is mapped to
 //! `0|101|0`: 01010 is an orphan, and neither 1010 nor 0101 is one.
 //!
-//! For N = k^(m - 1) nodes and parts of l letters a call takes time **O(N² l)** and space **O(N l)**.
+//! For N = k^(m - 1) nodes and parts of l letters a search takes time **O(N² l)**. It works in a [`PreimageRoom`], whose
+//! size doesn't depend on N and l.
 #![tactic(auto)]
 
 mod answer;
 mod gaps;
 mod periods;
 mod relations;
+mod room;
 mod shapes;
 mod walks;
 mod words;
 
-pub use answer::{Placed, Pre, preimage};
+pub use answer::{LentPlaced, LentPre, Placed, Pre, preimage};
+pub use room::PreimageRoom;

@@ -5,7 +5,7 @@
 
 ghost use Rattle.std.specs.Prelude.{◌≡◌};
 ghost use Rattle.word_image.specs.LocalRules.{most_nodes};
-ghost use Rattle.tail_config.specs.Tails.{IsTail};
+ghost use Rattle.tail_config.specs.TailValues.{IsAcceptedTail};
 ghost use Rattle.tail_preimage.specs.Parts.{AreTailParts, HaveParts, PassesThrough, IsFirstShape, shape_of};
 
 use crate::periods::{Periods, least_first, least_sum, open, periods_of, rounds, some_rounds};
@@ -44,7 +44,7 @@ pub struct Spans {
 pub fn parts_of(graph: &Graph, tail: &Tail) -> PartRelations
     requires { graph.now.states ≡ tail.now.states }
     ensures parts { AreTailParts graph.now tail.now.config result }
-    ensures tail { IsTail graph.now.states tail.now.config }
+    ensures tail { IsAcceptedTail tail.now }
 {
     PartRelations {
         left: periods_of(graph, reversed(graph, &relation(graph, tail.left()))),

@@ -2,17 +2,17 @@
 use Rattle.std.proofs.Common.{◌≡◌, ℕ, ◌≤◌, List, ◌++◌, length, drop, Option, Some, None, Result, Ok, Err, sym, ap, subst, subst₂, ◌∙◌, [], arith, IfOk}
 use Rattle.word_image.proofs.Common.{LocalRule, IsRule, rule_fault}
 use Rattle.word_image.specs.declared.local_rule.RuleFault.{RuleFault}
-use Rattle.cert_values.specs.Evidence.{Window, Twins, Ahead, Split, Flux, Ring}
-use Rattle.cert_values.proofs.Common.{InjectiveEvidence, SideEvidence, SumEvidence}
-use Rattle.certificate_laws.specs.LeastEvidence.{Evidence, IsConservingPart, IsLeastEvidence}
-use Rattle.ca_questions.proofs.Common.{Question, Finding, AreFor, IsFinding, weight_by}
+use Rattle.cert_values.specs.Evidence.{Window, Twins, Ahead, Split}
+use Rattle.cert_values.proofs.Common.{InjectiveEvidence, SideEvidence}
+use Rattle.certificate_laws.specs.LeastEvidence.{Evidence}
+use Rattle.ca_questions.proofs.Common.{Question, Finding, AreFor, IsFinding}
 use Rattle.c_structs.specs.declared.rule_reports.RuleReport.{RuleReport}
 use Rattle.c_structs.specs.declared.rule_reports.Reported.{Reported}
 use Rattle.c_structs.specs.declared.letter_rows.LetterRow.{LetterRow}
 use Rattle.c_structs.specs.declared.letter_rows.TwinRows.{TwinRows}
 use Rattle.c_structs.specs.declared.letter_rows.SplitRows.{SplitRows}
 use Rattle.c_structs.specs.Verdicts.{fault_code}
-use Rattle.c_structs.specs.ReportParts.{IsShortSum, SaysSurjective, SaysInjective, SaysSide}
+use Rattle.c_structs.specs.ReportParts.{SaysSurjective, SaysInjective, SaysSide}
 use Rattle.c_structs.specs.Reports.{IsReported, IsReportOf, IsReportCall, letters_in, no_report}
 use Rattle.c_structs.proofs.laws.LetterRows.{IsGrown, IsRow-grown, AreTwinRows-grown, AreSplitRows-grown}
 
@@ -33,15 +33,6 @@ pub SaysSide-grown : (letters after : List ℕ) (holds ahead : ℕ) (split : Spl
     → SaysSide letters holds ahead split e → SaysSide after holds ahead split e
 SaysSide-grown letters after holds ahead split (Ahead n) grown h = h
 SaysSide-grown letters after holds ahead split (Split x y) grown h = (h.0, h.1, AreSplitRows-grown grown h.2)
-
--- the flux of an accepted rule has a number for each of at most 16 nodes
-pub IsShortSum-part : {r : LocalRule} (weight : ℕ → ℕ) (e : SumEvidence) → IsRule r → IsConservingPart weight r e → IsShortSum e
-IsShortSum-part weight (Flux phi) rule h = omega (arith, h.1.entries, rule.shape.most_nodes)
-IsShortSum-part weight (Ring p) rule h = tt
-
--- a right report has the least evidence
-pub IsFinding-least : {r : LocalRule} {weights : Option (List ℕ)} {e : Evidence} → IsFinding (Question.Report r weights) (Finding.Report e) → IsLeastEvidence (weight_by weights) r e
-IsFinding-least (IsFinding.Report r weights e each same least) = least
 
 -- the report that is written is the right one
 pub IsReported-written : {r : LocalRule} {weights : Option (List ℕ)} {e : Evidence} {E : Type 0} (result : Result Reported E) → IsRule r

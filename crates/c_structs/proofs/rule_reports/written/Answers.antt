@@ -1,5 +1,5 @@
 use Rattle.std.proofs.Common.{refl}
-use Rattle.certificate_laws.specs.ReportValues.{evidence_of}
+use Rattle.rule_verdicts.specs.Reports.{evidence_of}
 use Rattle.c_structs.proofs.laws.LetterRows.{IsGrown, IsGrown-same, IsGrown-more}
 use Rattle.c_structs.proofs.laws.Reports.{SaysSurjective-grown, SaysInjective-grown, SaysSide-grown}
 use Rattle.c_structs.proofs.rule_reports.written.Goals as goal

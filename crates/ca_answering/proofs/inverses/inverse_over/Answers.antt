@@ -1,5 +1,5 @@
 use Rattle.std.proofs.Common.{◌<◌, ◌^◌, subst}
-use Rattle.inverse_table.specs.InverseFaults.{IsInvFault}
+use Rattle.inverse_table.specs.InverseFaults.{IsNoMap}
 use Rattle.ca_questions.proofs.Common.{IsFinding, IsUnfitFor}
 use Rattle.ca_answering.proofs.inverses.inverse_over.Goals as goal
 
@@ -16,5 +16,5 @@ returns-in-Ok c =
 
 pub returns-in-Err-Wide : goal.returns-in-Err-Wide
 returns-in-Err-Wide c =
-    let wide : 65536 < c.args.rule.now.states ^ c.args.at.n = subst (IsInvFault c.args.rule.now c.args.at.n c.args.at.c) c.in-Err-Wide.field-0-is c.in-Err-Wide.ensures.fault in
+    let wide : 65536 < c.args.rule.now.states ^ c.args.at.n = subst (IsNoMap c.args.rule.now c.args.at.n c.args.at.c) c.in-Err-Wide.field-0-is c.in-Err-Wide.ensures.fault in
     IsUnfitFor.Wide c.args.rule.now c.args.at.n c.args.at.c c.requires.least wide

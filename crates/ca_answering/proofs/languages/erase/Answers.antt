@@ -1,20 +1,15 @@
-use Rattle.std.proofs.Common.{ℕ, List, refl, sym, subst, IsNone, None, Some}
-use Rattle.word_image.proofs.Common.{false≢true, IsSurjective, IsErasable, IsLeastErasable}
-use Rattle.ca_questions.proofs.Common.{IsFinding}
+use Rattle.std.proofs.Common.{ℕ, List, refl, sym, ◌↔◌, IsNone, Option, None, Some, MatchOption}
+use Rattle.short_words.specs.declared.short_word.ShortPair.{ShortPair}
+use Rattle.word_image.proofs.Common.{false≢true, LocalRule, IsSurjective, IsErasable, IsLeastErasable}
+use Rattle.ca_questions.proofs.Common.{IsErasedFound, IsFinding}
+use Rattle.ca_questions.specs.Values.{pair_of}
 use Rattle.ca_answering.proofs.languages.erase.Goals as goal
 
-pub returns-in-None : goal.returns-in-None
-returns-in-None c =
-    let r = c.args.rule.now in
-    let every = c.in_ok-erasable.ensures.surjective.0 (subst (λ f. IsNone f) (sym c.in-None.is) refl) in
-    let none : (x y : List ℕ) → ¬ IsErasable r x y = rw c.in-None.is at c.in_ok-erasable.ensures.least in
-    IsFinding.Erase r None (every, none)
+-- the least erasable pair, or that there is none, answers the question
+IsErasedFound-pair : {r : LocalRule} (found : Option ShortPair) → IsNone found ↔ IsSurjective r → MatchOption found ((x y : List ℕ) → ¬ IsErasable r x y) (λ pair. IsLeastErasable r pair.x pair.y)
+    → IsErasedFound r (pair_of found)
+IsErasedFound-pair None exact none = (exact.0 refl, none)
+IsErasedFound-pair (Some pair) exact least = ((λ every. false≢true (sym (exact.1 every))), least)
 
 pub returns : goal.returns
-returns c =
-    let r = c.args.rule.now in
-    let x = c.in-Some.pair.x in
-    let y = c.in-Some.pair.y in
-    let some : ¬ IsSurjective r = λ every. false≢true (sym (subst (λ f. IsNone f) c.in-Some.is (c.in_ok-erasable.ensures.surjective.1 every))) in
-    let least : IsLeastErasable r x y = rw c.in-Some.is at c.in_ok-erasable.ensures.least in
-    IsFinding.Erase r (Some (x, y)) (some, least)
+returns c = IsFinding.Erase c.args.rule.now _ (IsErasedFound-pair c.least_erasable.result c.least_erasable.ensures.surjective c.least_erasable.ensures.least)

@@ -4,7 +4,7 @@ use Rattle.ca_cli.proofs.answers.answer_to.Goals as goal
 
 pub returns-in_err-write_reply-clause-memory : goal.returns-in_err-write_reply-clause-memory
 returns-in_err-write_reply-clause-memory g c e same =
-    elim (c.right_replies_are_small.ensures _ _ _ c.in_ok-reply.ensures.reply) [
+    elim (c.right_replies_fit.ensures _ _ _ c.in_ok-reply.ensures.reply) [
       | inl needs ↦ needs
-      | inr small ↦ absurd (false≢true (c.in_err-write_reply.ensures.few small (omega (arith, ap length c.clear.ensures))).0)
+      | inr fits ↦ absurd (false≢true (c.in_err-write_reply.ensures.few fits (omega (arith, ap length c.clear.ensures))).0)
     ]

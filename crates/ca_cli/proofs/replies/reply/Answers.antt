@@ -1,4 +1,4 @@
-use Rattle.std.proofs.Common.{refl, sym, subst, None}
+use Rattle.std.proofs.Common.{inl, refl, sym, subst, None}
 use Rattle.word_image.proofs.Common.{IfOk-weaker}
 use Rattle.ca_commands.specs.Commands.{check_command}
 use Rattle.ca_cli.specs.Outcomes.{IsOutcome}
@@ -12,7 +12,7 @@ returns-then-is_check-clause-reply g c =
     let is = c.is_check.ensures.0 c.if-is_check.true in IfOk-weaker c.check.result _ _ (λ reply right. IsReplyTo.Right check_command _ is (right check_command refl)) c.check.ensures.reply
 
 pub returns-then-is_check-clause-memory : goal.returns-then-is_check-clause-memory
-returns-then-is_check-clause-memory g c e same = (check_command, c.is_check.ensures.0 c.if-is_check.true, tt)
+returns-then-is_check-clause-memory g c e same = inl (check_command, c.is_check.ensures.0 c.if-is_check.true, refl)
 
 pub returns-in_err-said-clause-memory : goal.returns-in_err-said-clause-memory
 returns-in_err-said-clause-memory g c e same =

@@ -45,4 +45,6 @@ returns-in-Err-Form c d is =
 
 pub returns-in-Err-Memory : goal.returns-in-Err-Memory
 returns-in-Err-Memory c =
-    let call = read_one name.Preimage c.in-Some.ensures refl (c.has_form.ensures.0 c.if-not-has_form.false) c.in_ok-rule.ensures in (_, call.is, tt)
+    let form = c.has_form.ensures.0 c.if-not-has_form.false in
+    let call = read_one name.Preimage c.in-Some.ensures refl form c.in_ok-rule.ensures in
+    inr (Question.Preimage c.in_ok-rule.rule form.0, asks refl call (Asks.Preimage _ c.in-Some.tail.now form.0 form.1), tt)

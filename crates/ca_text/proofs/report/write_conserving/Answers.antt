@@ -4,7 +4,7 @@ use Rattle.ca_text.specs.Reports.{line}
 use Rattle.ca_text.specs.Rooms.{IsAppended}
 use Rattle.ca_text.proofs.report.write_conserving.Goals as goal
 
-pub returns-in-Ring : goal.returns-in-Ring
-returns-in-Ring c =
+pub returns-in-Ring-clause-appended : goal.returns-in-Ring-clause-appended
+returns-in-Ring-clause-appended c =
     let push = c.push_line_with_word in
-    rw c.in-Ring.is (subst (λ w. IsAppended push.result c.args.output.now push.new.self (line (codes "conserving no ring " ++ word_text w))) c.as_slice-in-Ring.ensures push.ensures)
+    rw c.in-Ring.is (subst (λ w. IsAppended push.result c.args.output.now push.new.self (line (codes "conserving no ring " ++ word_text w))) c.letters.ensures.letters push.ensures.appended)

@@ -10,10 +10,13 @@ abbrev flow_text : ℤ → List ℕ
 flow_text z = codes " " ++ offset_text z
 
 pub loop-flow-preserved : goal.loop-flow-preserved
-loop-flow-preserved c = rows-next flow_text c.args.output.now c.args.flows.now c.loop-flow.flow-index (pos 0) c.loop-flow-test.true c.loop-flow.invariant c.in_ok-write_flow.ensures.0
+loop-flow-preserved c = (
+  rows-next flow_text c.args.output.now c.args.flows.now c.loop-flow.flow-index (pos 0) c.loop-flow-test.true c.loop-flow.invariant.0 c.in_ok-write_flow.ensures.appended.0,
+  λ room. let few = c.in_ok-write_flow.ensures.few (omega (arith, c.loop-flow.invariant.1 room, room, c.loop-flow-test.true)) in omega (arith, few.1, c.loop-flow.invariant.1 room),
+)
 
-pub returns-in_err-write_flow : goal.returns-in_err-write_flow
-returns-in_err-write_flow c =
-    let long = ap length c.loop-flow.invariant ∙ length-append c.args.output.now _ in
+pub returns-in_err-write_flow-clause-appended : goal.returns-in_err-write_flow-clause-appended
+returns-in_err-write_flow-clause-appended c =
+    let long = ap length c.loop-flow.invariant.0 ∙ length-append c.args.output.now _ in
     IsAppended-failed c.from_residual.result c.args.output.now c.write_flow.new.output _ c.from_residual.ensures.0 (λ room.
-    false≢true (c.in_err-write_flow.ensures.1 (omega (arith, long, rows-fit flow_text c.args.flows.now c.loop-flow.flow-index (pos 0) c.loop-flow-test.true, room))))
+    false≢true (c.in_err-write_flow.ensures.appended.1 (omega (arith, long, rows-fit flow_text c.args.flows.now c.loop-flow.flow-index (pos 0) c.loop-flow-test.true, room))))

@@ -1,36 +1,35 @@
-use Rattle.std.proofs.Common.{◌≡◌, ℕ, ◌+◌, ◌*◌, ◌<◌, ◌≤◌, List, Some, sym, ap, ◌∙◌, subst, arith, slice_get, All, Contains}
-use Rattle.word_image.proofs.Common.{slice_get-get_or, LocalRule, IsRule, pair_count, marked, pair_count_pos}
+use Rattle.std.proofs.Common.{◌≡◌, ℕ, ◌+◌, ◌≤◌, List, length, sym, subst, arith, Contains}
+use Rattle.word_image.proofs.Common.{LocalRule, IsRule, marked, pair_count_pos}
 use Rattle.search_laws.proofs.Common.{PairWalk}
 use Rattle.least_walk.specs.Trees.{WalkSource}
-use Rattle.closing_test.proofs.SeenSplits.{IsLeastSeen, IsLeastSeen-start, IsLeastSeen-next, IsLeastSoFar-seen}
+use Rattle.closing_test.proofs.SeenSplits.{IsLeastSeen, IsLeastSeen-start, IsLeastSeen-none, IsLeastSeen-earlier, IsLeastSoFar-seen, reached-below}
 use Rattle.closing_test.proofs.split.least_walks.Goals as goal
+use Rattle.closing_test.proofs.split.least_walks.Goals.{in-Some, in_default}
 
-pub of-requires : goal.of-requires
-of-requires c = let some = pair_count_pos (subst IsRule c.rule.ensures c.keeps_limits.ensures) in omega arith
+pub of-middles-requires : goal.of-middles-requires
+of-middles-requires c = let some = pair_count_pos (subst IsRule c.rule.ensures c.keeps_limits.ensures) in omega arith
 
 pub earlier-requires-clause-state : goal.earlier-requires-clause-state
-earlier-requires-clause-state c =
-    let t : ℕ = c.index.result.now in
-    let below : All (λ s. s < 2 * pair_count c.args.pairs.now) c.in_ok-states.states.items =
-    subst (λ (s : WalkSource). All (λ p. p < 2 * pair_count s.rule) c.in_ok-states.states.items) c.in_ok-middles.ensures c.in_ok-states.ensures.below in
-    subst (λ s. s < 2 * pair_count c.args.pairs.now) (sym c.index.ensures) (below c.loop-i.i t (omega (arith, c.in_ok-states.states.ok)))
+earlier-requires-clause-state c = reached-below c.of-middles.result c.loop-i.i c.of-middles.ensures c.len-i-end.ensures.below (omega arith) c.pair.ensures
 
 pub loop-i-init : goal.loop-i-init
-loop-i-init c = IsLeastSeen-start c.args.pairs.now c.in_ok-states.states.items c.in_ok-best.best c.in_ok-best.ensures
+loop-i-init c = IsLeastSeen-start c.args.pairs.now c.of-middles.result.reached c.short_walks-best.result c.short_walks-best.ensures
 
 pub loop-i-preserved : goal.loop-i-preserved
 loop-i-preserved c =
     let r : LocalRule = c.args.pairs.now in
-    let states : List ℕ = c.in_ok-states.states.items in
-    let t : ℕ = c.index.result.now in
-    let here : slice_get states c.loop-i.i ≡ Some t = slice_get-get_or states c.loop-i.i t (omega (arith, c.in_ok-states.states.ok)) ∙ ap Some (sym c.index.ensures) in
-    subst (IsLeastSeen r states (c.loop-i.i + 1)) (sym c.or-best.ensures)
-    (IsLeastSeen-next r states c.loop-i.i t c.loop-i.best c.in_ok-earlier.field-0 (subst IsRule c.rule.ensures c.keeps_limits.ensures) here c.loop-i.invariant c.in_ok-earlier.ensures)
+    let reached : List ℕ = c.of-middles.result.reached in
+    let rule : IsRule r = subst IsRule c.rule.ensures c.keeps_limits.ensures in
+    elim c.match-earlier.branch [
+      | in-Some w ↦ subst (IsLeastSeen r reached (c.loop-i.i + 1)) (sym w.best-is) (IsLeastSeen-earlier r reached c.loop-i.i c.loop-i.best w.in-Some.found rule c.loop-i.invariant (rw c.pair.ensures at w.in-Some.ensures))
+      | in_default w ↦ subst (IsLeastSeen r reached (c.loop-i.i + 1)) (sym w.best-is) (IsLeastSeen-none r reached c.loop-i.i c.loop-i.best c.loop-i.invariant (rw c.pair.ensures at w.in_default.ensures))
+    ]
 
 pub returns : goal.returns
 returns c =
     let r : LocalRule = c.args.pairs.now in
-    let states : List ℕ = c.in_ok-states.states.items in
-    let all : 512 ≤ 512 → (w : List (ℕ × ℕ)) (t : ℕ) → PairWalk (marked r) r.states 0 w t → Contains states t =
-    subst (λ (s : WalkSource). 512 ≤ s.most → (w : List (ℕ × ℕ)) (t : ℕ) → PairWalk (marked s.rule) s.rule.states s.start w t → Contains states t) c.in_ok-middles.ensures c.in_ok-states.ensures.all in
-    IsLeastSoFar-seen r states c.loop-i.i c.loop-i.best (all (omega arith)) (omega (arith, c.in_ok-states.states.ok)) c.loop-i.invariant
+    let reached : List ℕ = c.of-middles.result.reached in
+    let all : 512 ≤ 512 → (w : List (ℕ × ℕ)) (t : ℕ) → PairWalk (marked r) r.states 0 w t → Contains reached t =
+    subst (λ (s : WalkSource). 512 ≤ s.most → (w : List (ℕ × ℕ)) (t : ℕ) → PairWalk (marked s.rule) s.rule.states s.start w t → Contains reached t) c.of-middles.ensures c.len-i-end.ensures.all in
+    let end : c.loop-i.i ≡ length reached = omega arith in
+    IsLeastSoFar-seen r reached c.loop-i.best (all (omega arith)) (subst (λ n. IsLeastSeen r reached n c.loop-i.best) end c.loop-i.invariant)

@@ -1,16 +1,20 @@
-use Rattle.std.proofs.Common.{ℕ, slice_index, sym, ◌∙◌, subst}
+use Rattle.std.proofs.Common.{IfSome, Option, sym, subst, arith}
 use Rattle.word_image.proofs.Common.{LocalRule}
-use Rattle.closing_test.proofs.SeenSplits.{IsSomeSplit, IsSomeSplit-next}
+use Rattle.closing_test.specs.declared.walks.Walks.{Walks}
+use Rattle.closing_test.proofs.SeenSplits.{IsSplit, IsSplit-earlier, reached-below}
 use Rattle.closing_test.proofs.split.short_walks.Goals as goal
-use Rattle.closing_test.proofs.split.short_walks.Goals.{then-eq+in_ok-earlier, else-eq}
+use Rattle.closing_test.proofs.split.short_walks.Goals.{then-is_loop+in-Some, else-is_loop}
+
+pub is_loop-requires : goal.is_loop-requires
+is_loop-requires c = reached-below c.args.middles.now c.loop-i.i c.requires c.len-i-end.ensures.below (omega arith) c.pair-state.ensures
+
+pub earlier-requires-clause-state : goal.earlier-requires-clause-state
+earlier-requires-clause-state c = reached-below c.args.middles.now c.loop-i.i c.requires c.len-i-end.ensures.below (omega arith) c.pair-state.ensures
 
 pub loop-i-preserved : goal.loop-i-preserved
 loop-i-preserved c =
     let r : LocalRule = c.args.pairs.now in
-    let t : ℕ = slice_index c.args.states.now c.loop-i.i in
-    elim c.if-eq.branch [
-      | then-eq+in_ok-earlier w ↦
-          subst (IsSomeSplit r) (sym (w.best-is ∙ w.or-best.ensures))
-          (IsSomeSplit-next r t c.loop-i.best w.in_ok-earlier.field-0 c.count-count.ensures.rule c.loop-i.invariant w.in_ok-earlier.ensures)
-      | else-eq w ↦ subst (IsSomeSplit r) (sym w.best-is) c.loop-i.invariant
+    elim c.if-is_loop.branch [
+      | then-is_loop+in-Some w ↦ subst (λ (b : Option Walks). IfSome b (IsSplit r)) (sym w.best-is) (IsSplit-earlier c.loop-i.best w.in-Some.found c.is_loop.ensures w.in-Some.ensures)
+      | else-is_loop w ↦ subst (λ (b : Option Walks). IfSome b (IsSplit r)) (sym w.best-is) c.loop-i.invariant
     ]

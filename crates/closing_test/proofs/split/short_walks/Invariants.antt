@@ -1,5 +1,6 @@
-use Rattle.closing_test.proofs.SeenSplits.{IsSomeSplit}
+use Rattle.std.proofs.Common.{IfSome}
+use Rattle.closing_test.proofs.SeenSplits.{IsSplit}
 use Rattle.closing_test.proofs.split.short_walks.Given as goal
 
 abbrev pub invariant-loop-i : goal.invariant-loop-i
-invariant-loop-i l = IsSomeSplit l.pairs l.best
+invariant-loop-i l = IfSome l.best (IsSplit l.pairs)

@@ -8,7 +8,7 @@ use Rattle.tail_laws.proofs.Common.{IsLeastOf, IsFirstFound, IsFirstFound-next}
 use Rattle.eden_law.proofs.LeastErasures.{start_of, goal_of, erasure_letters, IsLeastOf-walk, IsFirstFound-within}
 use Rattle.eden_law.proofs.FoundErasures.{ArePairs-erasure, uncode-node}
 use Rattle.eden_law.proofs.erased.earlier_from.Goals as goal
-use Rattle.eden_law.proofs.erased.earlier_from.Goals.{in-Some+in_ok-steps, in_default}
+use Rattle.eden_law.proofs.erased.earlier_from.Goals.{in-Some, in_default}
 
 pub loop-to-init : goal.loop-to-init
 loop-to-init c =
@@ -30,30 +30,30 @@ loop-to-preserved c =
     let start : c.pair_of.result ≡ start_of r p = c.pair_of.ensures.pair ∙ ap₂ (λ (s : LocalRule) n. pair_of s n n) same (sym first) in
     let end : c.pair_of-in-loop-to.result + c.count-count.result ≡ goal_of r p =
     ap₂ (λ q n. q + n) (c.pair_of-in-loop-to.ensures.pair ∙ ap₂ (λ (s : LocalRule) n. pair_of s n n) same (sym second)) c.count-count.ensures.count in
-    let tree = c.in_ok-walks.ensures in
-    subst (λ n. IsFirstFound (IsErasure r) n c.match-branch-3.first) (omega arith)
-    (elim c.match-branch-3.branch [
-      | in-Some+in_ok-steps w ↦
-          let walk : List ℕ = w.in-Some.walk.items in
+    let tree = c.limited-walks.ensures in
+    subst (λ n. IsFirstFound (IsErasure r) n c.match-walk_to.first) (omega arith)
+    (elim c.match-walk_to.branch [
+      | in-Some w ↦
+          let walk : List ℕ = w.in-Some.walk in
           let least : IsLeastWalkTo (marked r) r.states (start_of r p) (goal_of r p) (map (uncode 16) walk) =
           subst₂ (λ s t. IsLeastWalkTo (marked r) r.states s t (map (uncode 16) walk)) start end
-          (subst (λ (s : WalkSource). IsLeastWalkTo (marked s.rule) s.rule.states s.start (c.pair_of-in-loop-to.result + c.count-count.result) (map (uncode 16) walk)) tree (rw w.in-Some.is at c.in_ok-walk.ensures.walk)) in
-          let bytes : map (uncode 16) w.in_ok-steps.steps.items ≡ erasure_letters r p (map (uncode 16) walk) =
-          ap (map (uncode 16)) (w.in_ok-steps.ensures ∙ ap (λ l. map (λ a. 16 * a + a) (word_of c.rule-rule.result.now.states (c.rule-rule.result.now.width - 1) u) ++ l) w.deref.ensures.value ∙ ap₂ (λ (s : LocalRule) n. map (λ a. 16 * a + a) (word_of s.states (s.width - 1) n) ++ walk) same (sym first)) ∙ uncode-node rule below walk in
+          (subst (λ (s : WalkSource). IsLeastWalkTo (marked s.rule) s.rule.states s.start (c.pair_of-in-loop-to.result + c.count-count.result) (map (uncode 16) walk)) tree w.in-Some.ensures.walk) in
+          let bytes : map (uncode 16) w.behind_node-steps.result ≡ erasure_letters r p (map (uncode 16) walk) =
+          ap (map (uncode 16)) (w.behind_node-steps.ensures ∙ ap (λ l. map (λ a. 16 * a + a) (word_of c.rule-rule.result.now.states (c.rule-rule.result.now.width - 1) u) ++ l) w.as_slice.ensures.letters ∙ ap₂ (λ (s : LocalRule) n. map (λ a. 16 * a + a) (word_of s.states (s.width - 1) n) ++ walk) same (sym first)) ∙ uncode-node rule below walk in
           subst (IsFirstFound (IsErasure r) (p + 1)) (sym w.first-is)
-          (IsFirstFound-next (λ q abs l e. ArePairs-erasure rule (omega (arith, l, below)) e) c.loop-to.first w.in_ok-steps.steps.items w.earlier.result.items w.earlier.ensures c.loop-to.invariant
+          (IsFirstFound-next (λ q abs l e. ArePairs-erasure rule (omega (arith, l, below)) e) c.loop-to.first w.behind_node-steps.result w.earlier.result w.earlier.ensures c.loop-to.invariant
           (subst (IsLeastOf (IsErasure r) p) (sym bytes) (IsLeastOf-walk least)))
       | in_default w ↦
           let goal : ℕ = c.pair_of-in-loop-to.result + c.count-count.result in
           subst (IsFirstFound (IsErasure r) (p + 1)) (sym w.first-is)
           (IsFirstFound-within c.args.before c.loop-to.first rule below (omega arith)
           (λ q less. subst (λ n. first_of r q < n) (sym first) (div_below q (node_count r) u (omega (arith, hv)) less))
-          (subst (λ (s : LocalRule). MatchOption c.args.before (c.most_steps-most.result ≡ 512) (λ steps. c.most_steps-most.result ≡ length steps.items - s.width)) same c.most_steps-most.ensures)
+          (subst (λ (s : LocalRule). MatchOption c.args.before (c.most_steps-most.result ≡ 512) (λ steps. c.most_steps-most.result ≡ length steps - s.width)) same c.most_steps-most.ensures)
           c.requires.before c.loop-to.invariant
           (subst₂ (λ s t. (v : List (ℕ × ℕ)) → length v ≤ c.most_steps-most.result → ¬ PairWalk (marked r) r.states s v t) start end
-          (subst (λ (s : WalkSource). (v : List (ℕ × ℕ)) → length v ≤ s.most → ¬ PairWalk (marked s.rule) s.rule.states s.start v goal) tree (rw w.in_default.is at c.in_ok-walk.ensures.walk)))
+          (subst (λ (s : WalkSource). (v : List (ℕ × ℕ)) → length v ≤ s.most → ¬ PairWalk (marked s.rule) s.rule.states s.start v goal) tree w.in_default.ensures.walk))
           (subst₂ (λ s t. 512 ≤ c.most_steps-most.result → (v : List (ℕ × ℕ)) → ¬ PairWalk (marked r) r.states s v t) start end
-          (subst (λ (s : WalkSource). 512 ≤ s.most → (v : List (ℕ × ℕ)) → ¬ PairWalk (marked s.rule) s.rule.states s.start v goal) tree (rw w.in_default.is at c.in_ok-walk.ensures.all))))
+          (subst (λ (s : WalkSource). 512 ≤ s.most → (v : List (ℕ × ℕ)) → ¬ PairWalk (marked s.rule) s.rule.states s.start v goal) tree w.in_default.ensures.all)))
     ])
 
 pub returns : goal.returns

@@ -1,59 +1,65 @@
-use Rattle.image_minimal.proofs.Common.{◌≡◌, ℕ, ◌+◌, ◌*◌, ◌^◌, [], ◌∷◌, ◌++◌, slice_index, nat_eq, Some, refl, sym, ap, ap₂, ◌∙◌, subst, arith, slice_get, length, mul-le-mul_right, suc-mul, range_with_len, slice_get_read, slice_get_within, node_count, TreeSpells-some, mapped_at, Link, IsJoin, link_place, IsLinkSearch, SpellsLink, set_count}
+use Rattle.image_minimal.proofs.Common.{◌≡◌, ℕ, ◌+◌, ◌*◌, ◌^◌, [], ◌∷◌, ◌++◌, slice_index, nat_eq, Some, refl, sym, ap, ap₂, ◌∙◌, subst, arith, slice_get, length, mul-le-mul_right, suc-mul, range_with_len, slice_get_read, slice_get_within, node_count, TreeSpells-some, mapped_at, Link, IsJoin, link_place, IsLinkSearch, SpellsLink, set_count, vec_capacity}
 use Rattle.image_minimal.proofs.laws.LinkWords.{link-below}
 use Rattle.image_minimal.proofs.laws.Separations.{HaveSameOrphans-closed, Separates-conflict}
 use Rattle.image_minimal.proofs.LinkSearches.{IsLinkSearch-start, IsLinkSearchAt-there, IsLinkSearchAt-new, uneven, even}
 use Rattle.image_minimal.proofs.separation.search.Goals as goal
-use Rattle.image_minimal.proofs.separation.search.Goals.{After-index-link, then-join+in_ok-push-2, else-join}
+use Rattle.image_minimal.proofs.separation.search.Goals.{After-index-link, then-join, else-join}
 
 pub loop-place-init : goal.loop-place-init
 loop-place-init c =
     let r = c.args.first.now in
     let q = c.args.second.now in
-    let parents : c.in_ok-joined.joined ≡ range_with_len 0 (set_count r q) = c.in_ok-joined.ensures ∙ ap₂ (λ (m n : ℕ). range_with_len 0 (m + n)) c.count-below.ensures.count c.count.ensures.count in
+    let parents : c.reset.new.self ≡ range_with_len 0 (set_count r q) = c.reset.ensures ∙ ap₂ (λ (m n : ℕ). range_with_len 0 (m + n)) c.count-below.ensures.count c.count.ensures.count in
     let root : Link = record { first = c.full.result; second = c.full-2.result; parent = 0; letter = 0 } in
-    let links : c.push.new.self.items ≡ root ∷ [] = c.in_ok-push.ensures.items ∙ ap (λ l. l ++ root ∷ []) c.new-links.ensures.items in
+    let links : c.push_reserved.new.self.items ≡ root ∷ [] = c.push_reserved.ensures.items ∙ ap (λ l. l ++ root ∷ []) c.clear.ensures.items in
     let start = IsLinkSearch-start c.full.ensures.rule c.full-2.ensures.rule root c.full.ensures.set c.full-2.ensures.set in
-    rw (links, parents) (subst (IsLinkSearch r q (root ∷ []) (range_with_len 0 (set_count r q))) (omega arith) start)
+    record {
+      search = rw (links, parents) (subst (IsLinkSearch r q (root ∷ []) (range_with_len 0 (set_count r q))) (omega arith) start);
+      capacity = c.push_reserved.ensures.capacity ∙ c.clear.ensures.capacity;
+    }
 
 -- the link at the place
 here : (c : After-index-link) → slice_get c.loop-place.links.items c.loop-place.place ≡ Some c.index-link.result.now
 here c = slice_get_read c.loop-place.links.items _ c.loop-place.place c.index-link.result.now refl (omega arith) c.index-link.ensures
 
 pub steps-firsts-requires : goal.steps-firsts-requires
-steps-firsts-requires c = (link-below c.loop-place.invariant c.loop-place.place c.index-link.result.now (here (goal.at.steps-firsts-requires c).After-index-link)).0
+steps-firsts-requires c = (link-below c.loop-place.invariant.search c.loop-place.place c.index-link.result.now (here (goal.at.steps-firsts-requires c).After-index-link)).0
 
 pub steps-seconds-requires : goal.steps-seconds-requires
-steps-seconds-requires c = (link-below c.loop-place.invariant c.loop-place.place c.index-link.result.now (here (goal.at.steps-seconds-requires c).After-index-link)).1
+steps-seconds-requires c = (link-below c.loop-place.invariant.search c.loop-place.place c.index-link.result.now (here (goal.at.steps-seconds-requires c).After-index-link)).1
 
 pub loop-letter-init : goal.loop-letter-init
 loop-letter-init c = record {
-  link = c.index-link.result.now;
-  here = here (goal.at.loop-letter-init c).After-index-link;
-  first = c.steps-firsts.ensures;
-  second = λ a letter. c.steps-seconds.ensures a (omega (arith, letter, c.requires));
-  search = subst (IsLinkSearch c.args.first.now c.args.second.now c.loop-place.links.items c.loop-place.joined) (omega arith) c.loop-place.invariant;
+  search = record {
+    link = c.index-link.result.now;
+    here = here (goal.at.loop-letter-init c).After-index-link;
+    first = c.steps-firsts.ensures;
+    second = λ a letter. c.steps-seconds.ensures a (omega (arith, letter, c.requires.states));
+    search = subst (IsLinkSearch c.args.first.now c.args.second.now c.loop-place.links.items c.loop-place.joined) (omega arith) c.loop-place.invariant.search;
+  };
+  capacity = c.loop-place.invariant.capacity;
 }
 
-pub word_to-requires-clause-at : goal.word_to-requires-clause-at
-word_to-requires-clause-at c = omega (arith, ap length c.deref.ensures.value, slice_get_within c.loop-letter.links.items c.loop-place.place c.loop-letter.invariant.link c.loop-letter.invariant.here)
+pub write_word-requires-clause-at : goal.write_word-requires-clause-at
+write_word-requires-clause-at c = omega (arith, ap length c.deref.ensures.value, slice_get_within c.loop-letter.links.items c.loop-place.place c.loop-letter.invariant.search.link c.loop-letter.invariant.search.here)
 
-pub word_to-requires-clause-earlier : goal.word_to-requires-clause-earlier
-word_to-requires-clause-earlier c i x positive at =
-    (c.loop-letter.invariant.search.fills.branches i (link_place x) positive (mapped_at link_place c.loop-letter.links.items i x (subst (λ l. slice_get l i ≡ Some x) c.deref.ensures.value at))).earlier
+pub write_word-requires-clause-earlier : goal.write_word-requires-clause-earlier
+write_word-requires-clause-earlier c i x positive at =
+    (c.loop-letter.invariant.search.search.fills.branches i (link_place x) positive (mapped_at link_place c.loop-letter.links.items i x (subst (λ l. slice_get l i ≡ Some x) c.deref.ensures.value at))).earlier
 
-pub returns-then-s-t : goal.returns-then-s-t
-returns-then-s-t c =
-    let h = c.loop-letter.invariant in
+pub returns-then-s-t-clause-found : goal.returns-then-s-t-clause-found
+returns-then-s-t-clause-found c = λ _.
+    let h = c.loop-letter.invariant.search in
     let links = c.loop-letter.links.items in
     let letter = c.loop-letter.letter in
     let way = TreeSpells-some h.search.fills c.loop-place.place (link_place h.link) (mapped_at link_place links c.loop-place.place h.link h.here) in
-    let word = c.in_ok-word_to.ensures way.0 (subst (λ l. SpellsLink l c.loop-place.place way.0) (sym c.deref.ensures.value) way.1) in
-    rw word (Separates-conflict c.full.ensures.rule c.full-2.ensures.rule c.requires h.search way.1 h.here (omega arith) (h.first letter (omega arith)) (h.second letter (omega arith))
+    let word = c.write_word.ensures.word way.0 (subst (λ l. SpellsLink l c.loop-place.place way.0) (sym c.deref.ensures.value) way.1) in
+    rw word (Separates-conflict c.full.ensures.rule c.full-2.ensures.rule c.requires.states h.search way.1 h.here (omega arith) (h.first letter (omega arith)) (h.second letter (omega arith))
     (uneven (slice_index c.steps-firsts.result letter) (slice_index c.steps-seconds.result letter) c.if-s-t.true))
 
 pub loop-letter-preserved : goal.loop-letter-preserved
 loop-letter-preserved c =
-    let h = c.loop-letter.invariant in
+    let h = c.loop-letter.invariant.search in
     let letter = c.loop-letter.letter in
     let old = c.loop-letter.joined in
     let new = c.join.new.self in
@@ -61,17 +67,22 @@ loop-letter-preserved c =
     let t = slice_index c.steps-seconds.result letter in
     let joins : IsJoin old new s (2 ^ node_count c.args.first.now + t) c.join.result = rw (c.from.ensures, c.from-in-loop-letter.ensures, c.count-below.ensures.count) at c.join.ensures in
     elim c.if-join.branch [
-      | then-join+in_ok-push-2 w ↦
-          rw (ap (λ v. v.items) w.links-is ∙ w.in_ok-push-2.ensures.items)
-          (IsLinkSearchAt-new h (omega arith) (even (nat_eq s 0) (nat_eq t 0) c.if-s-t.false) (subst (IsJoin old new s (2 ^ node_count c.args.first.now + t)) w.if-join.true joins))
-      | else-join w ↦ rw (ap (λ v. v.items) w.links-is) (IsLinkSearchAt-there h (omega arith) (subst (IsJoin old new s (2 ^ node_count c.args.first.now + t)) w.if-join.false joins))
+      | then-join w ↦ record {
+        search = rw (ap (λ v. v.items) w.links-is ∙ w.push_reserved-then-join.ensures.items)
+            (IsLinkSearchAt-new h (omega arith) (even (nat_eq s 0) (nat_eq t 0) c.if-s-t.false) (subst (IsJoin old new s (2 ^ node_count c.args.first.now + t)) w.if-join.true joins));
+        capacity = ap vec_capacity w.links-is ∙ w.push_reserved-then-join.ensures.capacity ∙ c.loop-letter.invariant.capacity;
+      }
+      | else-join w ↦ record {
+        search = rw (ap (λ v. v.items) w.links-is) (IsLinkSearchAt-there h (omega arith) (subst (IsJoin old new s (2 ^ node_count c.args.first.now + t)) w.if-join.false joins));
+        capacity = ap vec_capacity w.links-is ∙ c.loop-letter.invariant.capacity;
+      }
     ]
 
 pub loop-place-preserved : goal.loop-place-preserved
 loop-place-preserved c =
     let k = c.args.first.now.states in
     let all : c.loop-place.place * k + c.loop-letter.letter ≡ (c.loop-place.place + 1) * k = omega (arith, suc-mul c.loop-place.place k) in
-    subst (IsLinkSearch c.args.first.now c.args.second.now c.loop-letter.links.items c.loop-letter.joined) all c.loop-letter.invariant.search
+    record { search = subst (IsLinkSearch c.args.first.now c.args.second.now c.loop-letter.links.items c.loop-letter.joined) all c.loop-letter.invariant.search.search; capacity = c.loop-letter.invariant.capacity }
 
-pub returns : goal.returns
-returns c = HaveSameOrphans-closed c.full.ensures.rule c.full-2.ensures.rule c.requires c.loop-place.invariant (mul-le-mul_right c.args.first.now.states (omega arith))
+pub returns-clause-none : goal.returns-clause-none
+returns-clause-none c = λ _. HaveSameOrphans-closed c.full.ensures.rule c.full-2.ensures.rule c.requires.states c.loop-place.invariant.search (mul-le-mul_right c.args.first.now.states (omega arith))

@@ -4,18 +4,17 @@ use Rattle.search_laws.proofs.Common.{uncode, ArePairs-walk}
 use Rattle.tail_laws.proofs.Common.{IsLeastOf, IsFirstFound, IsTurn, IsFirstFound-next, IsLeastTurn, IsLeastOf-turn}
 use Rattle.inverse_window.proofs.TurnSteps.{IsFirstFound-later}
 use Rattle.inverse_window.proofs.twin_pairs.first_turn.Goals as goal
-use Rattle.inverse_window.proofs.twin_pairs.first_turn.Goals.{in_default, in-Some+in_ok-steps}
+use Rattle.inverse_window.proofs.twin_pairs.first_turn.Goals.{in_default, in-Some}
 
 pub loop-p-preserved : goal.loop-p-preserved
 loop-p-preserved c =
     let r : LocalRule = c.args.pairs.now in
     elim c.match-walk_within.branch [
-      | in-Some+in_ok-steps w ↦
+      | in-Some w ↦
           let turn : IsLeastTurn r c.loop-p.p (map (uncode 16) w.in-Some.turn.now) = rw c.count-count.ensures.count at w.in-Some.ensures.least in
-          let items = sym (w.in_ok-steps.ensures.items_if_clones_equal (λ x y e. e)) in
           subst (IsFirstFound (IsTurn r) (c.loop-p.p + 1)) (sym w.first-is)
-          (IsFirstFound-next (λ q w l e. ArePairs-walk 16 c.count-count.ensures.rule.shape.most_states e) c.loop-p.first w.in_ok-steps.steps.items w.earlier.result.items w.earlier.ensures c.loop-p.invariant
-          (subst (λ steps. IsLeastOf (IsTurn r) c.loop-p.p (map (uncode 16) steps)) items (IsLeastOf-turn c.count-count.ensures.rule turn)))
+          (IsFirstFound-next (λ q w l e. ArePairs-walk 16 c.count-count.ensures.rule.shape.most_states e) c.loop-p.first w.of.result w.earlier.result w.earlier.ensures c.loop-p.invariant
+          (subst (λ steps. IsLeastOf (IsTurn r) c.loop-p.p (map (uncode 16) steps)) (sym w.of.ensures) (IsLeastOf-turn c.count-count.ensures.rule turn)))
       | in_default w ↦
           let ends = c.count-count.ensures.count in
           subst (IsFirstFound (IsTurn r) (c.loop-p.p + 1)) (sym w.first-is)

@@ -14,13 +14,12 @@ loop-place-preserved c =
     let here = slice_get-get_or queue i (record { pair = 0; parent = 0; step = 0; depth = 0 }) c.loop-place.invariant.within in
     let earlier = c.requires.backward i x c.loop-place-test.true here in
     let place : c.from-place-in-loop-place.result ≡ x.parent = c.from-place-in-loop-place.ensures in
-    let longer = c.put.ensures.items in
+    let longer = c.push.ensures in
     let inv = c.loop-place.invariant in
     record {
-      room = omega (arith, inv.room, c.put.ensures.room);
       within = omega (arith, earlier, place, inv.within);
-      few = omega (arith, earlier, place, inv.few, ap length longer, length_push c.loop-place.steps.items x.step);
-      completes = λ w spells. SpellsBefore-parent queue c.args.place i x c.args.steps.now.items c.loop-place.steps.items c.put.new.list.items c.loop-place-test.true here longer inv.completes w
+      few = omega (arith, earlier, place, inv.few, ap length longer, length_push c.loop-place.steps x.step);
+      completes = λ w spells. SpellsBefore-parent queue c.args.place i x c.args.steps.now c.loop-place.steps c.push.new.self c.loop-place-test.true here longer inv.completes w
           (subst (λ p. TreeSpells (places_of queue) p w) place spells);
     }
 
@@ -28,5 +27,5 @@ pub returns-clause-spelled : goal.returns-clause-spelled
 returns-clause-spelled c =
     let queue = c.args.queue.now in
     let root : c.loop-place.place ≡ 0 = omega arith in
-    let back = c.reverse.ensures.items in
-    subst (SpellsBefore queue c.args.place c.args.steps.now.items) (sym back) (c.loop-place.invariant.completes [] (subst (λ i. TreeSpells (places_of queue) i []) (sym root) Root))
+    let back = c.reverse.ensures in
+    subst (SpellsBefore queue c.args.place c.args.steps.now) (sym back) (c.loop-place.invariant.completes [] (subst (λ i. TreeSpells (places_of queue) i []) (sym root) Root))

@@ -1,4 +1,4 @@
-use Rattle.std.proofs.Common.{ℕ, ◌+◌, ◌<◌, ◌≤◌, List, ◌++◌, length, reverse, vec_capacity}
+use Rattle.std.proofs.Common.{ℕ, ◌+◌, ◌<◌, ◌≤◌, List, ◌++◌, length, reverse}
 use Rattle.search_laws.proofs.Common.{TreeSpells}
 use Rattle.least_walk.specs.Queues.{places_of, SpellsBefore}
 use Rattle.least_walk.proofs.walker.spell.Given as goal
@@ -6,10 +6,9 @@ use Rattle.least_walk.proofs.walker.spell.Given as goal
 -- the steps so far, in reverse, complete each word that is spelled on the way to the place
 abbrev pub invariant-loop-place : goal.invariant-loop-place
 invariant-loop-place l = record {
-  room : 512 ≤ vec_capacity l.steps;
   within : l.place < length l.queue;
-  few : length l.steps.items + l.place ≤ 512;
-  completes : (w : List ℕ) → TreeSpells (places_of l.queue) l.place w → SpellsBefore l.queue l.fn.place l.initial.steps.items (w ++ reverse l.steps.items);
+  few : length l.steps + l.place ≤ 512;
+  completes : (w : List ℕ) → TreeSpells (places_of l.queue) l.place w → SpellsBefore l.queue l.fn.place l.initial.steps (w ++ reverse l.steps);
 }
 
 abbrev pub decreases-loop-place : goal.decreases-loop-place

@@ -12,6 +12,5 @@ IsLeastOrphan-verdict Orphan f h some = h.0
 
 pub returns : goal.returns
 returns c =
-    let word : c.of.result ≡ c.run_over.new.self.word = c.of.ensures ∙ c.in_ok-to_vec.ensures.items_if_clones_equal (λ x y e. e) ∙ c.word.ensures in
     let some : ¬ IsSurjective c.args.graph.now = λ every. false≢true (sym c.if-is_surjective.false ∙ c.is_surjective.ensures.surjective.1 every) in
-    subst (IsLeastOrphan c.args.graph.now) (sym word) (IsLeastOrphan-verdict c.run_over.result c.run_over.new.self c.run_over.ensures.verdict some)
+    subst (IsLeastOrphan c.args.graph.now) (sym (c.of.ensures ∙ c.word.ensures)) (IsLeastOrphan-verdict c.run_over.result c.run_over.new.self c.run_over.ensures.verdict some)

@@ -17,7 +17,7 @@ returns-clause-appended c =
     let r = c.args.rule.now in
     let begin = head (decimal r.states) (decimal r.width) (offset_text r.offset) (codes "t") in
     subst (λ t. IsAppended c.push_word.result c.args.self.now c.push_word.new.self (begin ++ word_text t)) c.table.ensures.table
-    (IsAppended-then c.push_word.result c.args.self.now c.push_word.new.self begin (word_text c.table.result.now) c.in_ok-push_head.ensures.appended.0 c.push_word.ensures)
+    (IsAppended-then c.push_word.result c.args.self.now c.push_word.new.self begin (word_text c.table.result.now) c.in_ok-push_head.ensures.appended.0 c.push_word.ensures.appended)
 
 pub returns-clause-few : goal.returns-clause-few
 returns-clause-few c room =
@@ -26,5 +26,5 @@ returns-clause-few c room =
     let begun = (c.in_ok-push_head.ensures.few (omega (arith, room))).1 in
     let letters : length (word_text c.table.result.now) ≤ 256 =
     omega (arith, length-map c.table.result.now lower_digit, ap length c.table.ensures.table, limits.entries, window_count-le r.states r.width r.offset limits.shape) in
-    let pushed = AppendsAtMost-appended 256 c.push_word.result c.push_head.new.self c.push_word.new.self (word_text c.table.result.now) c.push_word.ensures letters (omega (arith, begun, room)) in
+    let pushed = AppendsAtMost-appended 256 c.push_word.result c.push_head.new.self c.push_word.new.self (word_text c.table.result.now) c.push_word.ensures.appended letters (omega (arith, begun, room)) in
     (pushed.0, omega (arith, pushed.1, begun))

@@ -5,4 +5,4 @@ use Rattle.least_walk.proofs.tree.WalkTree.limited.Goals as goal
 
 pub index-places-requires : goal.index-places-requires
 index-places-requires c =
-    subst AreApart (sym c.deref.ensures.value) (AreApart-walking (ended c.search.result c.search.ensures.found c.search.ensures.none).walking)
+    subst AreApart (sym c.as_slice.ensures.items) (AreApart-walking (ended c.search.result c.search.ensures.found c.search.ensures.none).walking)

@@ -1,36 +1,35 @@
-use Rattle.std.proofs.Common.{◌≡◌, ℕ, ◌≤◌, List, length, get_or, Some, sym, ap, ◌∙◌, subst, subst₂, slice_get}
-use Rattle.word_image.proofs.Common.{get_or_from_slice_get, marked}
+use Rattle.std.proofs.Common.{◌≡◌, ℕ, ◌≤◌, List, length, Some, sym, ap, ap₂, ◌∙◌, subst, subst₂, slice_get}
+use Rattle.word_image.proofs.Common.{slice_get-unique, slice_get_within, marked}
 use Rattle.search_laws.proofs.Common.{PairWalk, IsLeastWalkTo}
-use Rattle.least_walk.specs.declared.queue.Reached.{Reached}
 use Rattle.least_walk.proofs.TreeLaws.{steps-place, no_walk-absent, no_walk-absent_all}
 use Rattle.least_walk.proofs.tree.WalkTree.steps_to.Goals as goal
 
-pub returns-in-None-clause-none : goal.returns-in-None-clause-none
-returns-in-None-clause-none c =
-    subst (λ s. (w : List (ℕ × ℕ)) → length w ≤ s.most → ¬ PairWalk (marked s.rule) s.rule.states s.start w c.args.to) c.self.view_is (no_walk-absent c.self.invariant (λ i x at. c.in-None.ensures.none i x (ap (λ q. slice_get q i) c.deref.ensures.value ∙ at)))
+pub returns-in_err-place-clause-none : goal.returns-in_err-place-clause-none
+returns-in_err-place-clause-none c =
+    rw c.from_residual.ensures
+    (subst (λ s. (w : List (ℕ × ℕ)) → length w ≤ s.source.most → ¬ PairWalk (marked s.source.rule) s.source.rule.states s.source.start w c.args.to) c.self.view_is
+    (no_walk-absent c.self.invariant (λ i x at. c.in_err-place.ensures.none i x (ap (λ q. slice_get q i) c.as_slice.ensures.items ∙ at))))
 
-pub returns-in-None-clause-all : goal.returns-in-None-clause-all
-returns-in-None-clause-all c =
-    subst (λ s. 512 ≤ s.most → (w : List (ℕ × ℕ)) → ¬ PairWalk (marked s.rule) s.rule.states s.start w c.args.to) c.self.view_is (no_walk-absent_all c.self.invariant (λ i x at. c.in-None.ensures.none i x (ap (λ q. slice_get q i) c.deref.ensures.value ∙ at)))
+pub returns-in_err-place-clause-all : goal.returns-in_err-place-clause-all
+returns-in_err-place-clause-all c =
+    rw c.from_residual.ensures
+    (subst (λ s. 512 ≤ s.source.most → (w : List (ℕ × ℕ)) → ¬ PairWalk (marked s.source.rule) s.source.rule.states s.source.start w c.args.to) c.self.view_is
+    (no_walk-absent_all c.self.invariant (λ i x at. c.in_err-place.ensures.none i x (ap (λ q. slice_get q i) c.as_slice.ensures.items ∙ at))))
 
--- what stands where the marked pair was found
-found_at : (queue : List Reached) (i j : ℕ) (x y : Reached) → slice_get queue i ≡ Some x → j ≡ i → y ≡ get_or queue j y → y ≡ x
-found_at queue i j x y at place is = is ∙ ap (λ n. get_or queue n y) place ∙ get_or_from_slice_get queue i x y at
+pub at-requires : goal.at-requires
+at-requires c =
+    let (x, at, same) = c.in_ok-place.ensures.found in
+    rw c.from.ensures (slice_get_within c.self.inside.queue c.in_ok-place.place x (sym (ap (λ q. slice_get q c.in_ok-place.place) c.as_slice.ensures.items) ∙ at))
 
-pub returns-in-Some-clause-steps : goal.returns-in-Some-clause-steps
-returns-in-Some-clause-steps c =
-    let (x, at, same) = c.in-Some.ensures.found in
-    let stands : slice_get c.self.inside.queue.items c.in-Some.place ≡ Some x = sym (ap (λ q. slice_get q c.in-Some.place) c.deref.ensures.value) ∙ at in
-    let depth : c.from-in-Some.result ≡ x.depth =
-    c.from-in-Some.ensures ∙ ap (λ (z : Reached). z.depth) (found_at c.self.inside.queue.items c.in-Some.place c.from.result x c.index.result.now stands c.from.ensures c.index.ensures) in
-    subst (λ s. (w : List (ℕ × ℕ)) × IsLeastWalkTo (marked s.rule) s.rule.states s.start c.args.to w × (length w ≡ c.from-in-Some.result)) c.self.view_is
-    (subst₂ (λ t n. (w : List (ℕ × ℕ)) × IsLeastWalkTo (marked c.self.inside.rule) c.self.inside.rule.states c.self.inside.start t w × (length w ≡ n)) same (sym depth)
-    (steps-place c.in-Some.place c.self.invariant x stands).0)
+pub returns-clause-steps : goal.returns-clause-steps
+returns-clause-steps c =
+    let (x, at, same) = c.in_ok-place.ensures.found in
+    let found : slice_get c.self.inside.queue c.from.result ≡ Some x = ap₂ slice_get (sym c.as_slice.ensures.items) c.from.ensures ∙ at in
+    let pair : c.at.result.pair ≡ c.args.to = ap (λ y. y.pair) (slice_get-unique c.self.inside.queue c.from.result c.at.result x c.at.ensures found) ∙ same in
+    subst (λ s. (w : List (ℕ × ℕ)) × IsLeastWalkTo (marked s.source.rule) s.source.rule.states s.source.start c.args.to w × (length w ≡ c.from-2.result)) c.self.view_is
+    (subst₂ (λ t n. (w : List (ℕ × ℕ)) × IsLeastWalkTo (marked c.self.inside.rule) c.self.inside.rule.states c.self.inside.start t w × (length w ≡ n)) pair (sym c.from-2.ensures)
+    (steps-place c.from.result c.self.invariant c.at.result c.at.ensures).0)
 
-pub returns-in-Some-clause-within : goal.returns-in-Some-clause-within
-returns-in-Some-clause-within c =
-    let (x, at, same) = c.in-Some.ensures.found in
-    let stands : slice_get c.self.inside.queue.items c.in-Some.place ≡ Some x = sym (ap (λ q. slice_get q c.in-Some.place) c.deref.ensures.value) ∙ at in
-    let depth : c.from-in-Some.result ≡ x.depth =
-    c.from-in-Some.ensures ∙ ap (λ (z : Reached). z.depth) (found_at c.self.inside.queue.items c.in-Some.place c.from.result x c.index.result.now stands c.from.ensures c.index.ensures) in
-    subst (λ s. c.from-in-Some.result ≤ s.most) c.self.view_is (subst (λ n. n ≤ c.self.inside.most) (sym depth) (steps-place c.in-Some.place c.self.invariant x stands).1)
+pub returns-clause-within : goal.returns-clause-within
+returns-clause-within c =
+    rw c.from-2.ensures (subst (λ s. c.at.result.depth ≤ s.source.most) c.self.view_is (steps-place c.from.result c.self.invariant c.at.result c.at.ensures).1)

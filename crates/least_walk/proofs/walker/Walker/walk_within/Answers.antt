@@ -8,19 +8,19 @@ use Rattle.least_walk.proofs.walker.Walker.walk_within.Goals as goal
 pub spell-requires-clause-most : goal.spell-requires-clause-most
 spell-requires-clause-most c =
     let found = c.in-Some.ensures.found in
-    let alone : c.put.new.list.items ≡ c.in-Some.arrival.step ∷ [] = c.put.ensures.items ∙ ap (λ s. s ++ c.in-Some.arrival.step ∷ []) c.clear.ensures.items in
-    omega (arith, ap length alone, slice_get_within c.search.new.queue.items c.in-Some.arrival.place found.from found.stands, length-walking-le found.walking)
+    let alone : c.push.new.self ≡ c.in-Some.arrival.step ∷ [] = c.push.ensures ∙ ap (λ s. s ++ c.in-Some.arrival.step ∷ []) c.clear.ensures in
+    omega (arith, ap length alone, slice_get_within c.search.new.queue c.in-Some.arrival.place found.from found.stands, length-walking-le found.walking)
 
 pub spell-requires-clause-backward : goal.spell-requires-clause-backward
-spell-requires-clause-backward c = subst IsBackward (sym c.deref.ensures.value) (IsBackward-walking c.in-Some.ensures.found.walking)
+spell-requires-clause-backward c = subst IsBackward (sym c.as_slice.ensures.items) (IsBackward-walking c.in-Some.ensures.found.walking)
 
 pub returns-in-Some : goal.returns-in-Some
 returns-in-Some c =
     let found = c.in-Some.ensures.found in
-    let alone : c.put.new.list.items ≡ c.in-Some.arrival.step ∷ [] = c.put.ensures.items ∙ ap (λ s. s ++ c.in-Some.arrival.step ∷ []) c.clear.ensures.items in
-    let spelled : SpellsBefore c.search.new.queue.items c.in-Some.arrival.place (c.in-Some.arrival.step ∷ []) c.spell.new.steps.items =
-    subst₂ (λ q old. SpellsBefore q c.in-Some.arrival.place old c.spell.new.steps.items) c.deref.ensures.value alone c.spell.ensures.spelled in
-    let steps = c.deref-in-Some.ensures.value in
+    let alone : c.push.new.self ≡ c.in-Some.arrival.step ∷ [] = c.push.ensures ∙ ap (λ s. s ++ c.in-Some.arrival.step ∷ []) c.clear.ensures in
+    let spelled : SpellsBefore c.search.new.queue c.in-Some.arrival.place (c.in-Some.arrival.step ∷ []) c.spell.new.steps =
+    subst₂ (λ q old. SpellsBefore q c.in-Some.arrival.place old c.spell.new.steps) c.as_slice.ensures.items alone c.spell.ensures.spelled in
+    let steps = c.as_slice-in-Some.ensures.letters in
     record {
       least = subst (λ w. IsLeastWalk (marked c.args.pairs.now) c.args.pairs.now.states c.args.from c.args.to (map (uncode 16) w)) (sym steps) (IsLeastWalk-arrival found refl spelled);
       within = omega (arith, ap length steps, length-arrival found c.in-Some.ensures.near spelled);

@@ -1,0 +1,108 @@
+use Rattle.std.proofs.Common.{ℕ, ◌<◌, ◌≤◌, List, ◌∙◌, rules, IsBitSet, w64}
+use Rattle.std.proofs.lemmas.Int.{to_z-of_z}
+use Rattle.word_image.proofs.Common.{repeat, LocalRule, node_count, IsNodeSet, HasBit, IsBitSet-zero, IsSetOf-same}
+use Rattle.pair_laws.proofs.Common.{IsBitSet-below}
+use Rattle.tail_config.proofs.Common.{TailConfig, IsTail}
+use Rattle.tail_preimage.specs.Walks.{HasWalk}
+use Rattle.tail_preimage.specs.Preimages.{Shape}
+use Rattle.tail_preimage.specs.Relations.{Steps, IsFirst}
+use Rattle.tail_preimage.specs.Parts.{AreTailParts, Starts, IsPossible, shape_of}
+use Rattle.tail_preimage.specs.FirstWalks.{AreLoopWalks, AreFirstWalks}
+use Rattle.tail_preimage.specs.declared.shapes.PartRelations.{PartRelations}
+use Rattle.tail_preimage.proofs.laws.Walks.{IsWalk-last}
+use Rattle.tail_preimage.proofs.laws.Stretches.{IsWord-stretch}
+use Rattle.tail_preimage.proofs.laws.Parts.{Steps-repeat, Starts-walks, walks-IsPossible}
+use Rattle.tail_preimage.proofs.laws.LeastPreimages.{IsFrom-first}
+use Rattle.tail_preimage.proofs.laws.Answers.{Starts-least}
+use Rattle.tail_preimage.proofs.room.PreimageRoom.first_placed.Goals as goal
+use Rattle.tail_preimage.proofs.room.PreimageRoom.first_placed.Goals.{After-left, After-least_node-start}
+
+pub least_node-start-requires : goal.least_node-start-requires
+least_node-start-requires c =
+    let possible = c.requires.shape.possible in
+    λ none. IsBitSet-zero possible.node (rw none at ((c.starts.ensures.nodes possible.node possible.below).1 possible.starts))
+
+-- the start: a least node from which three walks lead
+record IsStart (r : LocalRule) (t : TailConfig) (s : Shape) (u : ℕ) : Type 0 where
+  below : u < node_count r
+  end : ℕ
+  left : List ℕ
+  middle : List ℕ
+  right : List ℕ
+  walks : AreLoopWalks r t s u end left middle right
+  least : (v q : ℕ) (a b c : List ℕ) → AreLoopWalks r t s v q a b c → u ≤ v
+
+start_node : {r : LocalRule} {t : TailConfig} {parts : PartRelations} {s : Shape} {set u : ℕ} → AreTailParts r t parts → IsPossible r parts s → IsNodeSet r (Starts r parts s) set → IsFirst (IsBitSet set) u → IsStart r t s u
+start_node {r} {set = set} {u = u} h possible starts least =
+    let below = IsBitSet-below (node_count r) set u starts.within least.holds in
+    let (w, x, y, z, walks) = Starts-walks h possible.back_some possible.on_some below ((starts.nodes u below).0 least.holds) in
+    record { below = below; end = w; left = x; middle = y; right = z; walks = walks; least = Starts-least h starts least }
+
+-- the nodes with a loop of right periods
+loop_nodes : {r : LocalRule} {t : TailConfig} {parts : PartRelations} {set : ℕ} → AreTailParts r t parts → (on : ℕ) → IsNodeSet r (λ u. Steps (HasBit parts.right.period) on u u) set → IsNodeSet r (λ u. HasWalk r (repeat on t.right) u u) set
+loop_nodes h on = IsSetOf-same (λ u. Steps-repeat h.rule h.right on u u)
+
+-- the configuration is one over the letters of the rule
+is_tail : (c : After-left) → IsTail c.args.graph.now.states c.args.tail.now.config
+is_tail c = rw c.requires.one_k c.left.ensures.tail.short.tail
+
+-- the node at which the middle begins is a start
+start : (c : After-least_node-start) → IsStart c.args.graph.now c.args.tail.now.config (shape_of c.args.spans) c.least_node-start.result
+start c = start_node c.requires.parts c.requires.shape.possible c.starts.ensures c.least_node-start.ensures
+
+pub first_loop-requires-clause-word : goal.first_loop-requires-clause-word
+first_loop-requires-clause-word c = rw c.left.ensures.left (is_tail (goal.at.first_loop-requires-clause-word c).After-left).left_word
+
+pub first_loop-requires-clause-node : goal.first_loop-requires-clause-node
+first_loop-requires-clause-node c = (start (goal.at.first_loop-requires-clause-node c).After-least_node-start).below
+
+pub first_loop-requires-clause-turn : goal.first_loop-requires-clause-turn
+first_loop-requires-clause-turn c = let from = start (goal.at.first_loop-requires-clause-turn c).After-least_node-start in rw c.left.ensures.left (from.left, from.walks.left)
+
+pub least_walk-end-requires-clause-start : goal.least_walk-end-requires-clause-start
+least_walk-end-requires-clause-start c = (start (goal.at.least_walk-end-requires-clause-start c).After-least_node-start).below
+
+pub least_walk-end-requires-clause-word : goal.least_walk-end-requires-clause-word
+least_walk-end-requires-clause-word c = rw c.set_stretch.ensures.word (IsWord-stretch (is_tail (goal.at.least_walk-end-requires-clause-word c).After-left) c.args.spans.before c.args.spans.after)
+
+pub least_walk-end-requires-clause-reach : goal.least_walk-end-requires-clause-reach
+least_walk-end-requires-clause-reach c =
+    let from = start (goal.at.least_walk-end-requires-clause-reach c).After-least_node-start in
+    let loops = loop_nodes c.requires.parts c.args.spans.on c.loops-turns.ensures in
+    (from.end, (loops.nodes from.end (IsWalk-last from.walks.middle)).1 (from.right, from.walks.right), rw c.set_stretch.ensures.word (from.middle, from.walks.middle))
+
+pub first_loop-requires-2-clause-word : goal.first_loop-requires-2-clause-word
+first_loop-requires-2-clause-word c = rw c.right.ensures.right (is_tail (goal.at.first_loop-requires-2-clause-word c).After-left).right_word
+
+pub first_loop-requires-2-clause-node : goal.first_loop-requires-2-clause-node
+first_loop-requires-2-clause-node c = IsWalk-last c.least_walk-end.ensures.walk.walk
+
+pub first_loop-requires-2-clause-turn : goal.first_loop-requires-2-clause-turn
+first_loop-requires-2-clause-turn c =
+    let found = c.least_walk-end.ensures.walk in
+    let loops = loop_nodes c.requires.parts c.args.spans.on c.loops-turns.ensures in
+    rw c.right.ensures.right ((loops.nodes c.least_walk-end.result (IsWalk-last found.walk)).0 found.within)
+
+pub returns : goal.returns
+returns c =
+    let r = c.args.graph.now in
+    let t = c.args.tail.now.config in
+    let s : Shape = shape_of c.args.spans in
+    let h = c.requires.parts in
+    let x = c.first_loop.new.walk.items in
+    let y = c.least_walk-end.new.walk.items in
+    let z = c.first_loop-2.new.walk.items in
+    let possible = c.requires.shape.possible in
+    let walks : AreFirstWalks r t s c.least_node-start.result c.least_walk-end.result x y z = record {
+      back_some = possible.back_some;
+      on_some = possible.on_some;
+      start = (start (goal.at.returns c).After-least_node-start).least;
+      left = rw c.left.ensures.left at c.first_loop.ensures.walk;
+      turns = c.loops-turns.result;
+      turning = loop_nodes h s.on c.loops-turns.ensures;
+      middle = rw c.set_stretch.ensures.word at c.least_walk-end.ensures.walk;
+      right = rw c.right.ensures.right at c.first_loop-2.ensures.walk;
+    } in
+    let first = IsFrom-first h.rule (is_tail (goal.at.returns c).After-left) c.requires.shape.small (λ v n q a b d other. c.requires.shape.least v (walks-IsPossible h other)) walks in
+    let place = to_z-of_z w64 c.place_of.result (search rules) ∙ c.place_of.ensures in
+    rw (place, c.without_node.ensures, c.without_node-2.ensures, c.without_node-3.ensures, c.deref.ensures.value, c.deref-2.ensures.value, c.deref-3.ensures.value) first
