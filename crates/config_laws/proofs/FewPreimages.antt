@@ -1,34 +1,31 @@
 -- Under a surjective rule no more configurations than there are nodes have one image (Hedlund 1969).
-use Rattle.std.proofs.Common.{◌≡◌, ◌≢◌, ◌⊎◌, ℕ, suc, ◌+◌, ◌-◌, ◌<◌, ◌≤◌, ◌↔◌, inl, inr, ⊎_elim, ℤ, pos, ◌+ℤ◌, ◌-ℤ◌, neg_ℤ, unsigned_abs, sym, ap, ◌∙◌, subst, arith}
-use Rattle.word_image.proofs.Common.{cases_lt, ints, LocalRule, IsRule, node_count, IsPreimage, IsSurjective, twice_below}
+use Rattle.std.proofs.Common.{◌≡◌, ◌≢◌, ℕ, zero, suc, ◌+◌, ◌-◌, ◌<◌, ◌≤◌, ◌↔◌, ⊎_elim, ℤ, pos, ◌+ℤ◌, ◌-ℤ◌, neg_ℤ, unsigned_abs, sym, ap, ◌∙◌, subst, arith}
+use Rattle.word_image.proofs.Common.{cases_eq, ints, LocalRule, IsRule, node_count, IsPreimage, IsSurjective, twice_below}
 use Rattle.garden_laws.specs.Preimages.{HasPreimages}
 use Rattle.garden_laws.proofs.Balance.{IsSurjective-IsBalanced}
 use Rattle.tail_config.proofs.Common.{Config, run, image_of, IsWord-run, same-run}
 use Rattle.config_laws.specs.Maps.{Differ, AreMany}
 use Rattle.config_laws.proofs.Images.{IsConfig-image, IsPreimage-run}
-use Rattle.config_laws.proofs.FiniteSums.{greatest}
 use Rattle.config_laws.proofs.Exchange.{IsSurjective-few}
 
--- two of the configurations, if they are two of those that differ
-abbrev Pair : (ℕ → Config) → ℕ → ℕ → ℕ → Type 0
-Pair xs n i j = Differ (xs i) (xs j) ⊎ ¬ ((i < j) × (j ≤ n))
+-- what holds of each number below k from some bound on holds of all of them from one bound on
+common : (Q : ℕ → ℕ → Type 0) (k : ℕ) → ((a : ℕ) → a < k → (n : ℕ) × ((b : ℕ) → n ≤ b → Q a b)) → (n : ℕ) × ((b : ℕ) → n ≤ b → (a : ℕ) → a < k → Q a b)
+common Q zero each = (0, λ b h a l. absurd (omega arith))
+common Q (suc k) each =
+    let (m, rest) = common Q k (λ a l. each a (omega arith)) in
+    let (n, last) = each k (omega arith) in
+    (m + n, λ b h a l. ⊎_elim (λ e. subst (λ x. Q x b) (sym e) (last b (omega arith))) (λ other. rest b (omega arith) a (omega arith)) (cases_eq a k))
 
-pair : (xs : ℕ → Config) (n : ℕ) → ((i j : ℕ) → i < j → j ≤ n → Differ (xs i) (xs j)) → (i j : ℕ) → Pair xs n i j
-pair xs n differ i j =
-    ⊎_elim (λ l. ⊎_elim (λ h. inl (differ i j l (omega arith))) (λ h. inr (λ both. absurd (omega (arith, both.1)))) (cases_lt j (suc n))) (λ l. inr (λ both. absurd (omega (arith, both.0)))) (cases_lt i j)
+-- the runs from -b on differ
+abbrev RunsDiffer : Config → Config → ℕ → Type 0
+RunsDiffer x y b = (l : ℕ) → b + b < l → run x (neg_ℤ (pos b)) l ≢ run y (neg_ℤ (pos b)) l
 
--- how far out two configurations differ
-abbrev far : {x y : Config} {P : Type 0} → Differ x y ⊎ P → ℕ
-far (inl d) = unsigned_abs d.0
-far (inr p) = 0
-
--- if runs from -b on are equal that reach beyond b, they don't differ as near as b
-not_near : (xs : ℕ → Config) (n i j : ℕ) (h : Pair xs n i j) (b l : ℕ) → far h ≤ b → b + b < l → i < j → j ≤ n → run (xs i) (neg_ℤ (pos b)) l ≢ run (xs j) (neg_ℤ (pos b)) l
-not_near xs n i j (inr none) b l near long first second same = none (first, second)
-not_near xs n i j (inl d) b l near long first second same =
+-- configurations that differ have runs that do, if these reach far enough
+runs_differ : (x y : Config) (d : Differ x y) (b : ℕ) → unsigned_abs d.0 ≤ b → RunsDiffer x y b
+runs_differ x y d b near l long same =
     let s : ℤ = neg_ℤ (pos b) in
     let here : s +ℤ pos (unsigned_abs (d.0 -ℤ s)) ≡ d.0 = omega (arith, ints) in
-    d.1 (sym (ap (xs i) here) ∙ same-run (xs i) (xs j) s s l same (unsigned_abs (d.0 -ℤ s)) (omega (arith, ints)) ∙ ap (xs j) here)
+    d.1 (sym (ap x here) ∙ same-run x y s s l same (unsigned_abs (d.0 -ℤ s)) (omega (arith, ints)) ∙ ap y here)
 
 -- the preimages of a word are numbered, so of more configurations than nodes two have one run
 two_alike : {r : LocalRule} {xs : ℕ → Config} → IsRule r → IsSurjective r → AreMany r (node_count r) xs → (s : ℤ) (l : ℕ)
@@ -49,22 +46,11 @@ two_alike {r} {xs} rule every many s l =
 
 -- under a surjective rule no more configurations than there are nodes have one image
 pub not_many : {r : LocalRule} → IsRule r → IsSurjective r → (xs : ℕ → Config) → ¬ AreMany r (node_count r) xs
-not_many {r} rule every xs many = near (two_alike rule every many (neg_ℤ (pos bound)) (bound + bound + 1))
-  where
-    at : (i j : ℕ) → Pair xs (node_count r) i j
-    at = pair xs (node_count r) many.differ
-
-    farthest : ℕ → ℕ
-    farthest i = far (at i (greatest (λ j. far (at i j)) (node_count r)).0)
-
-    bound : ℕ
-    bound = farthest (greatest farthest (node_count r)).0
-
-    near : ¬ ((i : ℕ) × (j : ℕ) × (i < j) × (j ≤ node_count r) × (run (xs i) (neg_ℤ (pos bound)) (bound + bound + 1 + (r.width - 1)) ≡ run (xs j) (neg_ℤ (pos bound)) (bound + bound + 1 + (r.width - 1))))
-    near (i, j, order, below, same) =
-        not_near xs (node_count r) i j (at i j) bound (bound + bound + 1 + (r.width - 1))
-        (omega (arith, (greatest (λ j. far (at i j)) (node_count r)).2 j (omega arith), (greatest farthest (node_count r)).2 i (omega arith)))
-        (omega arith) order below same
+not_many {r} rule every xs many =
+    let (bound, apart) = common (λ j b. (i : ℕ) → i < j → RunsDiffer (xs i) (xs j) b) (suc (node_count r)) (λ j most.
+    common (λ i b. RunsDiffer (xs i) (xs j) b) j (λ i less. let d = many.differ i j less (omega arith) in (unsigned_abs d.0, runs_differ (xs i) (xs j) d))) in
+    let (i, j, order, below, same) = two_alike rule every many (neg_ℤ (pos bound)) (bound + bound + 1) in
+    apart bound (omega arith) j (omega arith) i order (bound + bound + 1 + (r.width - 1)) (omega arith) same
 
 -- a rule is surjective exactly if no more configurations than nodes have one image
 pub IsSurjective-few_to_one : {r : LocalRule} → IsRule r → IsSurjective r ↔ ((xs : ℕ → Config) → ¬ AreMany r (node_count r) xs)

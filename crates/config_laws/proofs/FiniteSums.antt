@@ -128,22 +128,14 @@ sum_by-one f [] e = absurd (omega arith)
 sum_by-one f (a ∷ []) e = omega arith
 sum_by-one f (a ∷ b ∷ w) e = absurd (omega arith)
 
--- of numbers below k one is greatest, and one is least
-pub greatest : (f : ℕ → ℕ) (k : ℕ) → (a : ℕ) × (a < suc k) × ((b : ℕ) → b < suc k → f b ≤ f a)
+-- of numbers below k one is greatest
+greatest : (f : ℕ → ℕ) (k : ℕ) → (a : ℕ) × (a < suc k) × ((b : ℕ) → b < suc k → f b ≤ f a)
 greatest f zero = (0, omega arith, λ b l. let e : b ≡ 0 = omega arith in omega (arith, ap f e))
 greatest f (suc k) =
     let (a, below, most) = greatest f k in
     ⊎_elim (λ more. (suc k, omega arith, λ b l. ⊎_elim (λ g. omega (arith, most b g)) (λ g. let e : b ≡ suc k = omega arith in omega (arith, ap f e)) (cases_lt b (suc k))))
     (λ not_more. (a, omega arith, λ b l. ⊎_elim (λ g. most b g) (λ g. let e : b ≡ suc k = omega arith in omega (arith, ap f e)) (cases_lt b (suc k))))
     (cases_lt (f a) (f (suc k)))
-
-least : (f : ℕ → ℕ) (k : ℕ) → (a : ℕ) × (a < suc k) × ((b : ℕ) → b < suc k → f a ≤ f b)
-least f zero = (0, omega arith, λ b l. let e : b ≡ 0 = omega arith in omega (arith, ap f e))
-least f (suc k) =
-    let (a, below, most) = least f k in
-    ⊎_elim (λ less. (suc k, omega arith, λ b l. ⊎_elim (λ g. omega (arith, most b g)) (λ g. let e : b ≡ suc k = omega arith in omega (arith, ap f e)) (cases_lt b (suc k))))
-    (λ not_less. (a, omega arith, λ b l. ⊎_elim (λ g. most b g) (λ g. let e : b ≡ suc k = omega arith in omega (arith, ap f e)) (cases_lt b (suc k))))
-    (cases_lt (f (suc k)) (f a))
 
 -- a ring of one letter becomes one of one letter, which weighs more by what one window of zeros gains
 letter_gain : {r : LocalRule} → IsRule r → (weight : ℕ → ℕ) → KeepsFiniteChanges weight r → (a : ℕ) → a < r.states
@@ -155,7 +147,6 @@ letter_gain {r} rule weight keeps a below =
     let long : length q ≡ 1 = length-map-range_with_len (λ i. local_map r (ring_letters p (pos i +ℤ r.offset) r.width)) 0 (length p) ∙ omega arith in
     let gains = gain-zeros rule weight keeps ring in
     let one : length p ≡ 1 = omega arith in
-    let gained : zeros_gain weight r (length p) ≡ zeros_gain weight r 1 = ap (zeros_gain weight r) one in
     let old : sum_by weight p ≡ weight a = omega arith in
     let new : sum_by weight q ≡ weight (get_or q 0 0) = sum_by-one weight q long in
     (get_or q 0 0, IsWord-ring_image rule p 0 0 (omega arith), omega (arith, ints))
@@ -164,12 +155,11 @@ letter_gain {r} rule weight keeps a below =
 zeros_gain-one : {r : LocalRule} → IsRule r → (weight : ℕ → ℕ) → KeepsFiniteChanges weight r → zeros_gain weight r 1 ≡ pos 0
 zeros_gain-one {r} rule weight keeps =
     let k : ℕ = r.states - 1 in
-    let all : suc k ≡ r.states = omega (arith, rule.shape.least_states) in
     let most = greatest weight k in
-    let fewest = least weight k in
+    let fewest = greatest (λ a. weight most.0 - weight a) k in
     let up = letter_gain rule weight keeps most.0 (omega (arith, most.1)) in
     let down = letter_gain rule weight keeps fewest.0 (omega (arith, fewest.1)) in
-    omega (arith, ints, up.2, down.2, most.2 up.0 (omega (arith, up.1)), fewest.2 down.0 (omega (arith, down.1)))
+    omega (arith, ints, up.2, down.2, most.2 up.0 (omega (arith, up.1)), most.2 down.0 (omega (arith, down.1)), most.2 fewest.0 fewest.1, fewest.2 down.0 (omega (arith, down.1)))
 
 -- windows of zeros gain nothing, however many they are
 zeros_gain-none : {r : LocalRule} → IsRule r → (weight : ℕ → ℕ) → KeepsFiniteChanges weight r → (n : ℕ) → zeros_gain weight r n ≡ pos 0

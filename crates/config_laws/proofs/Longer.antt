@@ -83,16 +83,13 @@ inserted-injective {r} {n} rule ahead l enough x y a b hx hy long_x long_y ha hb
     )
 
 -- a word of l + m - 1 letters that begins with z, and a letter
-record IsState (r : LocalRule) (l : ℕ) (z x : List ℕ) (b : ℕ) : Type 0 where
+record State (r : LocalRule) (l : ℕ) (z : List ℕ) : Type 0 where
+  x : List ℕ
+  b : ℕ
   word : IsWord r.states x
   long : length x ≡ l + (r.width - 1)
   front : take (r.width - 1) x ≡ z
   letter : b < r.states
-
-record State (r : LocalRule) (l : ℕ) (z : List ℕ) : Type 0 where
-  x : List ℕ
-  b : ℕ
-  is : IsState r l z x b
 
 -- what a state says: the image of its word, and then its letter
 abbrev said : {r : LocalRule} {l : ℕ} {z : List ℕ} → State r l z → List ℕ
@@ -101,8 +98,8 @@ said {r} s = image r s.x ++ s.b ∷ []
 -- the word's image followed by the letter is a word of l + 1 letters
 IsWord-said : {r : LocalRule} {l : ℕ} {z : List ℕ} → IsRule r → (s : State r l z) → IsWord r.states (said s) × (length (said s) ≡ suc l)
 IsWord-said {r} {l} rule s = (
-  All-push (λ a. a < r.states) (image r s.x) s.b (IsWord-image rule s.x) s.is.letter,
-  omega (arith, length_push (image r s.x) s.b, length-image r s.x, s.is.long),
+  All-push (λ a. a < r.states) (image r s.x) s.b (IsWord-image rule s.x) s.letter,
+  omega (arith, length_push (image r s.x) s.b, length-image r s.x, s.long),
 )
 
 -- the letter is put in, and the word read anew
@@ -110,19 +107,17 @@ next_state : {r : LocalRule} {l : ℕ} {z : List ℕ} → IsRule r → (s : Stat
 next_state {r} {l} {z} rule s =
     let d : ℕ = r.width - 1 in
     let u : List ℕ = inserted r s.b s.x in
-    let in_u : IsInserted r l s.b s.x = IsInserted-word l s.b s.x s.is.letter s.is.word s.is.long in
+    let in_u : IsInserted r l s.b s.x = IsInserted-word l s.b s.x s.letter s.word s.long in
     let long : length (image r u) ≡ suc l = omega (arith, length-image r u, in_u.long) in
     let back : l + d - d ≡ l = omega arith in
     let all : l + 1 ≡ suc l = omega arith in (
       record {
         x = take (l + d) u;
         b = get_or (image r u) l 0;
-        is = record {
-          word = All-take (λ a. a < r.states) (l + d) u in_u.word;
-          long = length-take-le (l + d) u (omega (arith, in_u.long));
-          front = take-take d (l + d) u (omega arith) ∙ in_u.front ∙ s.is.front;
-          letter = IsWord-image rule u l 0 (omega arith);
-        };
+        word = All-take (λ a. a < r.states) (l + d) u in_u.word;
+        long = length-take-le (l + d) u (omega (arith, in_u.long));
+        front = take-take d (l + d) u (omega arith) ∙ in_u.front ∙ s.front;
+        letter = IsWord-image rule u l 0 (omega arith);
       },
       ap (λ w. w ++ get_or (image r u) l 0 ∷ []) (image-take rule (l + d) u ∙ ap (λ i. take i (image r u)) back)
           ∙ sym (take_more (image r u) l 0 (omega arith)) ∙ ap (λ i. take i (image r u)) all ∙ take_all (suc l) (image r u) (omega arith),
@@ -142,7 +137,7 @@ said-back {r} {n} {l} rule ahead enough s (suc i) e same =
     let b : State r l _ = states rule s (i + e) in
     let on : suc i + e ≡ suc (i + e) = omega arith in
     let next : said (states rule s (suc i)) ≡ said (states rule s (suc (i + e))) = same ∙ ap (λ j. said (states rule s j)) on in
-    let parts = inserted-injective rule ahead l enough a.x b.x a.b b.b a.is.word b.is.word a.is.long b.is.long a.is.letter b.is.letter (a.is.front ∙ sym b.is.front)
+    let parts = inserted-injective rule ahead l enough a.x b.x a.b b.b a.word b.word a.long b.long a.letter b.letter (a.front ∙ sym b.front)
     (sym (next_state rule a).1 ∙ next ∙ (next_state rule b).1) in
     said-back rule ahead enough s i e (ap₂ (λ (w : List ℕ) (c : ℕ). w ++ c ∷ []) parts.0 parts.1)
 
@@ -168,17 +163,17 @@ comes_back {r} {n} {l} {z} rule ahead enough s =
 -- what the next state says has a preimage that begins with z
 state_preimage : {r : LocalRule} {l : ℕ} {z : List ℕ} → (rule : IsRule r) (s : State r l z) (v : List ℕ) → v ≡ said (next_state rule s).0 → (y : List ℕ) × IsPreimage r v y × (take (r.width - 1) y ≡ z)
 state_preimage {r} {l} {z} rule s v e =
-    let in_s : IsInserted r l s.b s.x = IsInserted-word l s.b s.x s.is.letter s.is.word s.is.long in
+    let in_s : IsInserted r l s.b s.x = IsInserted-word l s.b s.x s.letter s.word s.long in
     let long : length v ≡ suc l = ap length e ∙ (IsWord-said rule (next_state rule s).0).1 in (
       inserted r s.b s.x,
       record { word = in_s.word; long = in_s.long ∙ ap (λ j. j + (r.width - 1)) (sym long); maps = sym (next_state rule s).1 ∙ sym e },
-      in_s.front ∙ s.is.front,
+      in_s.front ∙ s.front,
     )
 
 -- a word that is longer by a letter has a preimage that begins as one of the word, if the word has letters enough
 pub longer_preimage : {r : LocalRule} {n : ℕ} {w x : List ℕ} → IsRule r → IsRightAhead r n → r.width - 1 + n ≤ length w + 1 → IsPreimage r w x → (b : ℕ) → b < r.states
     → (y : List ℕ) × IsPreimage r (w ++ b ∷ []) y × (take (r.width - 1) y ≡ take (r.width - 1) x)
 longer_preimage {r} {n} {w} {x} rule ahead enough p b hb =
-    let s : State r (length w) (take (r.width - 1) x) = record { x = x; b = b; is = record { word = p.word; long = p.long; front = refl; letter = hb } } in
+    let s : State r (length w) (take (r.width - 1) x) = record { x = x; b = b; word = p.word; long = p.long; front = refl; letter = hb } in
     let (e, back) = comes_back rule ahead enough s in
     state_preimage rule (states rule s e) (w ++ b ∷ []) (ap (λ v. v ++ b ∷ []) (sym p.maps) ∙ back)

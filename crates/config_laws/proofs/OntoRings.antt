@@ -62,30 +62,20 @@ periodic_preimage {r} {y} {p} rule every hy period =
       image = image_of-rounds at.loop (HasPeriod-times at.turns at.some period);
     }
 
--- a ring whose image is q, written as many times as there are nodes at most
-pub record RingOver (r : LocalRule) (q : List ℕ) : Type 0 where
-  pub turns : ℕ
-  pub p : List ℕ
-  pub some : 1 ≤ turns
-  pub few : turns ≤ node_count r
-  pub ring : IsRing r.states p
-  pub long : length p ≡ turns * length q
-  pub image : ring_image r p ≡ repeat turns q
-
 -- under a surjective rule each ring, written a few times, is the image of a ring
-pub ring_over : {r : LocalRule} {q : List ℕ} → IsRule r → IsSurjective r → IsRing r.states q → RingOver r q
+pub ring_over : {r : LocalRule} {q : List ℕ} → IsRule r → IsSurjective r → IsRing r.states q
+    → (l : ℕ) × (p : List ℕ) × (1 ≤ l) × (l ≤ node_count r) × IsRing r.states p × (length p ≡ l * length q) × (ring_image r p ≡ repeat l q)
 ring_over {r} {q} rule every ring =
     let w : PeriodicPreimage r (ring_letter q) (length q) = periodic_preimage rule every (ring_letter-below ring) (HasPeriod-ring q ring.some) in
-    let n : ℕ = w.turns * length q in
-    record {
-      turns = w.turns;
-      p = run w.x (pos 0) n;
-      some = w.some;
-      few = w.few;
-      ring = IsRing-run w.config w.period.some (pos 0);
-      long = length-run w.x (pos 0) n;
-      image = ring_image-run r w.period ∙ ap (λ (y : Config). run y (pos 0) n) w.image ∙ run-repeat q ring.some w.turns;
-    }
+    let n : ℕ = w.turns * length q in (
+      w.turns,
+      run w.x (pos 0) n,
+      w.some,
+      w.few,
+      IsRing-run w.config w.period.some (pos 0),
+      length-run w.x (pos 0) n,
+      ring_image-run r w.period ∙ ap (λ (y : Config). run y (pos 0) n) w.image ∙ run-repeat q ring.some w.turns,
+    )
 
 -- a rule is surjective if the configuration of each ring is an image
 IsSurjective-ring_configs : {r : LocalRule} → IsRule r → ((q : List ℕ) → IsRing r.states q → (x : Config) × IsConfig r.states x × (image_of r x ≡ ring_letter q)) → IsSurjective r
@@ -97,7 +87,7 @@ IsSurjective-ring_configs {r} rule onto (a ∷ w) hw =
 -- a rule is surjective exactly if each ring, written a number of times, is the image of a ring
 pub IsSurjective-rings : {r : LocalRule} → IsRule r → IsSurjective r ↔ IsOntoRings r
 IsSurjective-rings {r} rule = (
-  λ every q ring. let h : RingOver r q = ring_over rule every ring in (h.turns, h.p, h.some, h.ring, h.image),
+  λ every q ring. let (l, p, some, few, over, long, image) = ring_over rule every ring in (l, p, some, over, image),
   λ onto. IsSurjective-ring_configs rule (λ q ring.
       let (l, p, some, over, image) = onto q ring in (
         ring_letter p,

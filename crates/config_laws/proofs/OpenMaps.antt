@@ -67,7 +67,6 @@ no_split {r} rule open_map tx ty split =
     let near_x = open_map x n hx in
     let near_y = open_map y n hy in
     let M : ℕ = near_x.0 + near_y.0 + unsigned_abs i + l + 1 in
-    let at : i +ℤ r.offset ≡ s = omega (arith, ints) in
     let first = IsBranch-near rule hx n near_x.0 near_x.1 i l M (omega (arith, ints)) (omega (arith, ints)) (omega (arith, ints)) (omega arith) in
     let second = IsBranch-near rule hy n near_y.0 near_y.1 i l M (omega (arith, ints)) (omega (arith, ints)) (omega (arith, ints)) (omega arith) in
     let node : run y (i +ℤ r.offset) d ≡ run x (i +ℤ r.offset) d = run-same y x (i +ℤ r.offset) (i +ℤ r.offset) d (λ a h. sym (split.agree.1 (i +ℤ r.offset +ℤ pos a) (omega (arith, ints)))) in

@@ -77,6 +77,5 @@ weight_within-zeros {r} rule weight keeps n =
     let k : ℕ = n + n + 1 in
     let e : ℤ = i +ℤ pos k in
     let flux = weight_on-flux {x = zeros} rule ((IsConserving-walk_gains rule weight).0 keeps) (λ j. some_letter rule) i k in
-    let ends : flow_under r phi zeros i ≡ flow_under r phi zeros e = ap (flow_at r phi) (run-same zeros zeros (i +ℤ r.offset) (e +ℤ r.offset) (r.width - 1) (λ a l. refl)) in
     let letters : weight_on weight zeros (i +ℤ r.offset) k ≡ weight_on weight zeros i k = ap (sum_by weight) (run-same zeros zeros (i +ℤ r.offset) i k (λ a l. refl)) in
     omega (arith, ints)

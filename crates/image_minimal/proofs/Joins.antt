@@ -1,5 +1,5 @@
 -- Ways from parent to parent: what halving them keeps, and what joining two roots does.
-use Rattle.image_minimal.proofs.Common.{◌≡◌, ◌≢◌, ℕ, ◌<◌, ◌≤◌, ◌⊎◌, List, length, set, slice_index, Bool, true, false, true≢false, refl, sym, ap, ◌∙◌, subst, arith, ⊎_elim, length-set, AreColours, IsFalling, IsOnWay, IsJoin}
+use Rattle.image_minimal.proofs.Common.{◌≡◌, ◌≢◌, ℕ, ◌<◌, ◌≤◌, ◌⊎◌, List, length, set, slice_index, Bool, true, false, true≢false, refl, sym, ap, ◌∙◌, arith, ⊎_elim, length-set, AreColours, IsFalling, IsOnWay, IsJoin}
 use Rattle.image_minimal.proofs.laws.ClassCounts.{class_count-lower, class_count-root}
 use Rattle.image_minimal.proofs.laws.Entries.{each-set}
 
@@ -52,8 +52,8 @@ IsJoin-roots {old} {middle} {new} {a = a} {b = b} first second inside also root_
     let still : slice_index new a ≡ a = second.halved.roots a (omega (arith, first.within, first.halved.long)) root_a in
     let high_is : (high < length new) × (slice_index new high ≡ high) =
     ⊎_elim
-    (λ (is, _). (omega (arith, is, second.within, first.halved.long, second.halved.long), subst (λ i. slice_index new i ≡ i) (sym is) root_b))
-    (λ (is, _). (omega (arith, is, first.within, first.halved.long, second.halved.long), subst (λ i. slice_index new i ≡ i) (sym is) still))
+    (λ (is, _). (omega (arith, is, second.within, first.halved.long, second.halved.long), rw is root_b))
+    (λ (is, _). (omega (arith, is, first.within, first.halved.long, second.halved.long), rw is still))
     which in
     record {
       long = length-set new high low ∙ second.halved.long ∙ first.halved.long;

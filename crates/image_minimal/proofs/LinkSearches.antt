@@ -1,5 +1,5 @@
 -- A search through linked sets of two rules, one edge more at a time.
-use Rattle.image_minimal.proofs.Common.{◌≡◌, ◌≢◌, ℕ, ◌+◌, ◌*◌, ◌^◌, ◌<◌, ◌⊎◌, inl, inr, List, [], ◌∷◌, ◌++◌, length, slice_index, Some, Bool, refl, sym, ap, ap₂, ◌∙◌, subst, subst₂, arith, ⊎_elim, not, nat_eq, true, false, true≢false, slice_get, eq-eqb, ne_eqb, pow-lt, beq, range_with_len, cases_eq, slice_get_within, length_push, map-append, get_or-range_with_len, length-range_with_len, LocalRule, IsRule, node_count, full_set, IsStep, node_count_pos, only_place, slice_get-append, slice_get-push, slice_get-push_cases, IsFilled, filled-later, IsFilled-start, IsFilled-there, IsFilled-new, IsSetOf-unique, mapped_at, Link, link_place, LinkStep, HaveOneColour, HasChain, set_count, IsLinkSearch, IsJoin}
+use Rattle.image_minimal.proofs.Common.{◌≡◌, ◌≢◌, ℕ, ◌+◌, ◌*◌, ◌^◌, ◌<◌, ◌⊎◌, List, [], ◌∷◌, ◌++◌, length, slice_index, Some, Bool, refl, sym, ap, ap₂, ◌∙◌, subst, subst₂, arith, ⊎_elim, not, nat_eq, nat_tests, true, false, true≢false, slice_get, ne_eqb, pow-lt, beq, range_with_len, slice_get_within, length_push, map-append, get_or-range_with_len, length-range_with_len, LocalRule, IsRule, node_count, full_set, IsStep, node_count_pos, only_place, slice_get-append, slice_get-push, slice_get-push_cases, IsFilled, filled-later, IsFilled-start, IsFilled-there, IsFilled-new, IsSetOf-unique, mapped_at, Link, link_place, LinkStep, HaveOneColour, HasChain, set_count, IsLinkSearch, IsJoin}
 use Rattle.image_minimal.proofs.laws.ClassCounts.{class_count-le}
 
 -- a search in which the edges on the first letters have been followed from the link at a place, along the steps of its sets
@@ -73,11 +73,7 @@ IsLinkSearch-start {r} {q} rule other y first second =
 
 -- of two sets exactly one is empty
 pub uneven : (s t : ℕ) → not (beq (nat_eq s 0) (nat_eq t 0)) ≡ true → ((s ≡ 0) × (t ≢ 0)) ⊎ ((t ≡ 0) × (s ≢ 0))
-uneven s t test =
-    ⊎_elim
-    (λ none. ⊎_elim (λ also. absurd (true≢false (sym (rw (eq-eqb s 0 none, eq-eqb t 0 also) at test)))) (λ some. inl (none, some)) (cases_eq t 0))
-    (λ some. ⊎_elim (λ none. inr (none, some)) (λ also. absurd (true≢false (sym (rw (ne_eqb s 0 some, ne_eqb t 0 also) at test)))) (cases_eq t 0))
-    (cases_eq s 0)
+uneven s t test = grind (arith, nat_tests)
 
 -- two tests that agree
 pub even : (a b : Bool) → not (beq a b) ≡ false → a ≡ b

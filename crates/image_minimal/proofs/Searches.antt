@@ -9,7 +9,7 @@ IsSearch-first Step k {start} {old} {new} none h =
     (λ (_, (i, inside, _)). absurd (omega (arith, ap length none)))
     (λ (_, longer). longer ∙ ap (λ l. l ++ start ∷ []) none)
     h in
-    let here : IsSearch Step k start new 0 = subst (λ l. IsSearch Step k start l 0) (sym alone) (IsSearch-start Step k start) in
+    let here : IsSearch Step k start new 0 = rw alone (IsSearch-start Step k start) in
     subst (IsSearch Step k start new) (omega arith) here
 
 -- a search in which the steps on the first letters have been followed from the state at a place

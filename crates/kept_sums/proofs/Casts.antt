@@ -1,5 +1,5 @@
 -- Numbers whose size is bounded, and that casts leave as they are.
-use Rattle.std.proofs.Common.{◌≡◌, ℕ, ◌+◌, ◌*◌, ◌^◌, ◌<◌, ◌≤◌, ℤ, ◌+ℤ◌, ◌-ℤ◌, ◌*ℤ◌, FitsSigned, to_z, of_z, w64, sym, ap₂, subst₂, ◌∙◌, arith, unsigned_abs, mul-le-mul}
+use Rattle.std.proofs.Common.{◌≡◌, ℕ, ◌+◌, ◌*◌, ◌^◌, ◌<◌, ◌≤◌, ℤ, ◌+ℤ◌, ◌-ℤ◌, ◌*ℤ◌, FitsSigned, to_z, of_z, w64, arith, unsigned_abs, mul-le-mul}
 use Rattle.std.proofs.lemmas.Int.{to_z-of_z}
 use Rattle.word_image.proofs.Common.{ints, fits_signed_from_abs, unsigned_abs-mul}
 use mir.Syntax.{Width}
@@ -26,13 +26,11 @@ pub abs-sub : (a b : ℤ) → unsigned_abs (a -ℤ b) ≤ unsigned_abs a + unsig
 abs-sub a b = omega (arith, ints)
 
 -- a difference of two numbers that casts leave as they are fits
-pub fits-sub : (a b : ℤ) (n : ℕ) → unsigned_abs a ≤ n → unsigned_abs b ≤ n → n < 2 ^ 62 → FitsSigned w64 (to_z w64 (of_z w64 a) -ℤ to_z w64 (of_z w64 b))
-fits-sub a b n one two few =
-    let P : ℤ → ℤ → Type 0 = λ x y. FitsSigned w64 (x -ℤ y) in
-    subst₂ P (sym (back w64 a n one (omega arith))) (sym (back w64 b n two (omega arith))) (fits w64 (a -ℤ b) (2 * n) (omega (arith, abs-sub a b)) (omega arith))
+pub fits-sub : (a b : ℤ) → unsigned_abs a ≤ 2 ^ 60 → unsigned_abs b ≤ 2 ^ 60
+    → FitsSigned w64 (to_z w64 (of_z w64 a) -ℤ to_z w64 (of_z w64 b))
+fits-sub a b one two = omega (arith, ints)
 
 -- casts leave a difference of two numbers as it is, where they leave these so
-pub back-sub : (a b : ℤ) (n : ℕ) → unsigned_abs a ≤ n → unsigned_abs b ≤ n → n < 2 ^ 62 → to_z w64 (of_z w64 (to_z w64 (of_z w64 a) -ℤ to_z w64 (of_z w64 b))) ≡ a -ℤ b
-back-sub a b n one two few =
-    ap₂ (λ (x y : ℤ). to_z w64 (of_z w64 (x -ℤ y))) (back w64 a n one (omega arith)) (back w64 b n two (omega arith))
-    ∙ back w64 (a -ℤ b) (2 * n) (omega (arith, abs-sub a b)) (omega arith)
+pub back-sub : (a b : ℤ) → unsigned_abs a ≤ 2 ^ 60 → unsigned_abs b ≤ 2 ^ 60
+    → to_z w64 (of_z w64 (to_z w64 (of_z w64 a) -ℤ to_z w64 (of_z w64 b))) ≡ a -ℤ b
+back-sub a b one two = omega (arith, ints)

@@ -4,7 +4,7 @@
 //! of its image minus the weight of its first `range` letters. A flux has a number for each word of m + range - 2
 //! letters. The gain of each window is the number of its first m + range - 2 letters minus the number of its last
 //! m + range - 2 letters.
-ghost use Rattle.std.specs.Prelude.{◌≡◌, ℕ, ◌+◌, ◌-◌, ◌*◌, ◌^◌, ◌<◌, ◌≤◌, ◌↔◌, ℤ, pos, ◌-ℤ◌, IfSome, IsSome, IsTrue};
+ghost use Rattle.std.specs.Prelude.{◌≡◌, ℕ, ◌+◌, ◌-◌, ◌*◌, ◌^◌, ◌<◌, ◌≤◌, ◌↔◌, slice_index, ℤ, pos, ◌-ℤ◌, IfSome, IsSome, IsTrue};
 ghost use Rattle.std.specs.Int.RustNames.{unsigned_abs};
 ghost use Rattle.word_image.specs.LocalRules.{value, word_of};
 ghost use Rattle.word_image.specs.Words.{image};
@@ -13,7 +13,7 @@ ghost use Rattle.kept_sums.specs.Rows.{at, IsSmall};
 ghost use Rattle.kept_sums.specs.Fluxes.{IsFluxList, AreGains, IsFlowBy, window_gain};
 
 use crate::rows::Row;
-use word_image::Rule;
+use word_image::{Rule, value_by};
 
 /// The greatest number of words of m + range - 2 letters. For example, two states have 128 words of seven letters.
 pub const MOST_FLOWS: usize = 128;
@@ -30,6 +30,7 @@ type Gains = [i64; MOST_WINDOWS];
 /// Returns the flux of these weights of words of `range` letters (Hattori and Takesue 1991). It is the flux that is 0
 /// for the word of zeros. Returns None if the rule doesn't keep the sum of the weights. The weights are from -2^56 to
 /// 2^56.
+#[tactic(auto, using(crate::proofs::laws::Ranges::short))]
 pub fn flux(rule: &Rule, range: u8, weights: &Row) -> Option<Flux>
     requires some { 1 ≤ range }
     requires few { rule.now.states ^ range ≤ 16 }
@@ -59,6 +60,7 @@ pub(crate) fn is_kept(rule: &Rule, range: u8, weights: &Row) -> bool
 }
 
 /// Returns the gain of each window of m + range - 1 letters, at the window's value.
+#[tactic(auto, using(crate::proofs::laws::Ranges::short))]
 fn gains(rule: &Rule, range: u8, weights: &Row) -> Gains
     requires some { 1 ≤ range }
     requires few { rule.now.states ^ range ≤ 16 }
@@ -90,21 +92,31 @@ fn gain(rule: &Rule, range: u8, weights: &Row, window: u16) -> i64
 }
 
 /// Returns the value of the image of a window of m + range - 1 letters. The image has `range` letters.
-fn image_value(rule: &Rule, range: u8, window: u16) -> u8
+fn image_value(rule: &Rule, range: u8, window: u16) -> u16
     requires some { 1 ≤ range }
     requires few { rule.now.states ^ range ≤ 16 }
     requires window { window < rule.now.states ^ (rule.now.width + range - 1) }
     ensures value { result ≡ value rule.now.states (image rule.now (word_of rule.now.states (rule.now.width + range - 1) window)) }
     ensures few { result < 16 }
 {
-    let k = u16::from(rule.k());
-    let mut word = 0;
-    for i in 0..range {
-        let after = range - 1 - i;
-        let left = window % k.pow(u32::from(rule.m() + after));
-        word = word * rule.k() + rule.at(left / k.pow(u32::from(after)));
-    }
-    word
+    value_by(
+        rule.k(),
+        range,
+        |start| image_letter(rule, range, window, start),
+    )
+}
+
+/// Returns the letter at place `start` of the image of a window of m + range - 1 letters. The image has `range`
+/// letters.
+fn image_letter(rule: &Rule, range: u8, window: u16, start: u8) -> u8
+    requires few { rule.now.states ^ range ≤ 16 }
+    requires window { window < rule.now.states ^ (rule.now.width + range - 1) }
+    requires start { start < range }
+    ensures { result ≡ slice_index (image rule.now
+        (word_of rule.now.states (rule.now.width + range - 1) window)) start }
+{
+    let behind = u16::from(rule.k()).pow(u32::from(range - 1 - start));
+    rule.at(window / behind % rule.size())
 }
 
 /// Returns the numbers of the flux, if there is one, that is 0 for the word of zeros. The flux has a number for each

@@ -127,6 +127,7 @@ fn are_kept(rule: &Rule, range: u8, rows: &Rows) -> bool
 
 /// Returns all sums of integer weights of words of `range` letters that a rule keeps on every ring. There are at most
 /// 16 words of this length.
+#[tactic(auto, using(crate::proofs::laws::Ranges::short))]
 pub fn kept_sums(rule: &Rule, range: u8) -> KeptSums
     requires some { 1 ≤ range }
     requires few { rule.now.states ^ range ≤ 16 }

@@ -1,5 +1,5 @@
 -- What a flux says of the levels of trees.
-use Rattle.std.proofs.Common.{◌≡◌, ◌≢◌, ℕ, ◌+◌, ◌*◌, ◌/◌, ◌%◌, ◌^◌, ◌<◌, ◌≤◌, ◌⊎◌, inl, inr, ⊎_elim, List, slice_index, slice_index_or, ℤ, pos, ◌-ℤ◌, refl, sym, ap, ap₂, ◌∙◌, subst, arith}
+use Rattle.std.proofs.Common.{◌≡◌, ◌≢◌, ℕ, ◌+◌, ◌*◌, ◌/◌, ◌%◌, ◌^◌, ◌<◌, ◌≤◌, ◌⊎◌, inl, inr, ⊎_elim, List, slice_index, slice_index_or, ℤ, pos, ◌-ℤ◌, sym, ap, ap₂, ◌∙◌, subst, arith}
 use Rattle.word_image.proofs.Common.{ints, LocalRule, IsRule, node_count, IsFlux, IsConserving, end_node-below}
 use Rattle.word_image.specs.declared.side.Side.TheVariants.{Right, Left}
 use Rattle.ring_laws.proofs.FluxWindows.{FlowsAt-flux}
@@ -9,18 +9,13 @@ use Rattle.rule_lists.specs.Completions.{IsCompletion}
 use Rattle.rule_lists.specs.Bars.{Bars}
 use Rattle.rule_lists.specs.declared.properties.Property.TheVariants.{Conserving}
 use Rattle.rule_lists.specs.Forests.{AreLevels, AreKnown, AreUpTo, GainsWith, IsMoved}
-use Rattle.rule_lists.specs.Forests.IsMoved.{Kept, Gone, Rest}
-use Rattle.rule_lists.proofs.Sure.{node_count-completion}
+use Rattle.rule_lists.proofs.Sure.{is_shaped, IsRule-shaped}
 
 -- a window gains with the letter of a rule what each flux of the rule says
 pub GainsWith-flux : (r s : LocalRule) (letters : List ℕ) (phi : List ℤ) (w : ℕ) → IsCompletion r.states r.width letters s → IsFlux (λ a. a) s phi → w < r.states ^ r.width
     → GainsWith r w (slice_index s.table w) phi
 GainsWith-flux r s letters phi w h flux within =
-    let nodes : node_count s ≡ node_count r = node_count-completion r s letters h in
-    let size : s.states ^ s.width ≡ r.states ^ r.width = ap₂ (λ (x y : ℕ). x ^ y) h.states h.width in
-    let here = FlowsAt-flux h.rule flux w (subst (λ x. w < x) (sym size) within) in
-    ap (λ n. pos (slice_index s.table w) -ℤ pos (w / n)) (sym nodes) ∙ here
-    ∙ ap₂ (λ (x n : ℕ). slice_index_or phi (w / x) (pos 0) -ℤ slice_index_or phi (w % n) (pos 0)) h.states nodes
+    FlowsAt-flux (IsRule-shaped r s letters h) (subst (λ x. IsFlux (λ a. a) x phi) (sym (is_shaped r s letters h)) flux) w within
 
 -- a conserving rule that has the fixed letters has a flux, which gives each window its letter
 pub GainsWith-conserving : (r s : LocalRule) (letters trees levels : List ℕ) (w : ℕ) → IsRule r → AreKnown r letters trees levels → IsCompletion r.states r.width letters s → IsConserving (λ a. a) s → w < r.states ^ r.width
@@ -47,13 +42,6 @@ Bars-level r letters trees levels w first last begins least level rule known wit
     let letter : slice_index s.table w < s.states = h.rule.letters w 0 (omega (arith, h.rule.entries, size, within)) in
     apart (slice_index s.table w) (omega (arith, letter, h.states)) (λ fixed. h.fixed w within fixed) (omega (arith, e, at_first, at_last, is_least, is_level, eb))
 
--- a node is of the tree that stays, or of the one that goes into it, or of another
-IsMoved-cases : {kept rise gone other tree level tree' level' : ℕ} → IsMoved kept rise gone other tree level tree' level'
-    → ((tree ≡ kept) × (tree' ≡ kept) × (level' ≡ level + rise)) ⊎ (((tree ≡ gone) × (tree' ≡ kept) × (level' ≡ level + other)) ⊎ ((tree ≢ kept) × (tree' ≡ tree) × (level' ≡ level)))
-IsMoved-cases (Kept e) = inl (e, refl, refl)
-IsMoved-cases (Gone e) = inr (inl (e, refl, refl))
-IsMoved-cases (Rest n m) = inr (inr (n, refl, refl))
-
 -- where one tree goes into another, and each rises so that the window that joins them gains what it does, levels differ as before
 pub AreLevels-joined : (n : ℕ) (trees levels trees' levels' : List ℕ) (phi : List ℤ) (first last letter begins kept rise gone other : ℕ) → n ≤ 16 → first < n → last < n
     → (pos letter -ℤ pos begins) ≡ slice_index_or phi first (pos 0) -ℤ slice_index_or phi last (pos 0)
@@ -61,37 +49,20 @@ pub AreLevels-joined : (n : ℕ) (trees levels trees' levels' : List ℕ) (phi :
     → ((v : ℕ) → v < 16 → IsMoved kept rise gone other (slice_index trees v) (slice_index levels v) (slice_index trees' v) (slice_index levels' v))
     → AreLevels n trees levels phi → AreLevels n trees' levels' phi
 AreLevels-joined n trees levels trees' levels' phi first last letter begins kept rise gone other few hf hl gains is_kept is_rise is_gone is_other each old u v hu hv same =
-    ⊎_elim
-    (λ a. ⊎_elim
-    (λ b. let e = old u v hu hv (a.0 ∙ sym b.0) in omega (arith, ints, e, a.2, b.2))
-    (λ rest. ⊎_elim
-    (λ b.
-    let e = old u first hu hf (a.0 ∙ is_kept) in
-    let d = old last v hl hv (sym (b.0 ∙ is_gone)) in
-    omega (arith, ints, e, d, gains, is_rise, is_other, a.2, b.2))
-    (λ b. absurd (b.0 (sym b.1 ∙ sym same ∙ a.1)))
-    rest)
-    (IsMoved-cases (each v (omega arith))))
+    let joined : ℤ = pos (slice_index levels last + letter + slice_index levels first) -ℤ slice_index_or phi first (pos 0) in
+    let node : (x : ℕ) → x < n → ((slice_index trees' x ≡ kept) × ((pos (slice_index levels' x) -ℤ slice_index_or phi x (pos 0)) ≡ joined))
+    ⊎ ((slice_index trees x ≢ kept) × (slice_index trees' x ≡ slice_index trees x) × (slice_index levels' x ≡ slice_index levels x)) =
+    λ x hx. ⊎_elim
+    (λ a. let e = old x first hx hf (a.0 ∙ is_kept) in inl (a.1, omega (arith, ints, e, is_rise, a.2)))
     (λ more. ⊎_elim
-    (λ a. ⊎_elim
-    (λ b.
-    let e = old u last hu hl (a.0 ∙ is_gone) in
-    let d = old first v hf hv (sym (b.0 ∙ is_kept)) in
-    omega (arith, ints, e, d, gains, is_rise, is_other, a.2, b.2))
-    (λ rest. ⊎_elim
-    (λ b. let e = old u v hu hv (a.0 ∙ sym b.0) in omega (arith, ints, e, a.2, b.2))
-    (λ b. absurd (b.0 (sym b.1 ∙ sym same ∙ a.1)))
-    rest)
-    (IsMoved-cases (each v (omega arith))))
-    (λ a. ⊎_elim
-    (λ b. absurd (a.0 (sym a.1 ∙ same ∙ b.1)))
-    (λ rest. ⊎_elim
-    (λ b. absurd (a.0 (sym a.1 ∙ same ∙ b.1)))
-    (λ b. let e = old u v hu hv (sym a.1 ∙ same ∙ b.1) in omega (arith, ints, e, a.2, b.2))
-    rest)
-    (IsMoved-cases (each v (omega arith))))
+    (λ a. let e = old x last hx hl (a.0 ∙ is_gone) in inl (a.1, omega (arith, ints, e, gains, is_other, a.2)))
+    (λ a. inr a)
     more)
-    (IsMoved-cases (each u (omega arith)))
+    (each x (omega arith)) in
+    ⊎_elim
+    (λ a. ⊎_elim (λ b. omega (arith, ints, a.1, b.1)) (λ b. absurd (b.0 (sym b.1 ∙ sym same ∙ a.0))) (node v hv))
+    (λ a. ⊎_elim (λ b. absurd (a.0 (sym a.1 ∙ same ∙ b.0))) (λ b. let e = old u v hu hv (sym a.1 ∙ same ∙ b.1) in omega (arith, ints, e, a.2, b.2)) (node v hv))
+    (node u hu)
 
 -- levels that rise by no more than the limit
 pub AreUpTo-joined : (levels trees' trees levels' : List ℕ) (kept rise gone other w : ℕ) → rise ≤ 1048576 → other ≤ 1048576
@@ -99,10 +70,4 @@ pub AreUpTo-joined : (levels trees' trees levels' : List ℕ) (kept rise gone ot
     → AreUpTo (w * 1048576) levels → AreUpTo ((w + 1) * 1048576) levels'
 AreUpTo-joined levels trees' trees levels' kept rise gone other w small less each old v l =
     let before = old v l in
-    ⊎_elim
-    (λ a. omega (arith, before, small, a.2))
-    (λ more. ⊎_elim
-    (λ a. omega (arith, before, less, a.2))
-    (λ a. omega (arith, before, a.2))
-    more)
-    (IsMoved-cases (each v l))
+    ⊎_elim (λ a. omega (arith, before, small, a.2)) (λ more. ⊎_elim (λ a. omega (arith, before, less, a.2)) (λ a. omega (arith, before, a.2)) more) (each v l)

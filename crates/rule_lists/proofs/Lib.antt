@@ -1,7 +1,6 @@
 pub mod laws
 pub mod Sure
-pub mod NoInjective
+pub mod FixedSteps
 pub mod Barred
-pub mod FixedReached
 pub mod Rounded
 pub mod Flows

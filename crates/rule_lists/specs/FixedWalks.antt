@@ -1,31 +1,30 @@
 -- A search fixes some letters of a rule's table: the list `letters` has a number for each window, and a number below
--- the number of states fixes the letter of its window. A fixed step leads from a pair of nodes to a pair of nodes
--- along two windows that have the same fixed letter. This file defines walks of fixed steps. On the right the steps
--- lead forward, and on the left backward.
-use Rattle.std.specs.Prelude.{◌≡◌, ◌≢◌, ℕ, ◌<◌, List}
+-- the number of states fixes the letter of its window. This file says what walks by fixed letters show of each rule
+-- that has these letters. On the right the steps of a walk lead forward, and on the left backward.
+use Rattle.std.specs.Prelude.{◌≡◌, ℕ, List}
 use Rattle.word_image.specs.LocalRules.{LocalRule}
-use Rattle.word_image.specs.Graphs.{first_of, second_of, pair_count}
+use Rattle.word_image.specs.FirstPairs.{IsFirstOf}
+use Rattle.word_image.specs.Ranks.{IsEndless}
+use Rattle.word_image.specs.Sides.{other, PairGoes}
 use Rattle.word_image.specs.declared.side.Side.{Side}
-use Rattle.rule_lists.specs.EndlessPairs.{FixedLeadsOn}
+use Rattle.word_image.specs.declared.side.Side.TheVariants.{Right}
+use Rattle.garden_laws.specs.ReachedPairs.{IsReached}
+use Rattle.rule_lists.specs.Completions.{IsCompletion}
 
--- zero or more fixed steps lead on this side from the first pair to the second pair
-pub data IsFixedWalk (side : Side) (r : LocalRule) (letters : List ℕ) : ℕ → ℕ → Type 0 where
-  Here : (p : ℕ) → p < pair_count r → IsFixedWalk side r letters p p
-  Step : (p q z : ℕ) → p < pair_count r → FixedLeadsOn side r letters p q → IsFixedWalk side r letters q z → IsFixedWalk side r letters p z
+-- a walk on this side leads from the pair p to the pair q: p goes on for as many steps as q, q goes back for as many steps as p, and on the right q is reached if p is
+pub record IsBefore (side : Side) (s : LocalRule) (p q : ℕ) : Type 0 where
+  pub on : (n : ℕ) → PairGoes side s q n → PairGoes side s p n
+  pub back : (n : ℕ) → PairGoes (other side) s p n → PairGoes (other side) s q n
+  pub reached : side ≡ Right → IsReached s p → IsReached s q
 
--- one or more fixed steps lead on this side from the pair p back to p
-pub record IsFixedRound (side : Side) (r : LocalRule) (letters : List ℕ) (p : ℕ) : Type 0 where
-  pub next : ℕ
-  pub inside : p < pair_count r
-  pub on : FixedLeadsOn side r letters p next
-  pub back : IsFixedWalk side r letters next p
+-- in each rule that has the fixed letters, the pair q comes after the pair p on this side
+abbrev pub IsFixedWalk : Side → LocalRule → List ℕ → ℕ → ℕ → Type 0
+IsFixedWalk side r letters p q = (s : LocalRule) → IsCompletion r.states r.width letters s → IsBefore side s p q
 
--- fixed steps lead on this side to the pair p from a pair of two equal nodes, and the first step leads to two different nodes
-pub record IsFixedTail (side : Side) (r : LocalRule) (letters : List ℕ) (p : ℕ) : Type 0 where
-  pub from : ℕ
-  pub first : ℕ
-  pub inside : from < pair_count r
-  pub one : first_of r from ≡ second_of r from
-  pub different : first_of r first ≢ second_of r first
-  pub begins : FixedLeadsOn side r letters from first
-  pub walk : IsFixedWalk side r letters first p
+-- in each rule that has the fixed letters, walks of every length with equal labels begin at the two nodes of the pair, and such walks end at them
+abbrev pub IsFixedRound : LocalRule → List ℕ → ℕ → Type 0
+IsFixedRound r letters p = (s : LocalRule) → IsCompletion r.states r.width letters s → (side : Side) → IsEndless (PairGoes side s p)
+
+-- in each rule that has the fixed letters, the pair p comes after a first pair of this side
+abbrev pub IsFixedTail : Side → LocalRule → List ℕ → ℕ → Type 0
+IsFixedTail side r letters p = (s : LocalRule) → IsCompletion r.states r.width letters s → (q : ℕ) × IsFirstOf side s q × IsBefore side s q p

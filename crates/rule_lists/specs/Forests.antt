@@ -2,7 +2,7 @@
 -- image minus the first letter of the window is the integer of the first node minus the integer of the last node.
 -- Fixed letters of a table determine some differences of these integers. Here nodes are joined to trees, and each node
 -- has a level. The levels of two nodes of a tree differ by as much as their integers.
-use Rattle.std.specs.Prelude.{◌≡◌, ◌≢◌, ◌≤◌, ℕ, ◌+◌, ◌/◌, ◌%◌, ◌<◌, List, slice_index, slice_index_or, ℤ, pos, ◌-ℤ◌}
+use Rattle.std.specs.Prelude.{◌≡◌, ◌≢◌, ◌⊎◌, ◌≤◌, ℕ, ◌+◌, ◌/◌, ◌%◌, ◌<◌, List, slice_index, slice_index_or, ℤ, pos, ◌-ℤ◌}
 use Rattle.word_image.specs.LocalRules.{LocalRule, node_count, most_nodes}
 use Rattle.word_image.specs.Rings.{IsFlux}
 use Rattle.rule_lists.specs.Completions.{IsCompletion}
@@ -25,7 +25,6 @@ abbrev pub GainsWith : LocalRule → ℕ → ℕ → List ℤ → Type 0
 GainsWith r w letter phi = (pos letter -ℤ pos (w / node_count r)) ≡ slice_index_or phi (w / r.states) (pos 0) -ℤ slice_index_or phi (w % node_count r) (pos 0)
 
 -- joins the tree `gone` to the tree `kept`: a node with this tree and level gets a new tree and level; levels in `kept` rise by `rise`, levels in `gone` by `other`
-pub data IsMoved (kept rise gone other tree level : ℕ) : ℕ → ℕ → Type 0 where
-  Kept : tree ≡ kept → IsMoved kept rise gone other tree level kept (level + rise)
-  Gone : tree ≡ gone → IsMoved kept rise gone other tree level kept (level + other)
-  Rest : tree ≢ kept → tree ≢ gone → IsMoved kept rise gone other tree level tree level
+abbrev pub IsMoved : ℕ → ℕ → ℕ → ℕ → ℕ → ℕ → ℕ → ℕ → Type 0
+IsMoved kept rise gone other tree level tree' level' =
+    ((tree ≡ kept) × (tree' ≡ kept) × (level' ≡ level + rise)) ⊎ (((tree ≡ gone) × (tree' ≡ kept) × (level' ≡ level + other)) ⊎ ((tree ≢ kept) × (tree' ≡ tree) × (level' ≡ level)))

@@ -3,15 +3,9 @@
 -- reached in each rule with the fixed letters.
 use Rattle.std.specs.Prelude.{ℕ, List}
 use Rattle.word_image.specs.LocalRules.{LocalRule}
-use Rattle.garden_laws.specs.ReachedPairs.{IsReached}
-use Rattle.rule_lists.specs.Completions.{IsCompletion}
 use Rattle.rule_lists.specs.EndlessPairs.{IsFixedStep, IsFixedFirst}
 
 -- walks by fixed letters reach the pair: two different letters lead from one node to the two nodes of a pair, and zero or more steps lead from this pair to the reached one
 pub data IsFixedReached (r : LocalRule) (letters : List ℕ) : ℕ → Type 0 where
   First : (p : ℕ) → IsFixedFirst r letters p → IsFixedReached r letters p
   On : (p q : ℕ) → IsFixedReached r letters p → IsFixedStep r letters p q → IsFixedReached r letters q
-
--- the pair p is reached in each rule of k states and width m that has the fixed letters
-abbrev pub IsSure : ℕ → ℕ → List ℕ → ℕ → Type 0
-IsSure k m letters p = (s : LocalRule) → IsCompletion k m letters s → IsReached s p

@@ -4,7 +4,7 @@
 -- windows.
 use Rattle.std.specs.Prelude.{◌≡◌, ℕ, ◌+◌, ◌-◌, ◌^◌, List, Option, Some, None, IfSome, MatchOption}
 use Rattle.word_image.specs.LocalRules.{LocalRule}
-use Rattle.rule_lists.specs.Ranks.{IsOrder, rank}
+use Rattle.rule_lists.specs.Ranks.{IsOrder, rank_of_first, rank}
 use Rattle.rule_lists.specs.Tables.{IsTable}
 use Rattle.rule_lists.specs.Listed.{IsFirst, NoneIs, Forbids}
 use Rattle.rule_lists.specs.Calls.{IsAfter}
@@ -22,6 +22,10 @@ IsOrdered a = IsOrder (size_of a) a.order.now
 -- the list begins with a letter for each window of the shape
 abbrev pub AreEntries : Asked → List ℕ → Type 0
 AreEntries a entries = IsTable a.shape.now.states (size_of a) entries
+
+-- the number whose digits are the letters of the list at the first n windows of the order
+abbrev pub rank_in : Asked → List ℕ → ℕ → ℕ
+rank_in a entries n = rank_of_first a.shape.now.states a.order.now entries n
 
 -- no rule of the shape has the property, the fixed letters, and these letters at the first n windows of the order
 abbrev pub AreForbidden : Asked → List ℕ → ℕ → Type 0

@@ -1,7 +1,7 @@
 -- A search sets the letters of a table one after another, in an order of the windows, and goes through the tables by
 -- ascending rank. The rank is the number in base k whose digits are the letters in this order. Some letters are fixed:
 -- the list `letters` has a number for each window, and a number below k fixes the letter of its window.
-use Rattle.std.specs.Prelude.{◌≡◌, ℕ, ◌-◌, ◌*◌, ◌^◌, ◌<◌, ◌≤◌, ◌⊎◌, List, slice_index, Option, Some, None}
+use Rattle.std.specs.Prelude.{◌≡◌, ℕ, ◌+◌, ◌-◌, ◌*◌, ◌^◌, ◌<◌, ◌≤◌, List, slice_index, Option, Some, None}
 use Rattle.rule_lists.specs.Ranks.{rank_of_first}
 
 -- the table begins with `size` letters below k
@@ -17,10 +17,10 @@ abbrev pub IsPast : ℕ → List ℕ → List ℕ → Option ℕ → List ℕ �
 IsPast k order table None t = ⊥
 IsPast k order table (Some n) t = rank_of_first k order table n ≤ rank_of_first k order t n
 
--- the least rank of all tables that have the letters of `table` at the first n windows
-abbrev pub least_rank : ℕ → ℕ → List ℕ → List ℕ → ℕ → ℕ
-least_rank k size order table n = rank_of_first k order table n * k ^ (size - n)
+-- how far a search is at n letters of a table: more for a greater rank of the first table with these letters, and for the same rank more for more letters
+abbrev pub how_far : ℕ → ℕ → List ℕ → List ℕ → ℕ → ℕ
+how_far k size order table n = rank_of_first k order table n * k ^ (size - n) * (size + 1) + n
 
--- i letters of `new` are further on than n letters of `old`: the least rank of tables with these letters is greater, or it is the same and i is greater than n
+-- i letters of `new` are further on than n letters of `old`
 abbrev pub IsFurther : ℕ → ℕ → List ℕ → List ℕ → ℕ → List ℕ → ℕ → Type 0
-IsFurther k size order old n new i = (least_rank k size order old n < least_rank k size order new i) ⊎ ((least_rank k size order old n ≡ least_rank k size order new i) × (n < i))
+IsFurther k size order old n new i = how_far k size order old n < how_far k size order new i

@@ -113,7 +113,7 @@ fn rule_after(asked: &Asked, rule: &Rule, hints: &mut Hints) -> Option<Rule>
     ensures { IsNextListed asked.now (Some rule.now) result }
 {
     let mut entries = entries_of(rule);
-    let next = advance(rule.k(), asked.order, &mut entries, rule.size());
+    let next = advance(asked, &mut entries, asked.shape.size());
     hints.catch_up(asked, &entries, next.unwrap_or(0));
     rule_from(asked, entries, next, hints)
 }
@@ -194,10 +194,10 @@ fn step(asked: &Asked, entries: &mut Entries, n: u16, hints: &mut Hints) -> Opti
     ensures { IsOn asked.now.property asked.now.shape.now.states asked.now.shape.now.width asked.now.begin.now asked.now.order.now entries.old n entries.new result }
 {
     if n == asked.shape.size() {
-        return advance(asked.shape.k(), asked.order, entries, n);
+        return advance(asked, entries, n);
     }
     if forbids(asked, entries, n, hints) {
-        return advance(asked.shape.k(), asked.order, entries, n);
+        return advance(asked, entries, n);
     }
     entries[usize::from(asked.order[usize::from(n)])] = 0;
     Some(n + 1)

@@ -2,7 +2,7 @@
 //!
 //! The flux of a conserving rule has a number for each node, which is a word of m - 1 letters. Fixed letters join nodes
 //! to trees. Each node has a level, and the levels of two nodes of a tree differ as their numbers do.
-ghost use Rattle.std.specs.Prelude.{◌≡◌, ◌*◌, ◌^◌, ◌<◌, IsTrue};
+ghost use Rattle.std.specs.Prelude.{◌≡◌, ◌≢◌, ◌+◌, ◌*◌, ◌^◌, ◌<◌, ◌≤◌, ℕ, IsTrue};
 ghost use Rattle.word_image.specs.LocalRules.{most_windows};
 ghost use Rattle.rule_lists.specs.Bars.{Bars};
 ghost use Rattle.rule_lists.specs.Forests.{AreKnown, AreUpTo};
@@ -40,15 +40,21 @@ fn has_no_letter(shape: &Rule, letters: &Letters, forest: &Forest, window: u16) 
     }
     let least = forest.levels[last];
     let level = forest.levels[first] + u32::from(Side::Left.end_letter(shape, window));
+    is_no_letter(shape.k(), letters[usize::from(window)], least, level)
+}
+
+/// Returns true only if the difference of `level` and `least` isn't a possible letter. If `letter` is below k, only
+/// this letter is possible. Otherwise each letter below k is.
+fn is_no_letter(k: u8, letter: u8, least: u32, level: u32) -> bool
+    requires least { least < 2 ^ 31 }
+    requires level { level < 2 ^ 31 }
+    ensures { IsTrue result → (a : ℕ) → a < k → (letter < k → a ≡ letter) → a + least ≢ level }
+{
     if level < least {
         return true;
     }
-    if least + u32::from(shape.k()) <= level {
+    if least + u32::from(k) <= level {
         return true;
     }
-    let letter = letters[usize::from(window)];
-    if letter >= shape.k() {
-        return false;
-    }
-    least + u32::from(letter) != level
+    letter < k && least + u32::from(letter) != level
 }

@@ -1,9 +1,10 @@
 //! Tables of letters that a search fills window by window, in a given order.
-ghost use Rattle.std.specs.Prelude.{◌≡◌, ◌+◌, ◌-◌, ◌*◌, ◌^◌, ◌<◌, ◌≤◌, ◌↔◌, ℕ, List, IfSome, IsTrue, length, slice_index};
+ghost use Rattle.std.specs.Prelude.{◌≡◌, ◌+◌, ◌-◌, ◌*◌, ◌^◌, ◌<◌, ◌≤◌, ◌↔◌, ℕ, List, IfSome, IsTrue};
 ghost use Rattle.word_image.specs.LocalRules.{most_windows};
-ghost use Rattle.rule_lists.specs.Ranks.{IsOrder, rank_of_first};
-ghost use Rattle.rule_lists.specs.Tables.{IsTable, HasLetters, IsPast};
+ghost use Rattle.rule_lists.specs.Tables.{HasLetters, IsPast};
+ghost use Rattle.rule_lists.specs.Searches.{AreEntries, IsOrdered, rank_in, size_of};
 
+use crate::asked::Asked;
 use crate::letters::Letters;
 use word_image::MOST_ENTRIES;
 
@@ -26,18 +27,18 @@ pub(crate) fn has_letters(k: u8, begin: &Letters, entries: &Entries, size: u16) 
 /// Replaces the letters at the first n windows of the order by the next letters. The last of these letters that can
 /// grow grows by 1, and the letters after it aren't known any longer. Returns the number of windows whose letters are
 /// known afterwards, which is at most n, or None if there are no next letters.
-pub(crate) fn advance(k: u8, order: &[u8], entries: &mut Entries, n: u16) -> Option<u16>
-    requires states { 2 ≤ k }
-    requires order { (size : ℕ) × (size ≤ most_windows) × IsOrder size order.now }
-    requires table { IsTable k (length order.now) entries.old }
-    requires within { n ≤ length order.now }
-    ensures table { IsTable k (length order.now) entries.new }
+pub(crate) fn advance(asked: &Asked, entries: &mut Entries, n: u16) -> Option<u16>
+    requires order { IsOrdered asked.now }
+    requires table { AreEntries asked.now entries.old }
+    requires within { n ≤ size_of asked.now }
+    ensures table { AreEntries asked.now entries.new }
     ensures within { IfSome result (λ i. i ≤ n) }
-    ensures next { IfSome result (λ i. rank_of_first k order.now entries.new i * k ^ (n - i) ≡ rank_of_first k order.now entries.old n + 1) }
-    ensures past { (t : List ℕ) → IsTable k (length order.now) t → (rank_of_first k order.now entries.old n < rank_of_first k order.now t n) ↔ IsPast k order.now entries.new result t }
+    ensures next { IfSome result (λ i. rank_in asked.now entries.new i * asked.now.shape.now.states ^ (n - i) ≡ rank_in asked.now entries.old n + 1) }
+    ensures past { (t : List ℕ) → AreEntries asked.now t → (rank_in asked.now entries.old n < rank_in asked.now t n) ↔ IsPast asked.now.shape.now.states asked.now.order.now entries.new result t }
 {
+    let k = asked.shape.k();
     for place in (0..n).rev() {
-        let window = usize::from(order[usize::from(place)]);
+        let window = usize::from(asked.order[usize::from(place)]);
         if entries[window] < k - 1 {
             entries[window] += 1;
             return Some(place + 1);

@@ -45,7 +45,7 @@ pub(crate) fn is_round(
     pair: u16,
 ) -> bool
     requires { pair < pair_count shape.now }
-    ensures { IsTrue result → IsFixedRound side shape.now letters.now pair }
+    ensures { IsTrue result → IsFixedRound shape.now letters.now pair }
 {
     let mut at = pair;
     for _ in 0..shape.pairs() {

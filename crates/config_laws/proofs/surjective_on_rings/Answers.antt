@@ -5,7 +5,7 @@ pub returns-clause-exactly : goal.returns-clause-exactly
 returns-clause-exactly c r rule = IsSurjective-rings rule
 
 pub returns-clause-few : goal.returns-clause-few
-returns-clause-few c r q rule every ring = let h = ring_over rule every ring in (h.turns, h.p, h.some, h.few, h.ring, h.long, h.image)
+returns-clause-few c r q rule every ring = ring_over rule every ring
 
 pub returns-clause-periodic : goal.returns-clause-periodic
 returns-clause-periodic c r rule = IsSurjective-periodic rule

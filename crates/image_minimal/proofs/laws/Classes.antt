@@ -23,7 +23,7 @@ pub AreClassWords-closed : {r : LocalRule} {closures classes : List ℕ} {e : �
 AreClassWords-closed {r} {closures} {classes} {e} rule have x closed =
     let q = x.queue in
     let (words, long, spelled) = chosen x.tree (TreeSpells x.tree) (TreeSpells-some q.fills) in
-    let all : length x.tree * r.states ≤ e = subst (λ n. n * r.states ≤ e) (sym (length-search x)) closed in
+    let all : length x.tree * r.states ≤ e = rw (length-search x) closed in
     let place : (i : ℕ) (w : List ℕ) → slice_get words i ≡ Some w → (y : Place ℕ) × (slice_get x.tree i ≡ Some y) × IsLeastTo (IsClosedStep r) r.states (full_set r) y.state w = λ i w at.
     let (y, stands) = stands_at x.tree i (omega (arith, long, slice_get_within words i w at)) in
     (y, stands, IsLeastTo-spelled q (spelled i w at) y stands) in (

@@ -6,6 +6,6 @@ pub each-set : {X : Type 0} (P : ℕ → X → Type 0) (xs : List X) (i : ℕ) (
     → (v : ℕ) → v < length (set xs i y) → P v (get_or (set xs i y) v d)
 each-set P xs i d y inside before here v l =
     ⊎_elim
-    (λ same. subst (λ j. P j (get_or (set xs i y) j d)) (sym same) (subst (P i) (sym (get_or-set_same xs i y d inside)) here))
-    (λ other. subst (P v) (sym (get_or-set_other xs i v y d other)) (before v (omega (arith, length-set xs i y)) other))
+    (λ same. rw same (subst (P i) (sym (get_or-set_same xs i y d inside)) here))
+    (λ other. rw (get_or-set_other xs i v y d other) (before v (omega (arith, length-set xs i y)) other))
     (cases_eq v i)

@@ -1,5 +1,5 @@
 -- A word leads from a set to the empty set exactly where it is read from none of its nodes, and then it goes on from there.
-use Rattle.image_minimal.proofs.Common.{◌≡◌, ℕ, ◌^◌, ◌<◌, ◌⊎◌, ◌↔◌, inl, inr, List, [], ◌∷◌, ◌++◌, Bool, true, nat_eq, eq-eqb, IsBitSet, refl, sym, subst, arith, ⊎_elim, append-nil, append_assoc, pow_pos, eqb-true, iff_then, cases_eq, decide_both, All-head, All-tail, LocalRule, IsRule, IsWord, node_count, IsOrphan, next, label, IsEdge, IsStep, IsLastSet, IsBitSet-some, IsBitSet-zero, IsBitSet-decide, next-below, IsLastSet-step, IsOrphan-empty_set, some_below, Right, some_set, IsStep-some, IsLastSet-unique, IsLastSet-orphan, All-walk, IsWithin, IsLedInto, IsBack, StepsInto, IsUnread, IsUnreadSet}
+use Rattle.image_minimal.proofs.Common.{◌≡◌, ℕ, ◌^◌, ◌<◌, ◌⊎◌, ◌↔◌, inl, inr, List, [], ◌∷◌, ◌++◌, Bool, true, nat_eq, eq-eqb, IsBitSet, refl, subst, arith, ⊎_elim, append-nil, append_assoc, pow_pos, eqb-true, iff_then, cases_eq, decide_both, All-head, All-tail, LocalRule, IsRule, IsWord, node_count, IsOrphan, next, label, IsEdge, IsStep, IsLastSet, IsBitSet-some, IsBitSet-zero, IsBitSet-decide, next-below, IsLastSet-step, IsOrphan-empty_set, some_below, Right, some_set, IsStep-some, IsLastSet-unique, IsLastSet-orphan, All-walk, IsWithin, IsLedInto, IsBack, StepsInto, IsUnread, IsUnreadSet}
 
 -- where a word leads from a set of nodes
 abbrev pub end_set : LocalRule → List ℕ → ℕ → ℕ
@@ -12,7 +12,7 @@ is_dead r z s = nat_eq (end_set r z s) 0
 
 -- from the last nodes of a word another leads to those of both in a row
 IsLastSet-end : {r : LocalRule} → IsRule r → (z : List ℕ) → IsWord r.states z → (w : List ℕ) (s : ℕ) → IsLastSet r w s → IsLastSet r (w ++ z) (end_set r z s)
-IsLastSet-end {r} rule [] word w s last = subst (λ v. IsLastSet r v s) (sym (append-nil w)) last
+IsLastSet-end rule [] word w s last = rw append-nil last
 IsLastSet-end {r} rule (a ∷ z) word w s last =
     let (after, step) = IsStep-some r s a in
     subst (λ v. IsLastSet r v (end_set r z after)) (append_assoc w (a ∷ []) z)
@@ -54,7 +54,7 @@ IsWord-unread r z set unread = All-walk (StepsInto r) (λ a. a < r.states) (λ s
 
 -- the nodes from which a word isn't read are a set of the rule's nodes
 pub IsUnreadSet-below : {r : LocalRule} {set : ℕ} → IsUnreadSet r set → set < 2 ^ node_count r
-IsUnreadSet-below {r} {set} ([], none) = subst (λ n. n < 2 ^ node_count r) (sym none) (pow_pos (node_count r))
+IsUnreadSet-below {r} ([], none) = rw none (pow_pos (node_count r))
 IsUnreadSet-below (a ∷ z, (rest, (letter, back), unread)) = back.of.within
 
 -- a step leads into a set exactly from within the nodes from which all its edges do
@@ -87,7 +87,7 @@ IsOrphan-is_dead {r} {w} {s} rule last z word = iff_then (IsOrphan-last rule (Is
 
 -- a word leads from a set to the empty set exactly where it is read from none of its nodes
 pub is_dead-unread : {r : LocalRule} → IsRule r → (z : List ℕ) (set s : ℕ) → IsUnread r z set → s < 2 ^ node_count r → ((is_dead r z s ≡ true) ↔ IsWithin r s set)
-is_dead-unread {r} rule [] set s same small = subst (λ n. (nat_eq s 0 ≡ true) ↔ IsWithin r s n) (sym same) (iff_then (eqb-true s 0, eq-eqb s 0) (IsWithin-zero r s small))
+is_dead-unread {r} rule [] set s same small = rw same (iff_then (eqb-true s 0, eq-eqb s 0) (IsWithin-zero r s small))
 is_dead-unread {r} rule (a ∷ z) set s (rest, (letter, back), unread) small =
     let (after, step) = IsStep-some r s a in
     iff_then (is_dead-unread rule z rest after unread step.within) (IsWithin-back rule s step back)

@@ -1,6 +1,6 @@
 -- A ring and the words round it and its image; the stage after it.
 use Rattle.std.proofs.Common.{◌≡◌, ℕ, ◌+◌, ◌*◌, ◌^◌, ◌<◌, ◌≤◌, List, length, take, set, ℤ, pos, subst, arith}
-use Rattle.word_image.proofs.Common.{range_with_len, All-map, length-map-range_with_len, LocalRule, IsRule, IsWord, value, IsRing, ring_letters, ring_image, IsWord-ring_letters, value-below}
+use Rattle.word_image.proofs.Common.{range_with_len, All-map, length-map-range_with_len, LocalRule, IsRule, IsWord, IsWord-le, value, IsRing, ring_letters, ring_image, IsWord-ring_letters, value-below}
 use Rattle.ring_laws.proofs.Rings.{IsWord-ring_image, length-ring_letters}
 use Rattle.kept_sums.specs.Sums.{blocks}
 use Rattle.kept_sums.specs.Spans.{entry, gain_at, IsNarrowed, AreSmall}
@@ -19,10 +19,6 @@ pub IsWord-blocks : {k : ℕ} (range : ℕ) {p : List ℕ} → IsRing k p → Is
 IsWord-blocks {k} range {p} ring =
     All-map (λ a. a < k ^ range) (λ i. value k (ring_letters p (pos i) range)) (range_with_len 0 (length p))
     (λ i d l. subst (λ n. value k (ring_letters p (pos _) range) < k ^ n) (length-ring_letters p (pos _) range) (value-below k (ring_letters p (pos _) range) (IsWord-ring_letters ring (pos _) range)))
-
--- letters below n are below 16 where n is at most 16
-pub within : {n : ℕ} → n ≤ 16 → (w : List ℕ) → IsWord n w → IsWord 16 w
-within few w word = λ i d l. let below = word i d l in omega arith
 
 -- the image of a ring is one
 pub IsRing-ring_image : {r : LocalRule} → IsRule r → {p : List ℕ} → IsRing r.states p → IsRing r.states (ring_image r p)
@@ -45,8 +41,8 @@ IsCondition-ring {r} rule range p few short ring =
       x_word = after;
       y_word = before;
       short = record {
-        after_word = within few _ after;
-        before_word = within few _ before;
+        after_word = IsWord-le _ 16 _ few after;
+        before_word = IsWord-le _ 16 _ few before;
         few_after = omega (arith, short, length-blocks r.states range (ring_image r p), length-ring_image r p);
         few_before = omega (arith, short, length-blocks r.states range p);
       };
@@ -72,6 +68,7 @@ IsAfterRing-narrowed {r} {range} {j} {rows} {news} rule n letters stage few cond
   others = λ q other keep i l.
       gain-KeepsSumOf range (entry news i) r q
       (gain_at-narrowed lies narrowed (after_of r range q) (before_of r range q)
-      (within few _ (IsWord-blocks range (IsRing-ring_image rule other))) (within few _ (IsWord-blocks range other))
+      (IsWord-le _ 16 _ few (IsWord-blocks range (IsRing-ring_image rule other)))
+      (IsWord-le _ 16 _ few (IsWord-blocks range other))
       (λ m h. KeepsSumOf-gain range (entry rows m) r q (keep m h)) i l);
 }

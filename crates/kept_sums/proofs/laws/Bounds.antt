@@ -1,14 +1,12 @@
 -- How great the numbers of a crossed row may be, divided by their greatest common divisor: no greater than those of a small solution of the conditions so far.
 use Rattle.std.proofs.Common.{◌≡◌, ◌≢◌, ℕ, zero, suc, ◌+◌, ◌-◌, ◌*◌, ◌^◌, ◌<◌, ◌≤◌, List, [], length, set, slice_index, slice_index_or, get_or-set_other, get_or-set_same, ℤ, pos, negsuc, ◌-ℤ◌, ◌*ℤ◌, refl, sym, ap, subst, ◌∙◌, ⊎_elim, arith, ◌<ℤ◌, unsigned_abs}
-use Prim.Native.Nat.{◌∣◌}
-use Rattle.std.proofs.Math.Nat.{pow-suc, mul-le-mul, mul-le-mul_left, mul-le-mul_right}
-use Rattle.word_image.proofs.Common.{eq-zero_of_zero-dvd, eq_of_mul-eq-mul_left, pow-le-pow_right, cases_lt, cases_eq, ints, unsigned_abs-mul, LocalRule, IsRule, IsRing, ring_image}
+use Rattle.std.proofs.Math.Nat.{pow-suc, mul-le-mul, mul-le-mul_left, mul-le-mul_right, pos_of_dvd_of_pos, dvd-mul_left, dvd-mul_right}
+use Rattle.word_image.proofs.Common.{one-le-pow, eq_of_mul-eq-mul_left, cases_lt, cases_eq, ints, unsigned_abs-mul, LocalRule, IsRule, IsRing, ring_image}
 use Rattle.std.proofs.lemmas.List.{length-take, take_all}
 use Rattle.kept_sums.specs.Sums.{KeepsSumOf}
 use Rattle.kept_sums.specs.Rows.{at, IsDivisor}
 use Rattle.kept_sums.specs.Spans.{entry, gain_at, FitNarrowed}
 use Rattle.kept_sums.specs.Stages.{IsFree, ring_at, IsZero, NotedKeep, IsStage, IsCondition}
-use Rattle.kept_sums.proofs.laws.Ranges.{power-positive}
 use Rattle.kept_sums.proofs.laws.Integers.{factor-none}
 use Rattle.kept_sums.proofs.laws.Spans.{sum_to-one, spanned_crosses}
 use Rattle.kept_sums.proofs.laws.Combined.{multiple_of}
@@ -53,12 +51,12 @@ noted_solution {r} {range} rule some few counts rings noted i l none =
     let k : ℕ = r.states in
     let h : ℕ = 2 * (r.width + range) - 3 in
     let p : ℕ → List ℕ = ring_at counts rings in
-    let grows : k ^ (range - 1) ≤ k ^ range = pow-le-pow_right (omega arith) {i = range - 1} {j = range} (omega arith) in
     let s = small_solution 16 h i (slice_index counts) (λ m. after_of r range (p m)) (λ m. before_of r range (p m)) l (omega arith) none (λ m n some.
     let cut = ring_short counts rings m h (let short = (noted m n some).1 in omega arith) in
     (omega (arith, cut, length-blocks k range (ring_image r (p m)), length-ring_image r (p m)), omega (arith, cut, length-blocks k range (p m)))) in
     let power : ℕ → ℕ = λ a. (2 * h) ^ free_before k range a in
-    let most = product-steps 16 (λ a. pick (slice_index counts a) 1 (2 * h)) power (power-positive (2 * h) (free_before k range 0) (omega arith)) (λ a n. ⊎_elim
+    let one = one-le-pow (free_before k range 0) (2 * h) (omega arith) in
+    let most = product-steps 16 (λ a. pick (slice_index counts a) 1 (2 * h)) power one (λ a n. ⊎_elim
     (λ inside. omega (arith, mul-le-mul_right (power a) (pick-one (slice_index counts a) (2 * h) (omega arith)), ap (λ e. (2 * h) ^ e) inside.1, pow-suc (2 * h) (free_before k range a)))
     (λ outside.
     let e : slice_index counts a ≡ 0 = ⊎_elim (λ (zeroth : slice_index counts a < 1). omega arith) (λ (more : 1 ≤ slice_index counts a). absurd (outside.0 (noted a n more).0)) (cases_lt (slice_index counts a) 1) in
@@ -85,25 +83,18 @@ least_part n m g y c z most some more whole part small =
 positive_size : (z : ℤ) → z ≢ pos 0 → 1 ≤ unsigned_abs z
 positive_size z some = omega (arith, ints)
 
--- both factors of a positive number are positive
-positive_factors : (m c : ℕ) → 1 ≤ m * c → (1 ≤ m) × (1 ≤ c)
-positive_factors zero c l = absurd (omega (arith, l))
-positive_factors (suc m) zero l = absurd (omega (arith, l))
-positive_factors (suc m) (suc c) l = (omega arith, omega arith)
-
--- a divisor of a positive number is positive
-positive_divisor : (g c : ℕ) → 1 ≤ c → g ∣ c → 1 ≤ g
-positive_divisor zero c some divides = let none = eq-zero_of_zero-dvd divides in absurd (omega arith)
-positive_divisor (suc g) c some divides = omega arith
-
 -- a row of which small weights are a multiple has at most its divisor times the greatest of them
 bounded_multiple : (n : ℕ) (weight : ℕ → ℤ) (m : ℤ) (cross : List ℤ) (g most b : ℕ) → 1 ≤ n → ((a : ℕ) → a < 16 → pos n *ℤ weight a ≡ m *ℤ at cross a) → ((a : ℕ) → unsigned_abs (weight a) ≤ most)
     → b < 16 → weight b ≢ pos 0 → IsDivisor cross g → (a : ℕ) → a < 16 → unsigned_abs (at cross a) ≤ g * most
 bounded_multiple n weight m cross g most b positive multiple small within some divisor a l =
     let size : (c : ℕ) → c < 16 → unsigned_abs m * unsigned_abs (at cross c) ≡ n * unsigned_abs (weight c) = λ c h.
     sym (unsigned_abs-mul m (at cross c)) ∙ ap unsigned_abs (sym (multiple c h)) ∙ unsigned_abs-mul (pos n) (weight c) in
-    let both = positive_factors (unsigned_abs m) (unsigned_abs (at cross b)) (omega (arith, size b within, mul-le-mul positive (positive_size (weight b) some))) in
-    let part = multiple_of cross g (unsigned_abs m) n (λ c. unsigned_abs (weight c)) divisor.combined (mul-le-mul both.0 (positive_divisor g _ both.1 (divisor.divides b within))) size in
+    let both : 0 < unsigned_abs m * unsigned_abs (at cross b) =
+    omega (arith, size b within, mul-le-mul positive (positive_size (weight b) some)) in
+    let factor = pos_of_dvd_of_pos (dvd-mul_right (unsigned_abs m) (unsigned_abs (at cross b))) both in
+    let entry = pos_of_dvd_of_pos (dvd-mul_left (unsigned_abs (at cross b)) (unsigned_abs m)) both in
+    let some = mul-le-mul factor (pos_of_dvd_of_pos (divisor.divides b within) entry) in
+    let part = multiple_of cross g (unsigned_abs m) n (λ c. unsigned_abs (weight c)) divisor.combined some size in
     least_part n (unsigned_abs m) g part.0 (unsigned_abs (at cross a)) (unsigned_abs (weight a)) most positive part.1 part.2 (sym (size a l)) (small a)
 
 -- a positive number

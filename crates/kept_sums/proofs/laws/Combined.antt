@@ -1,7 +1,9 @@
 -- Greatest common divisors are integer combinations, and what that says of multiples of rows.
-use Rattle.std.proofs.Common.{◌≡◌, ℕ, zero, suc, ◌+◌, ◌*◌, ◌/◌, ◌<◌, ◌≤◌, List, ℤ, pos, negsuc, ◌+ℤ◌, ◌-ℤ◌, ◌*ℤ◌, refl, sym, ap, ap₂, ◌∙◌, arith, ◌==◌, if◌then◌else◌, eq-eqb, ne_eqb, unsigned_abs}
+use Rattle.std.proofs.Common.{◌≡◌, ℕ, zero, suc, ◌+◌, ◌*◌, ◌/◌, ◌<◌, ◌≤◌, List, ℤ, pos, negsuc, ◌+ℤ◌, ◌-ℤ◌, ◌*ℤ◌, refl, sym, ap, ap₂, subst, ◌∙◌, arith, ◌==◌, if◌then◌else◌, eq-eqb, ne_eqb, unsigned_abs}
+use Prim.Native.Nat.{◌∣◌}
 use Rattle.std.proofs.Math.IntN.{pos-*ℤ-pos}
-use Rattle.word_image.proofs.Common.{cond-true, cond-false, mul-div_cancel', ints, unsigned_abs-mul}
+use Rattle.std.proofs.Math.Nat.{dvd-mul_right}
+use Rattle.word_image.proofs.Common.{eq-one_of_dvd-one, cond-true, cond-false, mul-div_cancel', ints, unsigned_abs-mul}
 use Rattle.kept_sums.specs.Sums.{sum_to}
 use Rattle.kept_sums.specs.Rows.{at, DividesRow, IsCombined, IsCombinedOf}
 use Rattle.kept_sums.proofs.laws.Integers.{mul-sub, mul-assoc, mul-swap, zero-of_times}
@@ -45,18 +47,11 @@ multiple_of row c t s g combined some same =
     quotient_is (t * c) s (sum_to 16 (λ a. combined.parts a *ℤ pos (g a))) some
     (sym (pos-*ℤ-pos t c) ∙ ap (λ (z : ℤ). pos t *ℤ z) (sym combined.is) ∙ multiple_sum combined.parts (λ a. unsigned_abs (at row a)) g t s same)
 
--- both factors of 1 are 1
-one_factor : (d q : ℕ) → d * q ≡ 1 → d ≡ 1
-one_factor zero q e = absurd (omega (arith, e))
-one_factor (suc zero) q e = refl
-one_factor (suc (suc d)) zero e = absurd (omega (arith, e))
-one_factor (suc (suc d)) (suc q) e = absurd (omega (arith, e))
-
 -- where 1 is combined of a row no other number divides it
 pub IsCombined-primitive : (row : List ℤ) → IsCombined 16 row 1 → (d : ℕ) → DividesRow d row → d ≡ 1
 IsCombined-primitive row combined d divides =
     let part = multiple_of row 1 1 d (λ a. unsigned_abs (at row a) / d) combined (omega arith) (λ a l. omega (arith, mul-div_cancel' d (divides a l))) in
-    one_factor d part.0 (omega (arith, part.2))
+    eq-one_of_dvd-one (subst (λ n. d ∣ n) (sym part.2) (dvd-mul_right d part.0))
 
 -- what is combined of the whole is combined of the parts
 pub IsCombined-divided : (cross row : List ℤ) (g : ℕ) → 1 ≤ g → ((a : ℕ) → a < 16 → pos g *ℤ at row a ≡ at cross a) → IsCombined 16 cross g → IsCombined 16 row 1

@@ -1,8 +1,7 @@
 -- The limits of the shapes: no small solution has a number above 2^56.
 use Rattle.std.proofs.Common.{◌≡◌, ℕ, suc, ◌+◌, ◌-◌, ◌*◌, ◌^◌, ◌<◌, ◌≤◌, ap, ◌∙◌, ⊎_elim, arith}
 use Rattle.std.proofs.Math.Nat.{pow-suc, mul-le-mul_left}
-use Rattle.word_image.proofs.Common.{pow-le-pow_left, pow-le-pow_right, cases_lt, LocalRule, IsRule}
-use Rattle.kept_sums.proofs.laws.Ranges.{power-positive}
+use Rattle.word_image.proofs.Common.{one-le-pow, pow-le-pow_left, pow-le-pow_right, cases_lt, LocalRule, IsRule}
 
 -- how many places are free, at most
 abbrev pub free_count : LocalRule → ℕ → ℕ
@@ -34,7 +33,7 @@ limits {r} rule range h e some few long most =
     let states = rule.shape.least_states in
     let nodes = rule.shape.most_nodes in
     let split : k ^ range ≡ p * k = let next : range ≡ suc (range - 1) = omega arith in ap (λ n. k ^ n) next ∙ pow-suc k (range - 1) in
-    let positive : 1 ≤ p = power-positive k (range - 1) (omega arith) in
+    let positive : 1 ≤ p = one-le-pow (range - 1) k (omega arith) in
     ⊎_elim
     (λ (two : k < 3).
     let short = exponent 2 5 k range (omega arith) states (omega arith) few in

@@ -15,18 +15,21 @@ run h d x n = sum_to n (λ i. h (take (d + 1) (drop i x)))
 abbrev pub turn_sum : (List ℕ → ℤ) → ℕ → List ℕ → ℤ
 turn_sum h d p = sum_to (length p) (λ i. h (ring_letters p (pos i) (d + 1)))
 
--- a window at the front of a longer word
-window-front : (m i : ℕ) (a b : List ℕ) → i + m ≤ length a → take m (drop i (a ++ b)) ≡ take m (drop i a)
-window-front m i a b l = ap (take m) (drop-append-le i a b (omega arith)) ∙ take-append-le m (drop i a) b (omega (arith, length-drop i a))
+-- the first windows of a longer word
+run-front : (h : List ℕ → ℤ) (d n : ℕ) (a b : List ℕ) → n + d ≤ length a → run h d (a ++ b) n ≡ run h d a n
+run-front h d n a b l =
+    sum_to-agree n (λ i below.
+    ap h (ap (take (d + 1)) (drop-append-le i a b (omega arith))
+    ∙ take-append-le (d + 1) (drop i a) b (omega (arith, length-drop i a))))
 
--- two words that share d letters: their windows are those of the whole
-run-append : (h : List ℕ → ℤ) (d : ℕ) (a b c : List ℕ) → length b ≡ d → run h d (a ++ (b ++ c)) (length a + length c) ≡ run h d (a ++ b) (length a) +ℤ run h d (b ++ c) (length c)
-run-append h d a b c e =
-    sum_to-split (length a) (length c) (λ i. h (take (d + 1) (drop i (a ++ (b ++ c)))))
-    ∙ ap₂ (λ (x y : ℤ). x +ℤ y)
-    (sum_to-agree (length a) (λ i l.
-    ap (λ x. h (take (d + 1) (drop i x))) (sym (append_assoc a b c)) ∙ ap h (window-front (d + 1) i (a ++ b) c (omega (arith, length-append a b)))))
-    (sum_to-agree (length c) (λ i l. ap (λ x. h (take (d + 1) x)) (drop-append-add a (b ++ c) i)))
+-- the first windows, and those of the word behind as many letters
+run-split : (h : List ℕ → ℤ) (d m n : ℕ) (a b : List ℕ) → length a ≡ m
+    → run h d (a ++ b) (m + n) ≡ run h d (a ++ b) m +ℤ run h d b n
+run-split h d m n a b e =
+    sum_to-split m n (λ i. h (take (d + 1) (drop i (a ++ b))))
+    ∙ ap (λ (x : ℤ). run h d (a ++ b) m +ℤ x)
+    (sum_to-agree n (λ i l.
+    ap (λ x. h (take (d + 1) x)) (ap (λ j. drop (j + i) (a ++ b)) (sym e) ∙ drop-append-add a b i)))
 
 -- a ring of at least d letters, cut open
 turn_sum-cut : (h : List ℕ → ℤ) (d : ℕ) (p : List ℕ) → d ≤ length p → turn_sum h d p ≡ run h d (p ++ take d p) (length p)
@@ -73,9 +76,13 @@ node_potential : (k : ℕ) (h : List ℕ → ℤ) (d : ℕ) → 1 ≤ k → 1 �
 node_potential k h d some wide vanish u word e =
     let z : List ℕ = zeros d in
     let long : length z ≡ d = length-replicate d 0 in
-    let both : run h d (z ++ (u ++ z)) (length z + length z) ≡ pos 0 =
-    ap₂ (λ (i j : ℕ). run h d (z ++ (u ++ z)) (i + j)) long (long ∙ sym e) ∙ closed k h d some vanish u word (omega (arith, length-append z u)) (omega arith) in
-    omega (arith, ints, run-append h d z u z e, both, ap (run h d (z ++ u)) long, ap (run h d (u ++ z)) long)
+    let front : run h d (z ++ (u ++ z)) d ≡ run h d (z ++ u) d =
+    ap (λ x. run h d x d) (sym (append_assoc z u z)) ∙ run-front h d d (z ++ u) z (omega (arith, length-append z u)) in
+    let split = run-split h d d d z (u ++ z) long in
+    let both : run h d (z ++ (u ++ z)) (d + d) ≡ pos 0 =
+    ap (λ n. run h d (z ++ (u ++ z)) (d + n)) (sym e)
+    ∙ closed k h d some vanish u word (omega (arith, length-append z u)) (omega arith) in
+    omega (arith, ints, front, split, both)
 
 -- the number of a window is the difference of the potentials of its two ends
 pub window-potential : (k : ℕ) (h : List ℕ → ℤ) (d : ℕ) → 1 ≤ k → 1 ≤ d → ShortRingsVanish k h d → (w : List ℕ) → IsWord k w → length w ≡ d + 1
@@ -83,29 +90,30 @@ pub window-potential : (k : ℕ) (h : List ℕ → ℤ) (d : ℕ) → 1 ≤ k �
 window-potential k h d some wide vanish w word e =
     let z : List ℕ = zeros d in
     let u : List ℕ = take d w in
-    let v : List ℕ = drop 1 w in
-    let c : List ℕ = drop d w ++ z in
-    let z_long : length z ≡ d = length-replicate d 0 in
+    let x : List ℕ = z ++ (w ++ z) in
+    let long : length z ≡ d = length-replicate d 0 in
     let u_long : length u ≡ d = length-take-le d w (omega arith) in
-    let v_long : length v ≡ d = omega (arith, length-drop 1 w) in
-    let one_long : length (take 1 w) ≡ 1 = length-take-le 1 w (omega arith) in
-    let c_long : length c ≡ d + 1 = omega (arith, length-append (drop d w) z, length-drop d w) in
-    let by_end : w ++ z ≡ u ++ c = ap (λ y. y ++ z) (sym (take-append-drop d w)) ∙ append_assoc u (drop d w) z in
-    let by_front : w ++ z ≡ take 1 w ++ (v ++ z) = ap (λ y. y ++ z) (sym (take-append-drop 1 w)) ∙ append_assoc (take 1 w) v z in
-    let around : run h d (z ++ (w ++ z)) (d + (d + 1)) ≡ pos 0 =
-    ap (λ n. run h d (z ++ (w ++ z)) (d + n)) (sym e) ∙ closed k h d some vanish w word (omega (arith, length-append z w)) (omega arith) in
-    let out : run h d (z ++ (w ++ z)) (d + (d + 1)) ≡ run h d (z ++ u) d +ℤ run h d (w ++ z) (d + 1) =
-    ap₂ (λ (x : List ℕ) (n : ℕ). run h d (z ++ x) n) by_end (ap₂ (λ (m n : ℕ). m + n) (sym z_long) (sym c_long))
-    ∙ run-append h d z u c u_long
-    ∙ ap₂ (λ (x y : ℤ). x +ℤ y) (ap (run h d (z ++ u)) z_long) (ap₂ (λ (x : List ℕ) (n : ℕ). run h d x n) (sym by_end) c_long) in
-    let turned : d + 1 ≡ length (take 1 w) + length z = omega arith in
-    let on : run h d (w ++ z) (d + 1) ≡ run h d w 1 +ℤ potential h d v =
-    ap₂ (λ (x : List ℕ) (n : ℕ). run h d x n) by_front turned
-    ∙ run-append h d (take 1 w) v z v_long
-    ∙ ap₂ (λ (x y : ℤ). x +ℤ y) (ap₂ (λ (x : List ℕ) (n : ℕ). run h d x n) (take-append-drop 1 w) one_long) (ap (run h d (v ++ z)) z_long) in
+    let one : length (take 1 w) ≡ 1 = length-take-le 1 w (omega arith) in
+    let around : run h d x (d + (d + 1)) ≡ pos 0 =
+    ap (λ n. run h d x (d + n)) (sym e)
+    ∙ closed k h d some vanish w word (omega (arith, length-append z w)) (omega arith) in
+    let out = run-split h d d (d + 1) z (w ++ z) long in
+    let parts : x ≡ (z ++ u) ++ (drop d w ++ z) =
+    ap (λ y. z ++ (y ++ z)) (sym (take-append-drop d w))
+    ∙ ap (λ y. z ++ y) (append_assoc u (drop d w) z)
+    ∙ sym (append_assoc z u (drop d w ++ z)) in
+    let first : run h d x d ≡ run h d (z ++ u) d =
+    ap (λ y. run h d y d) parts ∙ run-front h d d (z ++ u) (drop d w ++ z) (omega (arith, length-append z u)) in
+    let by_front : w ++ z ≡ take 1 w ++ (drop 1 w ++ z) =
+    ap (λ y. y ++ z) (sym (take-append-drop 1 w)) ∙ append_assoc (take 1 w) (drop 1 w) z in
+    let turned : d + 1 ≡ 1 + d = omega arith in
+    let on : run h d (w ++ z) (d + 1) ≡ run h d (w ++ z) 1 +ℤ potential h d (drop 1 w) =
+    ap₂ (run h d) by_front turned
+    ∙ run-split h d 1 d (take 1 w) (drop 1 w ++ z) one
+    ∙ ap (λ y. run h d y 1 +ℤ potential h d (drop 1 w)) (sym by_front) in
     let home = node_potential k h d some wide vanish u (All-take (λ a. a < k) d w word) u_long in
-    let here : run h d w 1 ≡ h w = one-window h d w e in
-    omega (arith, ints)
+    let here : run h d (w ++ z) 1 ≡ h w = run-front h d 1 w z (omega arith) ∙ one-window h d w e in
+    omega (arith, ints, around, out, first, on, home, here)
 
 -- where the number of each window is one number and the difference of two words within it, their sum round a ring says only how many letters it has
 pub turn_sum-steps : {k : ℕ} (h phi : List ℕ → ℤ) (constant : ℤ) (d : ℕ) (p : List ℕ) → IsRing k p → ((w : List ℕ) → IsWord k w → length w ≡ d + 1 → h w ≡ constant +ℤ (phi (take d w) -ℤ phi (drop 1 w)))

@@ -40,10 +40,6 @@ IsZero-pivot {rows} {news} {x} {y} {j} narrowed l a h =
     zero-of_times row.share _ row.positive
     (row.cross a h ∙ ap (λ (g : ℤ). (pos narrowed.lead *ℤ entry rows j a) -ℤ (g *ℤ entry rows j a)) narrowed.gains ∙ omega (arith, ints))
 
--- of two different places one that isn't before the other is a later one
-later : (i j : ℕ) → i ≢ j → j ≤ i → j < i
-later i j other l = omega arith
-
 -- rows that stand go on standing, where none after row j gains
 pub IsStanding-narrowed : {rows news : List (List ℤ)} {x y : List ℕ} {j : ℕ} → IsNarrowed rows x y j news → j < 16 → ((i : ℕ) → j < i → i < 16 → gain_at (entry rows i) x y ≡ pos 0)
     → IsStanding rows j → (i : ℕ) → i < 16 → i ≢ j → IsStanding rows i → IsStanding news i
@@ -61,7 +57,7 @@ IsStanding-narrowed {rows} {news} {x} {y} {j} narrowed within last pivot i l oth
           let nothing : gain *ℤ entry rows j a ≡ pos 0 =
           ⊎_elim
           (λ (before : i < j). factor-none gain _ (pivot.begins a (omega arith)))
-          (λ (after : j ≤ i). zero-factor _ (entry rows j a) (last i (omega (arith, later i j other after)) l))
+          (λ (after : j ≤ i). zero-factor _ (entry rows j a) (last i (omega (arith, other, after)) l))
           (cases_lt i j) in
           entry-narrowed narrowed i a l within_row (stands.begins a h) nothing;
       alone = λ m h apart. entry-narrowed narrowed m i h l (stands.alone m h apart) (factor-none _ _ beside);

@@ -1,6 +1,6 @@
 -- Words of which there are at most 16 have at most 4 letters.
-use Rattle.std.proofs.Common.{◌≡◌, ℕ, suc, ◌+◌, ◌*◌, ◌^◌, ◌<◌, ◌≤◌, ap, subst, ◌∙◌, ⊎_elim, arith, pow-suc}
-use Rattle.word_image.proofs.Common.{pow-le-pow_left, pow-le-pow_right, pow-zero, cases_lt, LocalRule, IsRule}
+use Rattle.std.proofs.Common.{◌≡◌, ℕ, suc, ◌+◌, ◌*◌, ◌^◌, ◌<◌, ◌≤◌, ap, ◌∙◌, ⊎_elim, arith, pow-suc}
+use Rattle.word_image.proofs.Common.{pow-le-pow_left, pow-le-pow_right, cases_lt, LocalRule, IsRule}
 
 -- words of which there are at most 16 have at most 4 letters
 pub few : (k range : ℕ) → 2 ≤ k → k ^ range ≤ 16 → range ≤ 4
@@ -12,10 +12,6 @@ few k range some most =
     let exponent : 2 ^ 5 ≤ 2 ^ range = pow-le-pow_right (omega arith) {i = 5} {j = range} more in
     absurd (omega arith))
     (cases_lt range 5)
-
--- a power of a positive number is positive
-pub power-positive : (b e : ℕ) → 1 ≤ b → 1 ≤ b ^ e
-power-positive b e some = subst (λ n. n ≤ b ^ e) (pow-zero b) (pow-le-pow_right some {i = 0} {j = e} (omega arith))
 
 -- one power more
 pub pow-next : (k n : ℕ) → k ^ (n + 1) ≡ k ^ n * k

@@ -4,7 +4,7 @@ use Rattle.std.proofs.Math.IntN.{pos-*ℤ-pos}
 use Rattle.word_image.proofs.Common.{cases_lt, cases_eq, ints, IsWord}
 use Rattle.kept_sums.specs.Sums.{sum_to}
 use Rattle.kept_sums.specs.Spans.{entry, IsSpanned, gain_at, IsNarrowed}
-use Rattle.kept_sums.proofs.laws.Integers.{mul-add, mul-sub, add-mul, mul-assoc, mul-swap, zero-of_times}
+use Rattle.kept_sums.proofs.laws.Integers.{mul-add, mul-sub, add-mul, mul-assoc, mul-swap, zero-of_times, factor-none}
 use Rattle.kept_sums.proofs.laws.Sums.{gain_at-agree, gain_at-scaled, gain_at-add, gain_at-sub, gain_at-none}
 
 -- the sum of equal numbers is equal
@@ -30,12 +30,6 @@ pub sum_to-scaled : (n : ℕ) (x : ℤ) (f : ℕ → ℤ) → sum_to n (λ i. x 
 unfolding sum_to
 sum_to-scaled zero x f = omega (arith, ints)
 sum_to-scaled (suc n) x f = omega (arith, ints, sum_to-scaled n x f, mul-add x (sum_to n f) (f n))
-
--- the sum of products with one number
-pub sum_to-times : (n : ℕ) (f : ℕ → ℤ) (x : ℤ) → sum_to n (λ i. f i *ℤ x) ≡ sum_to n f *ℤ x
-unfolding sum_to
-sum_to-times zero f x = omega (arith, ints)
-sum_to-times (suc n) f x = omega (arith, ints, sum_to-times n f x, add-mul (sum_to n f) (f n) x)
 
 -- no number is other than 0
 pub sum_to-none : (n : ℕ) (f : ℕ → ℤ) → ((i : ℕ) → i < n → f i ≡ pos 0) → sum_to n f ≡ pos 0
@@ -66,28 +60,34 @@ gain_at-sum_to (suc n) parts rows x y =
 crossed_part : (part lead old gain other : ℤ) → part *ℤ ((lead *ℤ old) -ℤ (gain *ℤ other)) ≡ (lead *ℤ (part *ℤ old)) -ℤ ((part *ℤ gain) *ℤ other)
 crossed_part part lead old gain other = omega (arith, ints, mul-sub part (lead *ℤ old) (gain *ℤ other), mul-swap part lead old, mul-assoc part gain other)
 
+-- a combination of crosses is the cross of two combinations
+sum_to-crossed : (n : ℕ) (parts old gain : ℕ → ℤ) (lead other : ℤ)
+    → sum_to n (λ i. parts i *ℤ ((lead *ℤ old i) -ℤ (gain i *ℤ other)))
+    ≡ (lead *ℤ sum_to n (λ i. parts i *ℤ old i)) -ℤ (sum_to n (λ i. parts i *ℤ gain i) *ℤ other)
+unfolding sum_to
+sum_to-crossed zero parts old gain lead other = omega (arith, ints)
+sum_to-crossed (suc n) parts old gain lead other =
+    let front = sum_to-crossed n parts old gain lead other in
+    let last = crossed_part (parts n) lead (old n) (gain n) other in
+    let first = mul-add lead (sum_to n (λ i. parts i *ℤ old i)) (parts n *ℤ old n) in
+    let second = add-mul (sum_to n (λ i. parts i *ℤ gain i)) (parts n *ℤ gain n) other in
+    omega (arith, ints, front, last, first, second)
+
 -- weights that gain nothing are combined of the crosses of the rows with one of them
 pub spanned_crosses : {k : ℕ} {rows : List (List ℤ)} {weight : ℕ → ℤ} (lead j : ℕ) (x y : List ℕ) → IsWord k x → IsWord k y → gain_at weight x y ≡ pos 0 → (spanned : IsSpanned k rows weight)
     → (a : ℕ) → a < k → pos (lead * spanned.times) *ℤ weight a ≡ sum_to 16 (λ i. spanned.parts i *ℤ ((pos lead *ℤ entry rows i a) -ℤ (gain_at (entry rows i) x y *ℤ entry rows j a)))
 spanned_crosses {rows = rows} {weight} lead j x y one two none spanned a l =
-    let parts : ℕ → ℤ = spanned.parts in
     let gain : ℕ → ℤ = λ i. gain_at (entry rows i) x y in
-    let old : ℕ → ℤ = λ i. entry rows i a in
-    let nothing : sum_to 16 (λ i. parts i *ℤ gain i) ≡ pos 0 =
-    sym (gain_at-sum_to 16 parts (λ i. entry rows i) x y)
+    let nothing : sum_to 16 (λ i. spanned.parts i *ℤ gain i) ≡ pos 0 =
+    sym (gain_at-sum_to 16 spanned.parts (λ i. entry rows i) x y)
     ∙ sym (gain_at-agree spanned.sums x y one two)
     ∙ gain_at-scaled (pos spanned.times) weight x y
-    ∙ ap (λ (z : ℤ). pos spanned.times *ℤ z) none
-    ∙ omega (arith, ints) in
+    ∙ factor-none (pos spanned.times) (gain_at weight x y) none in
     ap (λ (z : ℤ). z *ℤ weight a) (sym (pos-*ℤ-pos lead spanned.times))
     ∙ mul-assoc (pos lead) (pos spanned.times) (weight a)
-    ∙ ap (λ (z : ℤ). pos lead *ℤ z) (spanned.sums a l)
-    ∙ sym (sum_to-scaled 16 (pos lead) (λ i. parts i *ℤ old i))
     ∙ omega (arith, ints)
-    ∙ ap (λ (z : ℤ). sum_to 16 (λ i. pos lead *ℤ (parts i *ℤ old i)) -ℤ (z *ℤ old j)) (sym nothing)
-    ∙ ap (λ (z : ℤ). sum_to 16 (λ i. pos lead *ℤ (parts i *ℤ old i)) -ℤ z) (sym (sum_to-times 16 (λ i. parts i *ℤ gain i) (old j)))
-    ∙ sym (sum_to-sub 16 (λ i. pos lead *ℤ (parts i *ℤ old i)) (λ i. (parts i *ℤ gain i) *ℤ old j))
-    ∙ sum_to-agree 16 (λ i h. sym (crossed_part (parts i) (pos lead) (old i) (gain i) (old j)))
+    ∙ ap₂ (λ (s n : ℤ). (pos lead *ℤ s) -ℤ (n *ℤ entry rows j a)) (spanned.sums a l) (sym nothing)
+    ∙ sym (sum_to-crossed 16 spanned.parts (λ i. entry rows i a) gain (pos lead) (entry rows j a))
 
 -- a number that each number below n has, and 0 for the others
 chosen : (P : ℕ → ℕ → Type 0) (n : ℕ) → ((i : ℕ) → i < n → (s : ℕ) × P i s) → (i : ℕ) → (i < n) ⊎ (n ≤ i) → ℕ

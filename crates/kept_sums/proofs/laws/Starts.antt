@@ -1,7 +1,7 @@
 -- The first stage: each free place has the row that gives it the weight 1.
 use Rattle.std.proofs.Common.{◌≡◌, ◌≢◌, ℕ, ◌-◌, ◌^◌, ◌<◌, ◌≤◌, List, [], replicate, slice_index, slice_index_or, ℤ, pos, ◌*ℤ◌, sym, ap, subst, ◌∙◌, ⊎_elim, ◌⊎◌, inl, inr, arith, unsigned_abs}
 use Rattle.std.proofs.Math.ListN.{get_or-eq_default}
-use Rattle.word_image.proofs.Common.{ints, cases_lt, cases_eq, get_or-replicate, length-replicate, LocalRule, IsRule, slice_index-zeros}
+use Rattle.word_image.proofs.Common.{ints, cases_lt, cases_eq, get_or-replicate, length-replicate, LocalRule, IsRule, IsWord-le, slice_index-zeros}
 use Rattle.kept_sums.specs.Sums.{IsKept, sum_to}
 use Rattle.kept_sums.specs.Rows.{at, IsUnit, IsCombined}
 use Rattle.kept_sums.specs.Spans.{entry, IsSpanned}
@@ -11,7 +11,7 @@ use Rattle.kept_sums.proofs.laws.Spans.{sum_to-one}
 use Rattle.kept_sums.proofs.laws.Densities.{gain-KeepsSumOf}
 use Rattle.kept_sums.proofs.laws.Narrowed.{gain_at-zero}
 use Rattle.kept_sums.proofs.laws.Stages.{Stands, stands_or_zero, not_both}
-use Rattle.kept_sums.proofs.laws.AfterRings.{IsWord-blocks, within, IsRing-ring_image}
+use Rattle.kept_sums.proofs.laws.AfterRings.{IsWord-blocks, IsRing-ring_image}
 
 -- rows of zeros have them everywhere
 pub entry-zeros : (i a : ℕ) → entry (replicate 16 (replicate 16 (pos 0))) i a ≡ pos 0
@@ -113,5 +113,6 @@ IsKept-rows {r} {range} {rows} rule few stage kept i l =
     (λ (stands : Stands r.states range rows i). kept i l (not_both (entry rows i i) stands.standing.leads))
     (λ (zeros : IsZero rows i). λ p ring.
     gain-KeepsSumOf range (entry rows i) r p
-    (gain_at-zero rows i _ _ (within few _ (IsWord-blocks range (IsRing-ring_image rule ring))) (within few _ (IsWord-blocks range ring)) zeros))
+    (gain_at-zero rows i _ _ (IsWord-le _ 16 _ few (IsWord-blocks range (IsRing-ring_image rule ring)))
+    (IsWord-le _ 16 _ few (IsWord-blocks range ring)) zeros))
     (stands_or_zero (stage.places i l))

@@ -25,11 +25,6 @@ pub sum_at-sub : (f g : ℕ → ℤ) (w : List ℕ) → sum_at (λ a. f a -ℤ g
 sum_at-sub f g [] = omega (arith, ints)
 sum_at-sub f g (a ∷ w) = let rest = sum_at-sub f g w in omega (arith, ints)
 
--- weights of 0 come to 0
-pub sum_at-none : (w : List ℕ) → sum_at (λ a. pos 0) w ≡ pos 0
-sum_at-none [] = refl
-sum_at-none (a ∷ w) = let rest = sum_at-none w in omega (arith, ints)
-
 -- sums of numbers from 0 on, as integers
 pub sum_at-pos : (weight : ℕ → ℕ) (w : List ℕ) → sum_at (λ a. pos (weight a)) w ≡ pos (sum_by weight w)
 sum_at-pos weight [] = refl
@@ -53,7 +48,7 @@ gain_at-sub f g x y = let one = sum_at-sub f g x in let two = sum_at-sub f g y i
 
 -- weights of 0 gain nothing
 pub gain_at-none : (x y : List ℕ) → gain_at (λ a. pos 0) x y ≡ pos 0
-gain_at-none x y = let one = sum_at-none x in let two = sum_at-none y in omega (arith, ints)
+gain_at-none x y = gain_at-scaled (pos 0) (λ a. pos 0) x y ∙ omega (arith, ints)
 
 -- weights that gain nothing by two words gain nothing by them the other way round
 pub gain_at-swap : (f : ℕ → ℤ) (x y : List ℕ) → gain_at f x y ≡ pos 0 → gain_at f y x ≡ pos 0

@@ -2,12 +2,12 @@
 use Rattle.std.proofs.Common.{◌≡◌, ℕ, zero, suc, ◌+◌, ◌-◌, ◌*◌, ◌/◌, ◌%◌, ◌^◌, ◌<◌, ◌≤◌, List, length, take, drop, ℤ, pos, ◌+ℤ◌, ◌-ℤ◌, ◌*ℤ◌, sym, ap, ap₂, ◌∙◌, arith, mod-lt}
 use Rattle.std.proofs.Math.Nat.{pow-suc, mod-eq_of_lt, div-one}
 use Rattle.std.proofs.lemmas.Nat.{div_below}
-use Rattle.word_image.proofs.Common.{pow-zero, div-div-eq-div-mul, div-eq_of_lt, zero-div, pow-le-pow_right, ints, LocalRule, IsRule, IsWord, value, word_of, IsRing, ring_letters, ring_image, value-take, value-drop, length-word_of, IsWord-word_of, value-word_of}
+use Rattle.word_image.proofs.Common.{one-le-pow, pow-zero, div-div-eq-div-mul, div-eq_of_lt, zero-div, pow-le-pow_right, ints, LocalRule, IsRule, IsWord, value, word_of, IsRing, ring_letters, ring_image, value-take, value-drop, length-word_of, IsWord-word_of, value-word_of}
 use Rattle.kept_sums.specs.Sums.{sum_at, blocks, KeepsSumOf, IsKept, sum_to}
 use Rattle.kept_sums.specs.Stages.{IsNormal, ring_at, NotedKeep, IsStage}
 use Rattle.kept_sums.specs.Trivials.{IsTrivial, IsSpannedUpToTrivial}
 use Rattle.kept_sums.proofs.laws.Integers.{mul-add, mul-sub}
-use Rattle.kept_sums.proofs.laws.Ranges.{power-positive}
+use Rattle.kept_sums.proofs.laws.Ranges.{pow-next}
 use Rattle.kept_sums.proofs.laws.Sums.{sum_at-sub}
 use Rattle.kept_sums.proofs.laws.Spans.{sum_to-agree}
 use Rattle.kept_sums.proofs.laws.Turns.{sum_at-map, sum_to-ends}
@@ -57,13 +57,27 @@ abbrev pub normal_part : ℕ → ℕ → (ℕ → ℤ) → ℕ → ℤ
 normal_part k range weight x = weight x -ℤ trivial_part k range weight x
 
 -- the first letters of a word but for the last, and the last but for the first, by its value
-pub ends_of_word : (k range : ℕ) (w : List ℕ) → 1 ≤ range → IsWord k w → length w ≡ range → (value k (take (range - 1) w) ≡ value k w / k) × (value k (drop 1 w) ≡ value k w % k ^ (range - 1))
-ends_of_word k range w some word long =
-    let one : length w - (range - 1) ≡ 1 = omega arith in
+pub ends_of_word : (k n : ℕ) (w : List ℕ) → IsWord k w → length w ≡ n + 1
+    → (value k (take n w) ≡ value k w / k) × (value k (drop 1 w) ≡ value k w % k ^ n)
+ends_of_word k n w word long =
+    let one : length w - n ≡ 1 = omega arith in
+    let rest : length w - 1 ≡ n = omega arith in
     let letters : k ^ 1 ≡ k = omega (arith, pow-suc k 0, ap (λ n. n * k) (pow-zero k)) in (
-      value-take k (range - 1) w word (omega arith) ∙ ap (λ n. value k w / k ^ n) one ∙ ap (λ n. value k w / n) letters,
-      value-drop k 1 w word (omega arith) ∙ ap (λ n. value k w % k ^ (n - 1)) long,
+      value-take k n w word (omega arith) ∙ ap (λ n. value k w / k ^ n) one ∙ ap (λ n. value k w / n) letters,
+      value-drop k 1 w word (omega arith) ∙ ap (λ n. value k w % k ^ n) rest,
     )
+
+-- what is a difference of the ends of each word is one of the ends of its value
+pub difference_by_value : (k n : ℕ) (number : List ℕ → ℤ) (phi : ℕ → ℤ)
+    → ((w : List ℕ) → IsWord k w → length w ≡ n + 1 → number w ≡ phi (value k (take n w)) -ℤ phi (value k (drop 1 w)))
+    → (v : ℕ) → v < k ^ (n + 1) → number (word_of k (n + 1) v) ≡ phi (v / k) -ℤ phi (v % k ^ n)
+difference_by_value k n number phi each v l =
+    let word = IsWord-word_of k (n + 1) v l in
+    let long = length-word_of k (n + 1) v in
+    let is = value-word_of k (n + 1) v l in
+    let ends = ends_of_word k n (word_of k (n + 1) v) word long in
+    each (word_of k (n + 1) v) word long
+    ∙ ap₂ (λ (x y : ℕ). phi x -ℤ phi y) (ends.0 ∙ ap (λ x. x / k) is) (ends.1 ∙ ap (λ x. x % k ^ n) is)
 
 -- the trivial part is trivial
 pub IsTrivial-part : (k range : ℕ) (weight : ℕ → ℤ) → 1 ≤ range → IsTrivial k range (trivial_part k range weight)
@@ -71,7 +85,7 @@ IsTrivial-part k range weight some = record {
   constant = weight 0;
   phi = potential_of k (range - 1) weight;
   is = λ w word long.
-      let ends = ends_of_word k range w some word long in
+      let ends = ends_of_word k (range - 1) w word (omega arith) in
       ap₂ (λ (x y : ℕ). weight 0 +ℤ (potential_of k (range - 1) weight x -ℤ potential_of k (range - 1) weight y)) (sym ends.0) (sym ends.1);
 }
 
@@ -93,17 +107,14 @@ IsNormal-trivial k range weight states some normal trivial a l =
     let phi = trivial.phi in
     let c = trivial.constant in
     let positive : 0 < k = omega arith in
-    let size : k ^ range ≡ k ^ d * k = let e : range ≡ suc d = omega arith in ap (λ n. k ^ n) e ∙ pow-suc k d in
-    let one : 1 ≤ k ^ d = power-positive k d positive in
+    let next : d + 1 ≡ range = omega arith in
+    let size : k ^ range ≡ k ^ d * k = ap (λ n. k ^ n) (sym next) ∙ pow-next k d in
+    let one : 1 ≤ k ^ d = one-le-pow d k positive in
     let at_value : (x : ℕ) → x < k ^ range → weight x ≡ c +ℤ (phi (x / k) -ℤ phi (x % k ^ d)) = λ x h.
-    let w : List ℕ = word_of k range x in
-    let word : IsWord k w = IsWord-word_of k range x h in
-    let long : length w ≡ range = length-word_of k range x in
-    let is : value k w ≡ x = value-word_of k range x h in
-    let ends = ends_of_word k range w some word long in
-    ap weight (sym is)
-    ∙ trivial.is w word long
-    ∙ ap₂ (λ (u v : ℕ). c +ℤ (phi u -ℤ phi v)) (ends.0 ∙ ap (λ n. n / k) is) (ends.1 ∙ ap (λ n. n % k ^ d) is) in
+    let below : x < k ^ (d + 1) = rw next h in
+    let parts = difference_by_value k d (λ w. weight (value k w) -ℤ c) phi (λ w word long.
+    omega (arith, ints, trivial.is w word (long ∙ next))) x below in
+    omega (arith, ints, parts, ap weight (value-word_of k (d + 1) x below)) in
     let whole : k ^ d ≤ k ^ range = pow-le-pow_right positive {i = d} {j = range} (omega arith) in
     let front : (x : ℕ) → x < k ^ d → pos 0 ≡ c +ℤ (phi (x / k) -ℤ phi x) = λ x h.
     sym (normal x h) ∙ at_value x (omega arith) ∙ ap (λ n. c +ℤ (phi (x / k) -ℤ phi n)) (mod-eq_of_lt h) in

@@ -1,131 +1,92 @@
 -- Windows of m + range - 1 letters by their values, and the fluxes of what they add.
-use Rattle.std.proofs.Common.{◌≡◌, ℕ, zero, suc, ◌+◌, ◌-◌, ◌*◌, ◌/◌, ◌%◌, ◌^◌, ◌<◌, ◌≤◌, ◌≢◌, List, length, take, drop, get_or, get_or-set_other, set, replicate, slice_index, ℤ, pos, ◌-ℤ◌, refl, sym, ap, ap₂, subst, ◌∙◌, arith, mod-lt, length-drop, unsigned_abs}
-use Rattle.std.proofs.Math.Nat.{pow-suc, mul-le-mul, mul-le-mul_left, div-lt_iff_lt-mul, mod-eq_of_lt}
-use Rattle.word_image.proofs.Common.{pow-zero, div-lt_self, ints, length-replicate, All-take, All-drop, LocalRule, IsRule, IsWord, value, word_of, image, get_or-image, IsWord-image, length-image, value-below, value-take_more, value-take-below, value-take, value-drop, length-word_of, IsWord-word_of, value-word_of, word_of-value}
+use Rattle.std.proofs.Common.{◌≡◌, ℕ, zero, suc, ◌+◌, ◌-◌, ◌*◌, ◌/◌, ◌%◌, ◌^◌, ◌<◌, ◌≤◌, ◌≢◌, List, length, take, drop, get_or, get_or-set_other, set, replicate, slice_index, ℤ, pos, ◌-ℤ◌, refl, sym, ap, ap₂, subst, ◌∙◌, arith, mod-lt, unsigned_abs}
+use Rattle.std.proofs.Math.Nat.{pow-suc, mul-le-mul, mul-le-mul_left, mod-eq_of_lt}
+use Rattle.word_image.proofs.Common.{node_count_pos, one-le-pow, pow-zero, div-lt_self, ints, length-replicate, All-take, LocalRule, IsRule, IsWord, value, word_of, image, get_or-image, drop-take, length-image, value-below, value-take, value-drop, length-word_of, IsWord-word_of, value-word_of, word_of-value}
 use Rattle.std.proofs.lemmas.Nat.{pow-add, div_below}
-use Rattle.std.proofs.lemmas.List.{length-take-le, length-set, take_all}
+use Rattle.std.proofs.lemmas.List.{length-take-le, length-set}
 use Rattle.kept_sums.specs.Rows.{at}
 use Rattle.kept_sums.specs.Fluxes.{IsFluxOf, window_gain, IsFlowBy}
 use Rattle.kept_sums.proofs.Casts.{abs-sub}
-use Rattle.kept_sums.proofs.laws.Ranges.{power-positive, pow-next}
+use Rattle.kept_sums.proofs.laws.Ranges.{pow-next}
 use Rattle.kept_sums.proofs.laws.Parts.{put, at-replicate}
-use Rattle.kept_sums.proofs.laws.Trivials.{ends_of_word, same_of_step}
+use Rattle.kept_sums.proofs.laws.Trivials.{ends_of_word, difference_by_value, same_of_step}
+
+-- how many windows there are
+windows-split : {r : LocalRule} → IsRule r → (range : ℕ)
+    → r.states ^ (r.width + range - 1) ≡ r.states ^ (r.width - 1) * r.states ^ range
+windows-split {r} rule range =
+    let e : r.width + range - 1 ≡ r.width - 1 + range = omega (arith, rule.shape.least_width) in
+    ap (λ n. r.states ^ n) e ∙ pow-add r.states (r.width - 1) range
 
 -- there are at most 256 windows
-pub windows-most : {r : LocalRule} → IsRule r → (range : ℕ) → 1 ≤ range → r.states ^ range ≤ 16 → r.states ^ (r.width + range - 1) ≤ 256
-windows-most {r} rule range some few =
-    let e : r.width + range - 1 ≡ r.width - 1 + range = omega arith in
-    let split : r.states ^ (r.width + range - 1) ≡ r.states ^ (r.width - 1) * r.states ^ range = ap (λ n. r.states ^ n) e ∙ pow-add r.states (r.width - 1) range in
-    let product : r.states ^ (r.width - 1) * r.states ^ range ≤ 16 * 16 = mul-le-mul rule.shape.most_nodes few in
-    omega (arith, split, product)
+pub windows-most : {r : LocalRule} → IsRule r → (range : ℕ) → r.states ^ range ≤ 16
+    → r.states ^ (r.width + range - 1) ≤ 256
+windows-most rule range few = omega (arith, windows-split rule range, mul-le-mul rule.shape.most_nodes few)
 
 -- one letter fewer: half as many words at most
 pub words-half : (k n : ℕ) → 2 ≤ k → k ^ (n + 1) ≤ 256 → k ^ n ≤ 128
 words-half k n states few = omega (arith, pow-next k n, mul-le-mul_left (k ^ n) states, few)
 
 -- the first letters of a window
-pub value-front : (k m range v : ℕ) → 1 ≤ m → v < k ^ (m + range - 1) → value k (take range (word_of k (m + range - 1) v)) ≡ v / k ^ (m - 1)
-value-front k m range v some l =
-    let w : List ℕ = word_of k (m + range - 1) v in
-    let long : length w ≡ m + range - 1 = length-word_of k (m + range - 1) v in
-    let rest : length w - range ≡ m - 1 = omega arith in
-    value-take k range w (IsWord-word_of k (m + range - 1) v l) (omega arith)
-    ∙ ap₂ (λ (x n : ℕ). x / k ^ n) (value-word_of k (m + range - 1) v l) rest
+pub value-front : {r : LocalRule} → IsRule r → (range v : ℕ) → v < r.states ^ (r.width + range - 1)
+    → value r.states (take range (word_of r.states (r.width + range - 1) v)) ≡ v / r.states ^ (r.width - 1)
+value-front {r} rule range v l =
+    let w : List ℕ = word_of r.states (r.width + range - 1) v in
+    let long : length w ≡ r.width + range - 1 = length-word_of r.states (r.width + range - 1) v in
+    let rest : length w - range ≡ r.width - 1 = omega arith in
+    value-take r.states range w (IsWord-word_of r.states (r.width + range - 1) v l) (omega arith)
+    ∙ ap₂ (λ (x n : ℕ). x / r.states ^ n) (value-word_of r.states (r.width + range - 1) v l) rest
 
 -- the first letters of a window are one of few words
-pub front-below : (k m range v : ℕ) → 1 ≤ m → k ^ range ≤ 16 → v < k ^ (m + range - 1) → v / k ^ (m - 1) < 16
-front-below k m range v some few l =
-    let w : List ℕ = word_of k (m + range - 1) v in
-    let long : length w ≡ m + range - 1 = length-word_of k (m + range - 1) v in
-    let cut : length (take range w) ≡ range = length-take-le range w (omega arith) in
-    let word : IsWord k (take range w) = All-take (λ a. a < k) range w (IsWord-word_of k (m + range - 1) v l) in
-    let below : value k (take range w) < k ^ range = subst (λ n. value k (take range w) < k ^ n) cut (value-below k (take range w) word) in
-    let front = value-front k m range v some l in
-    omega (arith, below, front, few)
+pub front-below : {r : LocalRule} → IsRule r → (range v : ℕ) → r.states ^ range ≤ 16
+    → v < r.states ^ (r.width + range - 1) → v / r.states ^ (r.width - 1) < 16
+front-below {r} rule range v few l =
+    let split : v < r.states ^ range * r.states ^ (r.width - 1) = omega (arith, l, windows-split rule range) in
+    omega (arith, few, div_below v (r.states ^ (r.width - 1)) (r.states ^ range) (node_count_pos rule) split)
 
--- the value of a window within a longer one
-pub window-within : (k m after v : ℕ) → 1 ≤ k → v % k ^ (m + after) / k ^ after < k ^ m
-window-within k m after v some =
-    let below : v % k ^ (m + after) < k ^ m * k ^ after = subst (λ n. v % k ^ (m + after) < n) (pow-add k m after) (mod-lt v (power-positive k (m + after) some)) in
-    (div-lt_iff_lt-mul (power-positive k after some)).1 below
+-- the image of a window has `range` letters
+pub length-image_of : {r : LocalRule} → IsRule r → (range v : ℕ)
+    → length (image r (word_of r.states (r.width + range - 1) v)) ≡ range
+length-image_of {r} rule range v =
+    let long = length-word_of r.states (r.width + range - 1) v in
+    omega (arith, length-image r (word_of r.states (r.width + range - 1) v), long)
 
--- a letter of a window's image
-pub window-letter : (r : LocalRule) (range i v : ℕ) → 1 ≤ r.width → i < range → v < r.states ^ (r.width + range - 1)
-    → get_or (image r (word_of r.states (r.width + range - 1) v)) i 0 ≡ slice_index r.table (v % r.states ^ (r.width + (range - 1 - i)) / r.states ^ (range - 1 - i))
-window-letter r range i v some l below =
+-- letter i of a window's image, by the window's value
+pub window-letter : {r : LocalRule} → IsRule r → (range i v : ℕ) → i < range → v < r.states ^ (r.width + range - 1)
+    → slice_index r.table (v / r.states ^ (range - 1 - i) % r.states ^ r.width)
+    ≡ get_or (image r (word_of r.states (r.width + range - 1) v)) i 0
+window-letter {r} rule range i v l below =
     let k : ℕ = r.states in
     let n : ℕ = r.width + range - 1 in
     let w : List ℕ = word_of k n v in
-    let part : List ℕ = drop i w in
     let long : length w ≡ n = length-word_of k n v in
     let word : IsWord k w = IsWord-word_of k n v below in
+    let front_long : length (take (i + r.width) w) ≡ i + r.width = length-take-le (i + r.width) w (omega arith) in
+    let behind : length w - (i + r.width) ≡ range - 1 - i = omega arith in
+    let wide : length (take (i + r.width) w) - i ≡ r.width = omega arith in
+    let front : value k (take (i + r.width) w) ≡ v / k ^ (range - 1 - i) =
+    value-take k (i + r.width) w word (omega arith) ∙ ap₂ (λ (x j : ℕ). x / k ^ j) (value-word_of k n v below) behind in
+    let part : value k (drop i (take (i + r.width) w)) ≡ v / k ^ (range - 1 - i) % k ^ r.width =
+    value-drop k i (take (i + r.width) w) (All-take (λ a. a < k) (i + r.width) w word) (omega arith)
+    ∙ ap₂ (λ (x j : ℕ). x % k ^ j) front wide in
     let cut : i + r.width - i ≡ r.width = omega arith in
-    let left : length w - i ≡ r.width + (range - 1 - i) = omega arith in
-    let part_long : length part ≡ r.width + (range - 1 - i) = length-drop i w ∙ left in
-    let after : length part - r.width ≡ range - 1 - i = omega arith in
-    get_or-image r w i (omega arith)
-    ∙ ap (λ j. slice_index r.table (value k (take j part))) cut
+    sym (get_or-image r w i (omega arith)
     ∙ ap (slice_index r.table)
-    (value-take k r.width part (All-drop (λ a. a < k) i w word) (omega arith)
-    ∙ ap₂ (λ (x j : ℕ). x / k ^ j) (value-drop k i w word (omega arith) ∙ ap₂ (λ (x j : ℕ). x % k ^ j) (value-word_of k n v below) left) after)
-
--- how many letters a window's image has
-length-image_of : (r : LocalRule) (range v : ℕ) → 1 ≤ r.width → length (image r (word_of r.states (r.width + range - 1) v)) ≡ range
-length-image_of r range v some =
-    let long = length-word_of r.states (r.width + range - 1) v in
-    let whole = length-image r (word_of r.states (r.width + range - 1) v) in
-    omega arith
-
--- the value of the first letters of a window's image and one more is below 16
-pub image-below : (r : LocalRule) → IsRule r → (range i v : ℕ) → i < range → r.states ^ range ≤ 16
-    → value r.states (take i (image r (word_of r.states (r.width + range - 1) v))) * r.states + get_or (image r (word_of r.states (r.width + range - 1) v)) i 0 < 16
-image-below r rule range i v l few =
-    let w : List ℕ = image r (word_of r.states (r.width + range - 1) v) in
-    let wide = rule.shape.least_width in
-    let long : length w ≡ range = length-image_of r range v (omega arith) in
-    value-take-below r.states w i 16 (IsWord-image rule (word_of r.states (r.width + range - 1) v)) (omega arith) (subst (λ n. r.states ^ n ≤ 16) (sym long) few)
-
--- the value of the image's first letters, with the next letter, is that of one letter more
-pub image-more : (r : LocalRule) → IsRule r → (range i v : ℕ) → i < range
-    → value r.states (take (i + 1) (image r (word_of r.states (r.width + range - 1) v)))
-    ≡ value r.states (take i (image r (word_of r.states (r.width + range - 1) v))) * r.states + get_or (image r (word_of r.states (r.width + range - 1) v)) i 0
-image-more r rule range i v l =
-    let wide = rule.shape.least_width in
-    let long = length-image_of r range v (omega arith) in
-    value-take_more r.states (image r (word_of r.states (r.width + range - 1) v)) i (omega arith)
-
--- the whole image has a value below 16
-pub image-whole : (r : LocalRule) → IsRule r → (range i v : ℕ) → i ≡ range → r.states ^ range ≤ 16
-    → (take i (image r (word_of r.states (r.width + range - 1) v)) ≡ image r (word_of r.states (r.width + range - 1) v)) × (value r.states (image r (word_of r.states (r.width + range - 1) v)) < 16)
-image-whole r rule range i v e few =
-    let w : List ℕ = image r (word_of r.states (r.width + range - 1) v) in
-    let wide = rule.shape.least_width in
-    let long : length w ≡ range = length-image_of r range v (omega arith) in
-    let below : value r.states w < r.states ^ range = subst (λ n. value r.states w < r.states ^ n) long (value-below r.states w (IsWord-image rule (word_of r.states (r.width + range - 1) v))) in
-    (take_all i w (omega arith), omega arith)
-
--- the values of the two ends of a window
-ends_of_window : {r : LocalRule} → IsRule r → (range : ℕ) → 1 ≤ range → (w : List ℕ) → IsWord r.states w → length w + 1 ≡ r.width + range
-    → (value r.states (take (length w - 1) w) ≡ value r.states w / r.states) × (value r.states (drop 1 w) ≡ value r.states w % r.states ^ (r.width + range - 2))
-ends_of_window {r} rule range some w word long =
-    let less : length w - 1 ≡ r.width + range - 2 = omega arith in
-    let ends = ends_of_word r.states (length w) w (omega arith) word refl in
-    (ends.0, ends.1 ∙ ap (λ n. value r.states w % r.states ^ n) less)
+    (ap (λ j. value k (take j (drop i w))) cut ∙ ap (value k) (sym (drop-take i r.width w)) ∙ part))
 
 -- a flux is one by the values of the windows
 pub IsFlowBy-flux : {r : LocalRule} {range : ℕ} {weight phi gains : ℕ → ℤ} → IsRule r → 1 ≤ range → ((v : ℕ) → v < r.states ^ (r.width + range - 1) → gains v ≡ window_gain r range weight (word_of r.states (r.width + range - 1) v)) → IsFluxOf range weight r phi
     → IsFlowBy r.states (r.width + range - 2) gains phi
 IsFlowBy-flux {r} {range} {weight} {phi} rule some are flux = record {
   flows = λ v l.
-      let k : ℕ = r.states in
-      let n : ℕ = r.width + range - 1 in
-      let e : r.width + range - 2 + 1 ≡ n = omega arith in
-      let below : v < k ^ n = subst (λ j. v < k ^ j) e l in
-      let word : IsWord k (word_of k n v) = IsWord-word_of k n v below in
-      let long : length (word_of k n v) + 1 ≡ r.width + range = omega (arith, length-word_of k n v) in
-      let is : value k (word_of k n v) ≡ v = value-word_of k n v below in
-      let ends = ends_of_window rule range some (word_of k n v) word long in
-      are v below ∙ flux.flows (word_of k n v) word long ∙ ap₂ (λ (x y : ℕ). phi x -ℤ phi y) (ends.0 ∙ ap (λ x. x / k) is) (ends.1 ∙ ap (λ x. x % k ^ (r.width + range - 2)) is);
+      let n : ℕ = r.width + range - 2 in
+      let e : n + 1 ≡ r.width + range - 1 = omega (arith, some, rule.shape.least_width) in
+      are v (subst (λ j. v < r.states ^ j) e l)
+      ∙ ap (λ j. window_gain r range weight (word_of r.states j v)) (sym e)
+      ∙ difference_by_value r.states n (window_gain r range weight) phi (λ w word long.
+      let less : length w - 1 ≡ n = omega arith in
+      flux.flows w word (omega arith)
+      ∙ ap (λ j. phi (value r.states (take j w)) -ℤ phi (value r.states (drop 1 w))) less) v l;
 }
 
 -- a flux of words is one by the values of the windows
@@ -135,19 +96,20 @@ IsFluxOf-IsFlowBy {r} {range} {weight} {phi} rule some are by = record {
   flows = λ w word long.
       let k : ℕ = r.states in
       let whole : length w ≡ r.width + range - 1 = omega arith in
-      let shorter : length w ≡ r.width + range - 2 + 1 = omega arith in
+      let shorter : length w ≡ r.width + range - 2 + 1 = omega (arith, long, some, rule.shape.least_width) in
+      let less : length w - 1 ≡ r.width + range - 2 = omega arith in
       let below : value k w < k ^ length w = value-below k w word in
       let same : word_of k (r.width + range - 1) (value k w) ≡ w = ap (λ j. word_of k j (value k w)) (sym whole) ∙ word_of-value k w word in
-      let ends = ends_of_window rule range some w word long in
+      let ends = ends_of_word k (r.width + range - 2) w word shorter in
       ap (window_gain r range weight) (sym same)
       ∙ sym (are (value k w) (subst (λ j. value k w < k ^ j) whole below))
       ∙ by.flows (value k w) (subst (λ j. value k w < k ^ j) shorter below)
-      ∙ ap₂ (λ (x y : ℕ). phi x -ℤ phi y) (sym ends.0) (sym ends.1);
+      ∙ ap₂ (λ (x y : ℕ). phi x -ℤ phi y) (sym (ap (λ j. value k (take j w)) less ∙ ends.0)) (sym ends.1);
 }
 
 -- the words at the two ends of a window
 pub window_ends : (k n v : ℕ) → 1 ≤ k → v < k ^ (n + 1) → (v / k < k ^ n) × (v % k ^ n < k ^ n)
-window_ends k n v some l = (div_below v k (k ^ n) some (omega (arith, l, pow-next k n)), mod-lt v (power-positive k n some))
+window_ends k n v some l = (div_below v k (k ^ n) some (omega (arith, l, pow-next k n)), mod-lt v (one-le-pow n k some))
 
 -- numbers that differ from a flux by one number are a flux
 pub IsFlowBy-less : {k n : ℕ} {gains phi psi : ℕ → ℤ} (c : ℤ) → 1 ≤ k → ((v : ℕ) → v < k ^ n → psi v ≡ phi v -ℤ c) → IsFlowBy k n gains phi → IsFlowBy k n gains psi

@@ -1,6 +1,7 @@
 -- Colours and their letters: every permutation has both, and words come back.
-use Rattle.std.proofs.Common.{◌≡◌, ℕ, zero, suc, ◌<◌, ◌≤◌, List, [], ◌∷◌, ◌++◌, length, take, get_or, slice_index, refl, sym, ap, ap₂, ◌∙◌, subst, ⊎_elim, arith, length-take-le, get_or-take}
-use Rattle.word_image.proofs.Common.{cases_lt, length_push, get_or_push, get_or_append_left, All-map, All-from_get_or, All-head, All-tail, IsWord, twice_below}
+use Rattle.std.proofs.Common.{◌≡◌, ℕ, ◌<◌, List, [], ◌∷◌, length, take, map, slice_index, refl, sym, ap, ap₂, ◌∙◌, subst, ⊎_elim, arith, length-take-le, get_or-take}
+use Rattle.word_image.proofs.Common.{cases_lt, range_with_len, length-map-range_with_len, get_or-map-range_with_len, All-map, All-from_get_or, All-head, All-tail, IsWord, twice_below}
+use Rattle.word_image.proofs.laws.Searches.{but, but_cases, but_else}
 use Rattle.rule_algebra.specs.Algebra.{IsRecolouring, recoloured}
 use Rattle.rule_algebra.proofs.laws.Recolouring.{recoloured_back}
 use Rattle.rule_classes.specs.Colourings.{AreInverse}
@@ -9,59 +10,36 @@ use Rattle.rule_classes.specs.Colourings.{AreInverse}
 pub AreInverse-swap : {k : ℕ} {colours letters : List ℕ} → AreInverse k colours letters → AreInverse k letters colours
 AreInverse-swap {k} {colours} {letters} h = record { colours_long = h.letters_long; letters_long = h.colours_long; colour = h.letter; letter = h.colour; back = h.there; there = h.back }
 
--- two equal ones among a letter and different colours: the letter is a colour
-place : {k : ℕ} {colours : List ℕ} → IsRecolouring k colours → (y i j : ℕ) → i < j → j ≤ k → get_or (y ∷ colours) i 0 ≡ get_or (y ∷ colours) j 0 → (a : ℕ) × (a < k) × (slice_index colours a ≡ y)
-place {k} {colours} h y i zero l within e = absurd (omega arith)
-place {k} {colours} h y zero (suc j) l within e = (j, omega arith, sym e)
-place {k} {colours} h y (suc i) (suc j) l within e = absurd (omega (arith, h.different i j (omega arith) (omega arith) e))
-
 -- every letter is a colour
 letter_of : {k : ℕ} {colours : List ℕ} → IsRecolouring k colours → (y : ℕ) → y < k → (a : ℕ) × (a < k) × (slice_index colours a ≡ y)
 letter_of {k} {colours} h y l =
-    let below : (i : ℕ) → i ≤ k → get_or (y ∷ colours) i 0 < k = elim [
-      | zero ↦ λ within. l
-      | suc i ↦ λ within. h.word i 0 (omega (arith, h.long))
-    ] in
-    let found = twice_below k (λ i. get_or (y ∷ colours) i 0) below in
-    place h y found.0 found.1 found.2 found.3 found.4
+    let f : ℕ → ℕ = but (slice_index colours) k y in
+    let at = but_cases (slice_index colours) k y in
+    let (i, j, less, most, same) = twice_below k f (λ x w. ⊎_elim (λ last. omega (arith, last.1, l)) (λ other. let below : slice_index colours x < k = h.word x 0 (omega (arith, other.0, w, h.long)) in omega (arith, other.1)) (at x)) in
+    let first : f i ≡ slice_index colours i = but_else (slice_index colours) k y i (λ e. omega arith) in
+    (i, omega arith, sym first ∙ same ∙ ⊎_elim (λ last. last.1) (λ other. absurd (let one : i ≡ j = h.different i j (omega arith) (omega (arith, other.0, most)) (sym first ∙ same ∙ other.1) in omega arith)) (at j))
 
--- the letters of the first n colours
-first_letters : {k : ℕ} {colours : List ℕ} → IsRecolouring k colours → (n : ℕ) → n ≤ k
-    → (letters : List ℕ) × (length letters ≡ n) × ((a : ℕ) → a < n → (slice_index letters a < k) × (slice_index colours (slice_index letters a) ≡ a))
-first_letters {k} {colours} h zero l = ([], refl, λ a below. absurd (omega arith))
-first_letters {k} {colours} h (suc n) l =
-    let before = first_letters h n (omega arith) in
-    let found = letter_of h n l in
-    let letters : List ℕ = before.0 ++ found.0 ∷ [] in (
-      letters,
-      omega (arith, length_push before.0 found.0, before.1),
-      λ a below. ⊎_elim
-          (λ less.
-          let old : slice_index letters a ≡ slice_index before.0 a = get_or_append_left before.0 (found.0 ∷ []) 0 a (omega (arith, before.1)) in
-          (subst (λ c. c < k) (sym old) (before.2 a less).0, ap (slice_index colours) old ∙ (before.2 a less).1))
-          (λ last.
-          let same : n ≡ a = omega arith in
-          let new : slice_index letters a ≡ found.0 = get_or_push before.0 found.0 0 a (before.1 ∙ same) in
-          (subst (λ c. c < k) (sym new) found.1, ap (slice_index colours) new ∙ found.2 ∙ same))
-          (cases_lt a n),
-    )
+-- a number that is the letter of the colour y, if y is one
+letter_at : {k : ℕ} {colours : List ℕ} → IsRecolouring k colours → (y : ℕ) → (a : ℕ) × (y < k → (a < k) × (slice_index colours a ≡ y))
+letter_at {k} h y = ⊎_elim (λ l. let (a, below, at) = letter_of h y l in (a, λ _. (below, at))) (λ past. (0, λ l. absurd (omega arith))) (cases_lt y k)
 
 -- every permutation has its letters
 pub inverse_letters : {k : ℕ} {colours : List ℕ} → IsRecolouring k colours → (letters : List ℕ) × AreInverse k colours letters
 inverse_letters {k} {colours} h =
-    let found = first_letters h k (omega arith) in
-    let letters : List ℕ = found.0 in
-    let below : (a : ℕ) → a < k → slice_index colours a < k = λ a l. h.word a 0 (omega (arith, h.long)) in (
+    let f : ℕ → ℕ = λ y. (letter_at h y).0 in
+    let letters : List ℕ = map f (range_with_len 0 k) in
+    let at : (y : ℕ) → y < k → slice_index letters y ≡ f y = λ y l. get_or-map-range_with_len f 0 k y y 0 l (omega arith) in
+    let below : (a : ℕ) → a < k → slice_index colours a < k = λ a l. h.word a 0 (omega (arith, h.long)) in
+    let letter : (a : ℕ) → a < k → slice_index letters a < k = λ a l. omega (arith, at a l, ((letter_at h a).1 l).0) in
+    let there : (a : ℕ) → a < k → slice_index colours (slice_index letters a) ≡ a = λ a l. ap (slice_index colours) (at a l) ∙ ((letter_at h a).1 l).1 in (
       letters,
       record {
         colours_long = omega (arith, h.long);
-        letters_long = omega (arith, found.1);
+        letters_long = omega (arith, length-map-range_with_len f 0 k);
         colour = below;
-        letter = λ a l. (found.2 a l).0;
-        there = λ a l. (found.2 a l).1;
-        back = λ a l.
-            let at = found.2 (slice_index colours a) (below a l) in
-            h.different (slice_index letters (slice_index colours a)) a at.0 l at.1;
+        letter = letter;
+        there = there;
+        back = λ a l. h.different (slice_index letters (slice_index colours a)) a (letter _ (below a l)) l (there _ (below a l));
       },
     )
 

@@ -12,10 +12,6 @@ Completes-itself {k} {c} {low} {high} colouring = record { colouring = colouring
 
 -- Tables
 
--- from the last window on there is nothing to agree on
-pub AgreeFrom-none : {r : LocalRule} {c best : Colouring} {low high v : ℕ} → r.states ^ r.width ≤ v → AgreeFrom r c low high best v
-AgreeFrom-none {r} {c} {best} {low} {high} {v} past = record { same = λ d completes u from within. absurd (omega arith) }
-
 -- one window less
 pub AgreeFrom-less : {r : LocalRule} {c best : Colouring} {low high v : ℕ} → IsRule r → high ≤ r.states → IsColouring r.states c → IsKnown r low high v
     → IsChosen low high (entry r c v) → entry r c v ≡ entry r best v → AgreeFrom r c low high best (v + 1) → AgreeFrom r c low high best v

@@ -1,24 +1,20 @@
 -- Calls one after another give each listed rule once.
-use Rattle.std.proofs.Common.{◌≡◌, ℕ, ◌^◌, ◌<◌, ◌≤◌, List, [], ◌∷◌, ◌++◌, ◌⊎◌, inl, inr, length, Option, Some, None, refl, sym, ap₂, ◌∙◌, subst, arith, ⊎_elim, Contains, slice_index}
-use Rattle.word_image.proofs.Common.{cases_lt, Contains-append_left, Contains-append_right, Contains-append_cases, Contains-push, Contains-push_cases, LocalRule, rule_from_parts}
-use Rattle.std.proofs.lemmas.List.{ext_get_or}
+use Rattle.std.proofs.Common.{◌≡◌, ℕ, zero, suc, ◌^◌, ◌<◌, ◌≤◌, List, [], ◌∷◌, ◌++◌, ◌⊎◌, inl, inr, Option, Some, None, refl, sym, subst, arith, ⊎_elim, Contains, slice_index}
+use Rattle.word_image.proofs.Common.{cases_lt, LocalRule}
 use Rattle.rule_lists.specs.Ranks.{IsOrder, rank, rank_of_first}
 use Rattle.rule_lists.specs.Listed.{IsOfShape, IsListed, IsFirst, NoneIs}
 use Rattle.rule_lists.specs.Calls.{IsAfter, AreAll, AreSoFar, AreAscending, AreListed}
 use Rattle.rule_lists.specs.declared.properties.Property.{Property}
 use Rattle.rule_lists.proofs.laws.Ranks.{same_letters}
-use Rattle.rule_lists.proofs.laws.Going.{IsTable-shape}
+use Rattle.rule_lists.proofs.laws.Going.{IsTable-shape, same_rule}
 
 -- two rules of a shape with one rank are one
 pub one_rule : (k m : ℕ) (order : List ℕ) (q r : LocalRule) → IsOrder (k ^ m) order → IsOfShape k m q → IsOfShape k m r → rank k order q.table ≡ rank k order r.table → q ≡ r
 one_rule k m order q r h first second e =
-    let long : (s : LocalRule) → IsOfShape k m s → length s.table ≡ k ^ m = λ s of. of.rule.entries ∙ ap₂ (λ (a b : ℕ). a ^ b) of.states of.width in
     let whole : rank_of_first k order q.table (k ^ m) ≡ rank_of_first k order r.table (k ^ m) = subst (λ n. rank_of_first k order q.table n ≡ rank_of_first k order r.table n) h.long e in
-    let each : (v : ℕ) → v < k ^ m → slice_index q.table v ≡ slice_index r.table v = λ v l.
+    same_rule first second (λ v l.
     let (i, below, at) = h.all v l in
-    subst (λ w. slice_index q.table w ≡ slice_index r.table w) at (same_letters k (k ^ m) order q.table r.table (k ^ m) h (IsTable-shape first) (IsTable-shape second) (omega arith) whole i below) in
-    let tables : q.table ≡ r.table = ext_get_or 0 q.table r.table (long q first ∙ sym (long r second)) (λ v l. each v (omega (arith, long q first))) in
-    rule_from_parts {r = q} {s = r} (first.states ∙ sym second.states) (first.width ∙ sym second.width) (first.offset ∙ sym second.offset) tables
+    subst (λ w. slice_index q.table w ≡ slice_index r.table w) at (same_letters k (k ^ m) order q.table r.table (k ^ m) h (IsTable-shape first) (IsTable-shape second) (omega arith) whole i below))
 
 -- a rule after one that comes later comes later
 IsAfter-more : (k : ℕ) (order : List ℕ) (last : Option LocalRule) (r q : LocalRule) → IsAfter k order last r → rank k order r.table < rank k order q.table → IsAfter k order last q
@@ -27,17 +23,14 @@ IsAfter-more k order (Some p) r q h l = omega (arith, h, l)
 
 -- the first element, and those behind it
 Contains-first : (rs : List LocalRule) (r : LocalRule) → Contains (r ∷ rs) r
-Contains-first rs r = Contains-append_left (r ∷ []) rs r (Contains-push [] r)
+Contains-first rs r = (0, omega arith, refl)
 
 Contains-behind : (rs : List LocalRule) (r q : LocalRule) → Contains rs q → Contains (r ∷ rs) q
-Contains-behind rs r q h = Contains-append_right (r ∷ []) rs q h
+Contains-behind rs r q (i, l, e) = (suc i, omega arith, e)
 
 Contains-cases : (rs : List LocalRule) (r q : LocalRule) → Contains (r ∷ rs) q → (r ≡ q) ⊎ Contains rs q
-Contains-cases rs r q h =
-    ⊎_elim
-    (λ first. ⊎_elim (λ (i, l, e). absurd (omega arith)) (λ e. inl e) (Contains-push_cases [] r q first))
-    (λ behind. inr behind)
-    (Contains-append_cases (r ∷ []) rs q h)
+Contains-cases rs r q (zero, l, e) = inl e
+Contains-cases rs r q (suc i, l, e) = inr (i, omega arith, e)
 
 -- the rules are listed, and come after the last one
 sound : (property : Property) (k m : ℕ) (begin order : List ℕ) (last : Option LocalRule) (rs : List LocalRule) → AreAll property k m begin order last rs → (q : LocalRule) → Contains rs q → IsListed property k m begin q × IsAfter k order last q

@@ -4,10 +4,6 @@ use Rattle.cert_conditions.proofs.Common.{LeadsTo}
 use Rattle.search_laws.proofs.Common.{Walk-push}
 use Rattle.cert_check.proofs.orphans.reached.Goals as goal
 
-pub loop-letter-init : goal.loop-letter-init
-loop-letter-init c =
-    sym c.all_nodes-set.ensures.set
-
 pub loop-letter-preserved : goal.loop-letter-preserved
 loop-letter-preserved c =
     let r = c.args.rule.now in

@@ -6,9 +6,6 @@ use Rattle.cert_conditions.specs.declared.refusal.Refusal.TheVariants as refusal
 use Rattle.cert_conditions.proofs.Common.{IsFirstBreach, Flows, IsBreach, NoFlux}
 use Rattle.cert_check.proofs.sums.flux_flows.Goals as goal
 
-pub first_unbalanced-requires-clause-letters : goal.first_unbalanced-requires-clause-letters
-first_unbalanced-requires-clause-letters c = ((c.cert.invariant.2).weights).each.each_letter
-
 pub returns-in-Some : goal.returns-in-Some
 returns-in-Some c =
     let r = c.cert.inside.rule in

@@ -7,9 +7,6 @@ use Rattle.cert_conditions.proofs.Common.{IsBreach, NoRing}
 use Rattle.cert_check.proofs.sums.ring_lossy.Goals as goal
 use Rattle.cert_check.proofs.sums.ring_lossy.Goals.{then-is_empty-via-then-is_empty, then-is_empty-via-else-is_empty+then-keeps_sum}
 
-pub keeps_sum-requires-clause-letters : goal.keeps_sum-requires-clause-letters
-keeps_sum-requires-clause-letters c = ((c.cert.invariant.2).weights).each.each_letter
-
 pub returns-then-is_empty : goal.returns-then-is_empty
 returns-then-is_empty c =
     let p = c.as_slice-ring.result.now in

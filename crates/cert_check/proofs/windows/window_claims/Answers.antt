@@ -1,10 +1,9 @@
 use Rattle.std.proofs.Common.{ℕ, List, Option, sym, ap, subst, subst₂, ◌∙◌}
 use Rattle.word_image.proofs.Common.{pair_count}
 use Rattle.cert_values.proofs.Common.{Certificate, injective_of}
-use Rattle.cert_values.specs.declared.parts.InjectivePart.{InjectivePart}
 use Rattle.cert_conditions.specs.declared.condition.Condition.TheVariants.{WindowClaims}
 use Rattle.cert_conditions.specs.declared.refusal.Refusal.TheVariants as refusal
-use Rattle.cert_conditions.proofs.Common.{EachBelow, IsFirstBreach, IsWindowPair, Holds, OfWindow, IsBreach, NoWindow}
+use Rattle.cert_conditions.proofs.Common.{IsFirstBreach, IsWindowPair, IsBreach, NoWindow}
 use Rattle.cert_check.proofs.windows.window_claims.Goals as goal
 
 pub returns-in-Some : goal.returns-in-Some
@@ -15,12 +14,3 @@ returns-in-Some c =
     subst (λ (z : Certificate). IsBreach z WindowClaims (refusal.Window c.in-Some.pair)) c.cert.view_is
     (NoWindow c.in-Window.n c.in-Window.c c.in-Some.pair (ap injective_of c.in-Window.is)
     (subst₂ Breach (c.claims_on-forward.ensures.row ∙ ap (λ (z : Certificate). z.forward) view) (c.claims_on-backward.ensures.row ∙ ap (λ (z : Certificate). z.backward) view) c.in-Some.ensures))
-
-pub returns-in-None : goal.returns-in-None
-returns-in-None c =
-    let r = c.cert.inside.rule in
-    let Each = λ (forward backward : List (Option ℕ)). EachBelow (pair_count r) (IsWindowPair r forward backward c.in-Window.n c.in-Window.c) in
-    let view = sym c.cert.view_is in
-    subst (λ (z : Certificate). Holds z WindowClaims) c.cert.view_is
-    (subst (λ (s : InjectivePart). OfWindow (injective_of s) (λ n at. EachBelow (pair_count r) (IsWindowPair r c.cert.inside.forward c.cert.inside.backward n at))) (sym c.in-Window.is)
-    (subst₂ Each (c.claims_on-forward.ensures.row ∙ ap (λ (z : Certificate). z.forward) view) (c.claims_on-backward.ensures.row ∙ ap (λ (z : Certificate). z.backward) view) c.in-None.ensures))

@@ -15,7 +15,6 @@ loop-letter-init c = IsSearchAt-start c.loop-place.invariant (omega (arith, c.le
 
 pub loop-letter-preserved : goal.loop-letter-preserved
 loop-letter-preserved c =
-    let after = slice_index c.steps-steps.result c.loop-letter.letter in
     let letter : c.loop-letter.letter < c.args.subsets.now.states = omega arith in
     let step = closed_step c.at-set.result c.loop-letter.letter c.requires (c.steps-steps.ensures c.loop-letter.letter letter) in
     IsSearchAt-insert c.loop-letter.invariant letter step (λ t other. IsClosedStep-unique step other)

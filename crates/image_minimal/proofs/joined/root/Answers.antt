@@ -1,4 +1,4 @@
-use Rattle.image_minimal.proofs.Common.{◌≡◌, ◌<◌, ◌≤◌, length, get_or, slice_index, refl, ap, ◌∙◌, arith, get_or_default}
+use Rattle.image_minimal.proofs.Common.{◌≡◌, ◌<◌, length, get_or, slice_index, refl, ap, ◌∙◌, arith, get_or_default}
 use Rattle.image_minimal.proofs.Joins.{IsOnWay-start, IsOnWay-next}
 use Rattle.image_minimal.proofs.joined.root.Goals as goal
 
@@ -12,7 +12,6 @@ loop-at-preserved c =
     let at = c.loop-at.at in
     let parent = slice_index parents at in
     let inside : at < length parents = omega (arith, way.halved.long, way.within, c.requires.number) in
-    let lower : parent ≤ at = way.halved.falling at inside in
     let tested : c.index.result.now ≡ parent = c.index.ensures ∙ get_or_default parents at _ 0 inside in
     let inner : c.index-in-loop-at.result.now ≡ parent = c.index-in-loop-at.ensures ∙ get_or_default parents at _ 0 inside in
     let above : c.index-above.result.now ≡ slice_index parents parent =

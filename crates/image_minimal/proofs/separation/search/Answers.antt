@@ -1,4 +1,4 @@
-use Rattle.image_minimal.proofs.Common.{◌≡◌, ℕ, ◌+◌, ◌*◌, ◌^◌, [], ◌∷◌, ◌++◌, slice_index, nat_eq, Some, refl, sym, ap, ap₂, ◌∙◌, subst, arith, slice_get, length, mul-le-mul_right, suc-mul, range_with_len, slice_get_read, slice_get_within, node_count, TreeSpells-some, mapped_at, Link, IsJoin, link_place, IsLinkSearch, SpellsLink, set_count, vec_capacity}
+use Rattle.image_minimal.proofs.Common.{◌≡◌, ℕ, ◌+◌, ◌*◌, ◌^◌, [], ◌∷◌, ◌++◌, slice_index, nat_eq, Some, refl, sym, ap, ap₂, ◌∙◌, subst, arith, slice_get, mul-le-mul_right, suc-mul, range_with_len, slice_get_read, node_count, TreeSpells-some, mapped_at, Link, IsJoin, link_place, IsLinkSearch, SpellsLink, set_count, vec_capacity}
 use Rattle.image_minimal.proofs.laws.LinkWords.{link-below}
 use Rattle.image_minimal.proofs.laws.Separations.{HaveSameOrphans-closed, Separates-conflict}
 use Rattle.image_minimal.proofs.LinkSearches.{IsLinkSearch-start, IsLinkSearchAt-there, IsLinkSearchAt-new, uneven, even}
@@ -39,9 +39,6 @@ loop-letter-init c = record {
   };
   capacity = c.loop-place.invariant.capacity;
 }
-
-pub write_word-requires-clause-at : goal.write_word-requires-clause-at
-write_word-requires-clause-at c = omega (arith, ap length c.deref.ensures.value, slice_get_within c.loop-letter.links.items c.loop-place.place c.loop-letter.invariant.search.link c.loop-letter.invariant.search.here)
 
 pub write_word-requires-clause-earlier : goal.write_word-requires-clause-earlier
 write_word-requires-clause-earlier c i x positive at =

@@ -1,4 +1,4 @@
-use Rattle.image_minimal.proofs.Common.{◌≡◌, [], ◌++◌, length, get_or, reverse, sym, ap, ◌∙◌, subst, arith, length_push, slice_get-get_or, letter_before, Root, TreeSpells-unique, Link, SpellsLink}
+use Rattle.image_minimal.proofs.Common.{◌++◌, length, get_or, reverse, ap, ◌∙◌, arith, length_push, slice_get-get_or, letter_before, Link}
 use Rattle.image_minimal.proofs.laws.LinkWords.{SpellsLink-parent}
 use Rattle.image_minimal.proofs.separation.write_word.Goals as goal
 
@@ -20,11 +20,3 @@ loop-place-preserved c =
           let (u, before, splits) = SpellsLink-parent links place v to c.loop-place-test.true link at in
           (u, before, is ∙ ap (λ x. x ++ reverse c.loop-place.word.items) splits ∙ letter_before u c.loop-place.word.items _ link.letter c.push_reserved-in-loop-place.ensures.items);
     }
-
-pub returns-clause-word : goal.returns-clause-word
-returns-clause-word c w reaches =
-    let links = c.args.links.now in
-    let (v, to, is) = c.loop-place.invariant.completes w reaches in
-    let first : c.loop-place.place ≡ 0 = omega arith in
-    let empty : v ≡ [] = TreeSpells-unique (subst (λ i. SpellsLink links i v) first to) Root in
-    c.reverse.ensures.items ∙ sym (is ∙ ap (λ x. x ++ reverse c.loop-place.word.items) empty)

@@ -1,4 +1,4 @@
-use Rattle.std.proofs.Common.{◌≡◌, ℕ, ◌+◌, ◌*◌, ◌/◌, ◌%◌, ◌^◌, ◌<◌, ◌-ℤ◌, to_z, w64, below_more, sym, ap, ap₂, ◌∙◌, arith}
+use Rattle.std.proofs.Common.{◌≡◌, ℕ, ◌+◌, ◌*◌, ◌/◌, ◌^◌, ◌<◌, ◌-ℤ◌, to_z, w64, below_more, sym, ap, ap₂, ◌∙◌, arith}
 use Rattle.kept_sums.specs.Rows.{at}
 use Rattle.kept_sums.proofs.Casts.{back, back-sub}
 use Rattle.kept_sums.proofs.laws.Ranges.{pow-next}
@@ -18,14 +18,12 @@ loop-window-preserved c =
     let ends = window_ends k n v (omega arith) within in
     let half = words-half k n states c.requires.few in
     let first : c.from-in-loop-window.result ≡ v / k = c.from-in-loop-window.ensures in
-    let last : c.from-in-loop-window-2.result ≡ v % k ^ n = c.from-in-loop-window-2.ensures ∙ ap (λ j. v % j) size in
     let whole : c.from-in-loop-window-3.result ≡ v = c.from-in-loop-window-3.ensures in
-    let one = c.requires.flux c.from-in-loop-window.result (omega (arith, first, ends.0, half)) in
-    let two = c.requires.flux c.from-in-loop-window-2.result (omega (arith, last, ends.1, half)) in
     let all = c.requires.gains c.from-in-loop-window-3.result (omega arith) in
     below_more _ _ c.loop-window.invariant
     (ap (at gains) (sym whole)
     ∙ sym (back w64 (at gains c.from-in-loop-window-3.result) (2 ^ 57) all (omega arith))
     ∙ ap (to_z w64) c.if-gains-from.false
-    ∙ back-sub (at flux c.from-in-loop-window.result) (at flux c.from-in-loop-window-2.result) (7 * 2 ^ 57) one two (omega arith)
+    ∙ back-sub (at flux c.from-in-loop-window.result) (at flux c.from-in-loop-window-2.result)
+    (omega arith) (omega arith)
     ∙ ap₂ (λ (x y : ℕ). at flux x -ℤ at flux y) first c.from-in-loop-window-2.ensures)

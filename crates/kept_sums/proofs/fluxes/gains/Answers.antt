@@ -4,27 +4,25 @@ use Rattle.word_image.proofs.Common.{word_of}
 use Rattle.kept_sums.specs.Fluxes.{window_gain}
 use Rattle.kept_sums.proofs.Casts.{back}
 use Rattle.kept_sums.proofs.laws.Parts.{put, at-replicate}
-use Rattle.kept_sums.proofs.laws.Ranges.{short}
 use Rattle.kept_sums.proofs.laws.Windows.{windows-most}
 use Rattle.kept_sums.proofs.fluxes.gains.Goals.{After-from-letters, After-pow-window-end}
 use Rattle.kept_sums.proofs.fluxes.gains.Goals as goal
-
-pub overflow_add-m : goal.overflow_add-m
-overflow_add-m c = omega (arith, short c.m.ensures.rule c.args.range c.requires.few)
 
 -- how many windows there are, as it is computed
 all_is : (c : After-from-letters) → c.from-k.result ^ c.from-letters.result ≡ c.args.rule.now.states ^ (c.args.rule.now.width + c.args.range - 1)
 all_is c = ap₂ (λ (x y : ℕ). x ^ y) (c.from-k.ensures ∙ c.k.ensures.states) (c.from-letters.ensures ∙ ap (λ n. n + c.args.range - 1) c.m.ensures.width)
 
 pub pow-window-end-requires : goal.pow-window-end-requires
-pow-window-end-requires c = omega (arith, windows-most c.m.ensures.rule c.args.range c.requires.some c.requires.few, all_is c)
+pow-window-end-requires c = omega (arith, windows-most c.m.ensures.rule c.args.range c.requires.few, all_is c)
 
 pub loop-window-init : goal.loop-window-init
 loop-window-init c = record { many = refl; done = λ v l. absurd (omega arith); rest = λ v l. at-replicate 256 v }
 
 -- there are at most 256 windows
 few_windows : (c : After-pow-window-end) → c.pow-window-end.result ≤ 256
-few_windows c = omega (arith, windows-most c.m.ensures.rule c.args.range c.requires.some c.requires.few, all_is (goal.at.loop-window-init c).After-from-letters, c.pow-window-end.ensures)
+few_windows c =
+    let most = windows-most c.m.ensures.rule c.args.range c.requires.few in
+    omega (arith, most, all_is (goal.at.loop-window-init c).After-from-letters, c.pow-window-end.ensures)
 
 pub bounds-gains-from : goal.bounds-gains-from
 bounds-gains-from c = omega (arith, few_windows (goal.at.bounds-gains-from c).After-pow-window-end)

@@ -1,8 +1,7 @@
 use Rattle.std.proofs.Common.{ℕ, ◌*◌, ◌/◌, ◌^◌, ◌<◌, ◌≤◌, ℤ, ◌-ℤ◌, refl, sym, ap₂, subst, ◌∙◌, ⊎_elim, arith, unsigned_abs}
-use Rattle.word_image.proofs.Common.{pow-zero, div-lt_self, cases_lt, ints}
+use Rattle.word_image.proofs.Common.{one-le-pow, pow-zero, div-lt_self, cases_lt, ints}
 use Rattle.kept_sums.specs.Rows.{at}
 use Rattle.kept_sums.proofs.Casts.{fits-sub, back-sub}
-use Rattle.kept_sums.proofs.laws.Ranges.{power-positive}
 use Rattle.kept_sums.proofs.laws.Windows.{words-half, AreNumbers-zeros, AreNumbers-next}
 use Rattle.kept_sums.proofs.fluxes.numbers.Goals.{After-from-in-loop-word-2}
 use Rattle.kept_sums.proofs.fluxes.numbers.Goals as goal
@@ -10,29 +9,24 @@ use Rattle.kept_sums.proofs.fluxes.numbers.Goals as goal
 pub loop-word-init : goal.loop-word-init
 loop-word-init c = AreNumbers-zeros c.args.k c.args.letters c.args.gains.now
 
--- the sizes of the two numbers
-record Sizes (c : After-from-in-loop-word-2) : Type 0 where
-  first : unsigned_abs (at c.loop-word.flux c.from-in-loop-word.result) ≤ 2 ^ 60
-  last : unsigned_abs (at c.args.gains.now c.from-in-loop-word-2.result) ≤ 2 ^ 60
-
 -- both numbers are small
-sizes : (c : After-from-in-loop-word-2) → Sizes c
+sizes : (c : After-from-in-loop-word-2) → (unsigned_abs (at c.loop-word.flux c.from-in-loop-word.result) ≤ 2 ^ 60)
+    × (unsigned_abs (at c.args.gains.now c.from-in-loop-word-2.result) ≤ 2 ^ 60)
 sizes c =
     let k = c.args.k in
     let v = c.loop-word.word in
     let half = words-half k c.args.letters c.requires.states c.requires.few in
     let all = c.pow-word-end.ensures ∙ ap₂ (λ (x y : ℕ). x ^ y) refl c.from.ensures in
     let less : v / k < v = div-lt_self (omega arith) (omega arith) in
-    let one = c.from-in-loop-word.ensures in
-    let two = c.from-in-loop-word-2.ensures in
     let first = c.loop-word.invariant.bounds c.from-in-loop-word.result c.args.letters (omega arith) (omega arith) in
     let last = c.requires.bounds c.from-in-loop-word-2.result (omega arith) in
-    record { first = omega arith; last = omega arith }
+    (omega arith, omega arith)
 
 pub overflow_sub-flux : goal.overflow_sub-flux
 overflow_sub-flux c =
     let both = sizes (goal.at.overflow_sub-flux c).After-from-in-loop-word-2 in
-    fits-sub (at c.loop-word.flux c.from-in-loop-word.result) (at c.args.gains.now c.from-in-loop-word-2.result) (2 ^ 60) both.first both.last (omega arith)
+    fits-sub (at c.loop-word.flux c.from-in-loop-word.result) (at c.args.gains.now c.from-in-loop-word-2.result)
+    both.0 both.1
 
 pub loop-word-preserved : goal.loop-word-preserved
 loop-word-preserved c =
@@ -43,14 +37,15 @@ loop-word-preserved c =
     let all = c.pow-word-end.ensures ∙ ap₂ (λ (x y : ℕ). x ^ y) refl c.from.ensures in
     AreNumbers-next k c.args.letters v c.from-in-loop-word-3.result c.args.gains.now c.loop-word.flux _ c.requires.states (omega arith) (omega arith) (omega arith) c.from-in-loop-word-3.ensures
     (c.requires.bounds v (omega arith))
-    (back-sub (at c.loop-word.flux c.from-in-loop-word.result) (at c.args.gains.now c.from-in-loop-word-2.result) (2 ^ 60) both.first both.last (omega arith)
+    (back-sub (at c.loop-word.flux c.from-in-loop-word.result) (at c.args.gains.now c.from-in-loop-word-2.result)
+    both.0 both.1
     ∙ ap₂ (λ (x y : ℕ). at c.loop-word.flux x -ℤ at c.args.gains.now y) c.from-in-loop-word.ensures c.from-in-loop-word-2.ensures)
     c.loop-word.invariant
 
 pub returns-clause-bounds : goal.returns-clause-bounds
 returns-clause-bounds c = λ v l.
     let all = c.pow-word-end.ensures ∙ ap₂ (λ (x y : ℕ). x ^ y) refl c.from.ensures in
-    let some = power-positive c.args.k c.args.letters (let states = c.requires.states in omega arith) in
+    let some = one-le-pow c.args.letters c.args.k (let states = c.requires.states in omega arith) in
     ⊎_elim
     (λ (done : v < c.loop-word.word). let small = c.loop-word.invariant.bounds v c.args.letters done (omega arith) in omega arith)
     (λ (rest : c.loop-word.word ≤ v). subst (λ (z : ℤ). unsigned_abs z ≤ 7 * 2 ^ 57) (sym (c.loop-word.invariant.rest v rest)) (omega arith))
@@ -61,6 +56,6 @@ returns-clause-first c = omega (arith, ints, c.loop-word.invariant.bounds 0 0 (o
 
 pub returns-clause-ends : goal.returns-clause-ends
 returns-clause-ends c = λ v from l.
-    let some = power-positive c.args.k c.args.letters (let states = c.requires.states in omega arith) in
+    let some = one-le-pow c.args.letters c.args.k (let states = c.requires.states in omega arith) in
     let all = c.pow-word-end.ensures ∙ ap₂ (λ (x y : ℕ). x ^ y) refl c.from.ensures in
     c.loop-word.invariant.rest v (omega arith)

@@ -1,15 +1,8 @@
 use Rattle.std.proofs.Common.{arith}
 use Rattle.kept_sums.specs.Spans.{entry}
 use Rattle.kept_sums.proofs.laws.Flows.{IsKept-short_rings}
-use Rattle.kept_sums.proofs.laws.Ranges.{short}
 use Rattle.kept_sums.proofs.laws.Starts.{IsKept-rows}
 use Rattle.kept_sums.proofs.kept.kept_sums.Goals as goal
-
-pub overflow_add-count-end : goal.overflow_add-count-end
-overflow_add-count-end c = omega (arith, short c.m.ensures.rule c.args.range c.requires.few)
-
-pub overflow_mul-count-end : goal.overflow_mul-count-end
-overflow_mul-count-end c = omega (arith, short c.m.ensures.rule c.args.range c.requires.few)
 
 pub returns : goal.returns
 returns c =
@@ -24,6 +17,3 @@ pub returns-then-are_kept : goal.returns-then-are_kept
 returns-then-are_kept c =
     let (stage, keep) = c.loop-count.invariant in
     record { stage = stage; kept = IsKept-rows c.m.ensures.rule c.requires.few stage (c.are_kept.ensures c.if-are_kept.true) }
-
-pub narrowed_by_rings-sums-requires-clause-most : goal.narrowed_by_rings-sums-requires-clause-most
-narrowed_by_rings-sums-requires-clause-most c = omega (arith, short c.m.ensures.rule c.args.range c.requires.few)

@@ -1,7 +1,6 @@
 use Rattle.std.proofs.Common.{◌≡◌, ℕ, suc, ◌+◌, ◌-◌, ◌/◌, ◌%◌, ◌^◌, ◌<◌, ◌≤◌, List, [], ◌∷◌, ◌++◌, length, take, set, sym, ap, ap₂, ◌∙◌, append_assoc, mod-lt, mul-div_cancel, pow-suc, arith}
-use Rattle.word_image.proofs.Common.{pow-le-pow_left, pow-le-pow_right, take_more_set, word_of}
+use Rattle.word_image.proofs.Common.{one-le-pow, pow-le-pow_left, pow-le-pow_right, take_more_set, word_of}
 use Rattle.std.proofs.lemmas.List.{length-set}
-use Rattle.kept_sums.proofs.laws.Ranges.{power-positive}
 use Rattle.kept_sums.proofs.rings.word_with.Goals as goal
 
 pub pow-power-requires : goal.pow-power-requires
@@ -17,12 +16,16 @@ lower k base power n m some same is next = ap₂ (λ (i j : ℕ). i / j) (is ∙
 pub nonzero_div-letters : goal.nonzero_div-letters
 nonzero_div-letters c =
     let m = c.args.count - (c.loop-place.place + 1) in
-    omega (arith, lower c.args.k c.from-base.result c.loop-place.power _ m c.requires.some c.from-base.ensures c.loop-place.invariant.1 (omega arith), power-positive c.args.k m c.requires.some)
+    let (_, power, _, _) = c.loop-place.invariant in
+    let next = lower c.args.k c.from-base.result _ _ m c.requires.some c.from-base.ensures power (omega arith) in
+    omega (arith, next, one-le-pow m c.args.k c.requires.some)
 
 pub nonzero_rem-rest : goal.nonzero_rem-rest
 nonzero_rem-rest c =
     let m = c.args.count - (c.loop-place.place + 1) in
-    omega (arith, lower c.args.k c.from-base.result c.loop-place.power _ m c.requires.some c.from-base.ensures c.loop-place.invariant.1 (omega arith), power-positive c.args.k m c.requires.some)
+    let (_, power, _, _) = c.loop-place.invariant in
+    let next = lower c.args.k c.from-base.result _ _ m c.requires.some c.from-base.ensures power (omega arith) in
+    omega (arith, next, one-le-pow m c.args.k c.requires.some)
 
 -- one letter more
 word_more : (k n m place a rest : ℕ) (letters word : List ℕ) → place < length letters → n ≡ suc m → a ≡ rest / k ^ m → take place letters ++ word_of k n rest ≡ word
@@ -44,7 +47,7 @@ loop-place-preserved c =
     let letter = c.loop-place.rest / (c.loop-place.power / c.from-base.result) in (
       length-set c.loop-place.letters place letter ∙ long,
       power,
-      rw power (mod-lt c.loop-place.rest (power-positive k m c.requires.some)),
+      rw power (mod-lt c.loop-place.rest (one-le-pow m k c.requires.some)),
       ap (λ p. take (place + 1) (set c.loop-place.letters place letter) ++ word_of k m (c.loop-place.rest % p)) power
           ∙ word_more k (c.args.count - place) m place letter c.loop-place.rest c.loop-place.letters _ (omega arith) (omega arith) (ap (λ p. c.loop-place.rest / p) power) word,
     )

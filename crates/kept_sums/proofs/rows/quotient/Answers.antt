@@ -6,18 +6,14 @@ use Rattle.kept_sums.proofs.laws.Integers.{mul-neg}
 use Rattle.kept_sums.proofs.rows.quotient.Goals.{After-unsigned_abs}
 use Rattle.kept_sums.proofs.rows.quotient.Goals as goal
 
--- the size of the quotient
-record Size (c : After-unsigned_abs) : Type 0 where
-  few : c.unsigned_abs.result / c.args.divisor ≤ 2 ^ 56
-  all : c.args.divisor * (c.unsigned_abs.result / c.args.divisor) ≡ unsigned_abs c.args.number
-
 -- how great the quotient is
-size_of : (c : After-unsigned_abs) → Size c
+size_of : (c : After-unsigned_abs) → (c.unsigned_abs.result / c.args.divisor ≤ 2 ^ 56)
+    × (c.args.divisor * (c.unsigned_abs.result / c.args.divisor) ≡ unsigned_abs c.args.number)
 size_of c =
     let d = c.args.divisor in
     let same : c.unsigned_abs.result ≡ unsigned_abs c.args.number = omega (arith, ints) in
     let below : c.unsigned_abs.result / d < 2 ^ 56 + 1 = div_below c.unsigned_abs.result d (2 ^ 56 + 1) c.requires.some (omega arith) in
-    record { few = omega arith; all = ap (λ u. d * (u / d)) same ∙ mul-div_cancel' d c.requires.divides }
+    (omega arith, ap (λ u. d * (u / d)) same ∙ mul-div_cancel' d c.requires.divides)
 
 pub returns-then-number-lt0-clause-quotient : goal.returns-then-number-lt0-clause-quotient
 returns-then-number-lt0-clause-quotient c =
@@ -36,7 +32,9 @@ returns-else-number-lt0-clause-quotient c =
     ap (λ (z : ℤ). pos d *ℤ z) cast ∙ pos-*ℤ-pos d q ∙ omega (arith, ints)
 
 pub returns-then-number-lt0-clause-small : goal.returns-then-number-lt0-clause-small
-returns-then-number-lt0-clause-small c = omega (arith, ints, (size_of (goal.at.returns-then-number-lt0-clause-small c).After-unsigned_abs).few)
+returns-then-number-lt0-clause-small c =
+    omega (arith, ints, (size_of (goal.at.returns-then-number-lt0-clause-small c).After-unsigned_abs).0)
 
 pub returns-else-number-lt0-clause-small : goal.returns-else-number-lt0-clause-small
-returns-else-number-lt0-clause-small c = omega (arith, ints, (size_of (goal.at.returns-else-number-lt0-clause-small c).After-unsigned_abs).few)
+returns-else-number-lt0-clause-small c =
+    omega (arith, ints, (size_of (goal.at.returns-else-number-lt0-clause-small c).After-unsigned_abs).0)

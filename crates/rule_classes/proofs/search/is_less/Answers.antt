@@ -1,13 +1,7 @@
 use Rattle.std.proofs.Common.{◌≡◌, ◌*◌, ap, ◌∙◌, subst, arith}
-use Rattle.word_image.proofs.Common.{windows-nodes}
 use Rattle.rule_classes.specs.Colourings.{AgreeFrom}
-use Rattle.rule_classes.proofs.laws.Completions.{AgreeFrom-none, Completes-itself, one_number}
+use Rattle.rule_classes.proofs.laws.Completions.{Completes-itself, one_number}
 use Rattle.rule_classes.proofs.search.is_less.Goals as goal
-
-pub loop-node-init : goal.loop-node-init
-loop-node-init c =
-    let r = c.args.rule.now in
-    AgreeFrom-none (omega (arith, windows-nodes c.requires.rule, ap (λ n. n * r.states) c.nodes-node.ensures.nodes))
 
 pub returns-clause-no_less : goal.returns-clause-no_less
 returns-clause-no_less c is =

@@ -3,15 +3,6 @@ use Rattle.word_image.proofs.Common.{node_count}
 use Rattle.rule_lists.proofs.Flows.{AreLevels-joined, AreUpTo-joined}
 use Rattle.rule_lists.proofs.forests.with_window.Goals as goal
 
-pub returns-then-kept-gone : goal.returns-then-kept-gone
-returns-then-kept-gone c = record { levels = λ phi gains old. old; small = λ v l. omega (arith, c.requires.small v l) }
-
-pub returns-then-rise-gt-MOST_RISE : goal.returns-then-rise-gt-MOST_RISE
-returns-then-rise-gt-MOST_RISE c = record { levels = λ phi gains old. old; small = λ v l. omega (arith, c.requires.small v l) }
-
-pub returns-then-other-gt-MOST_RISE : goal.returns-then-other-gt-MOST_RISE
-returns-then-other-gt-MOST_RISE c = record { levels = λ phi gains old. old; small = λ v l. omega (arith, c.requires.small v l) }
-
 pub returns : goal.returns
 returns c =
     let r = c.args.shape.now in

@@ -1,4 +1,4 @@
-use Rattle.std.proofs.Common.{◌≡◌, ◌↔◌, Bool, IsTrue, refl, sym, subst}
+use Rattle.std.proofs.Common.{◌≡◌, ◌↔◌, Bool, IsTrue, sym, subst}
 use Rattle.word_image.proofs.Common.{LocalRule}
 use Rattle.rule_lists.specs.Properties.{Has}
 use Rattle.rule_lists.specs.declared.properties.Property.{Property}
@@ -22,6 +22,3 @@ returns-in-LeftClosing c = asked c.in-LeftClosing.is c.endless-in-LeftClosing.en
 
 pub returns-in-Open : goal.returns-in-Open
 returns-in-Open c = asked c.in-Open.is c.endless-in-Open.ensures c.is_open.ensures
-
-pub returns-in-Conserving : goal.returns-in-Conserving
-returns-in-Conserving c = asked c.in-Conserving.is refl c.keeps_sums.ensures

@@ -1,6 +1,6 @@
-use Rattle.std.proofs.Common.{◌≡◌, ◌<◌, ◌^◌, ℕ, slice_index, sym, ◌∙◌, arith}
+use Rattle.std.proofs.Common.{sym, ◌∙◌}
 use Rattle.word_image.proofs.Common.{false≢true}
-use Rattle.rule_lists.proofs.laws.Going.{Forbids-rejected, Forbids-other, HasLetters-same}
+use Rattle.rule_lists.proofs.laws.Going.{Forbids-rejected, Forbids-other}
 use Rattle.rule_lists.proofs.laws.Filled.{of_shape, letters_of_shape}
 use Rattle.rule_lists.proofs.search.found.Goals as goal
 
@@ -18,19 +18,3 @@ returns-then-not-has_letters-clause-none c nothing full =
     let r = c.args.asked.now.shape.now in
     Forbids-other c.args.asked.now.property r.states r.width c.args.asked.now.begin.now c.args.asked.now.order.now c.args.entries.now c.args.n c.k.result c.requires.order c.k.ensures.states full
     (λ has. false≢true (sym c.if-not-has_letters.true ∙ c.has_letters.ensures.1 has))
-
-pub returns-clause-some : goal.returns-clause-some
-returns-clause-some c =
-    let r = c.args.asked.now.shape.now in
-    let e = c.filled-rule.ensures in
-    let full : c.args.n ≡ r.states ^ r.width = omega (arith, c.if-n-size.false, c.size.ensures.size, c.requires.within) in
-    let letters : (v : ℕ) → v < r.states ^ r.width → slice_index c.filled-rule.result.table v ≡ slice_index c.args.entries.now v = letters_of_shape c.filled-rule.result.table c.args.entries.now c.k-2.ensures.states c.m.ensures.width e.table in
-    record {
-      full = full;
-      listed = record {
-        shape = of_shape c.k-2.ensures.states c.m.ensures.width e.rule e.accepted;
-        has = c.has.ensures.0 c.if-not-has.false;
-        begins = HasLetters-same c.args.asked.now.begin.now c.args.entries.now c.filled-rule.result.table c.k.ensures.states full (c.has_letters.ensures.0 c.if-not-has_letters.false) letters;
-      };
-      letters = letters;
-    }

@@ -1,22 +1,18 @@
 use Rattle.std.proofs.Common.{◌≡◌, ◌+◌, set, Some, slice_index, sym, ap, ◌∙◌, subst, arith}
 use Rattle.rule_lists.specs.Listed.{IsOn}
 use Rattle.word_image.proofs.Common.{window_count-le}
-use Rattle.rule_lists.proofs.laws.Going.{IsOn-letter, IsOn-advance}
+use Rattle.rule_lists.proofs.laws.Going.{IsOn-letter, IsOn-next}
 use Rattle.rule_lists.proofs.search.step.Goals as goal
 
 pub returns-then-n-size : goal.returns-then-n-size
 returns-then-n-size c =
-    let r = c.args.asked.now.shape.now in
-    let rule = c.k.ensures.rule in
-    IsOn-advance c.args.asked.now.property r.states r.width c.args.asked.now.begin.now c.args.asked.now.order.now c.args.entries.now _ _ c.args.n c.k.result c.k.ensures.states c.requires.order rule.shape.least_states c.requires.within c.requires.table
-    (c.requires.full (omega (arith, c.size.ensures.size))) c.advance.ensures.table c.advance.ensures.within c.advance.ensures.next c.advance.ensures.past
+    let e = c.advance.ensures in
+    IsOn-next c.args.n c.requires.order (omega (arith, c.size.ensures.rule.shape.least_states)) c.requires.within c.requires.table (c.requires.full (omega (arith, c.size.ensures.size))) e.table e.within e.next e.past
 
 pub returns-then-forbids : goal.returns-then-forbids
 returns-then-forbids c =
-    let r = c.args.asked.now.shape.now in
-    let rule = c.k-then-forbids.ensures.rule in
-    IsOn-advance c.args.asked.now.property r.states r.width c.args.asked.now.begin.now c.args.asked.now.order.now c.args.entries.now _ _ c.args.n c.k-then-forbids.result c.k-then-forbids.ensures.states c.requires.order rule.shape.least_states c.requires.within c.requires.table
-    (c.forbids.ensures c.if-forbids.true) c.advance-then-forbids.ensures.table c.advance-then-forbids.ensures.within c.advance-then-forbids.ensures.next c.advance-then-forbids.ensures.past
+    let e = c.advance-then-forbids.ensures in
+    IsOn-next c.args.n c.requires.order (omega (arith, c.size.ensures.rule.shape.least_states)) c.requires.within c.requires.table (c.forbids.ensures c.if-forbids.true) e.table e.within e.next e.past
 
 pub returns : goal.returns
 returns c =

@@ -1,4 +1,4 @@
-use Rattle.rule_lists.proofs.FixedReached.{IsLost-fixed}
+use Rattle.rule_lists.proofs.Barred.{IsLost-fixed}
 use Rattle.rule_lists.proofs.theorems.fixed_erasable_pair_forbids_surjective.Goals as goal
 
 pub returns : goal.returns

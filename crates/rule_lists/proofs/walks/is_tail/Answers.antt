@@ -1,14 +1,19 @@
-use Rattle.rule_lists.specs.FixedWalks.IsFixedWalk.{Here, Step}
+use Rattle.std.proofs.Common.{◌≡◌, not, sym, ap, ◌∙◌}
+use Rattle.word_image.proofs.Common.{false≢true, first_of, second_of}
+use Rattle.rule_lists.proofs.Rounded.{walk-from, IsFixedTail-step}
 use Rattle.rule_lists.proofs.walks.is_tail.Goals as goal
-
-pub loop-init : goal.loop-init
-loop-init c = record { inside = c.requires; walk = Here c.args.pair c.requires }
 
 pub loop-preserved : goal.loop-preserved
 loop-preserved c =
-    let e = c.leads_on.ensures in
     let told = c.if-not-leads_on.false in
     record {
-      inside = e.from told;
-      walk = Step c.from-from.result c.loop.at c.args.pair (e.from told) (e.leads told) c.loop.invariant.walk;
+      inside = c.leads_on.ensures.from told;
+      walk = walk-from c.args.side c.args.shape.now c.args.letters.now c.from-from.result c.loop.at c.args.pair c.pairs-end.ensures.rule (c.leads_on.ensures.leads told) c.loop.invariant.walk;
     }
+
+pub returns-then-has_one_node : goal.returns-then-has_one_node
+returns-then-has_one_node c told =
+    let leads = c.if-not-leads_on.false in
+    let different = λ (e : first_of c.args.shape.now c.loop.at ≡ second_of c.args.shape.now c.loop.at). false≢true (sym (ap not (c.has_one_node-then-has_one_node.ensures.1 e)) ∙ told) in
+    IsFixedTail-step c.args.side c.args.shape.now c.args.letters.now c.from-from.result c.loop.at c.args.pair c.pairs-end.ensures.rule (c.leads_on.ensures.from leads) c.loop.invariant.inside
+    (c.has_one_node.ensures.0 c.if-has_one_node.true) different (c.leads_on.ensures.leads leads) c.loop.invariant.walk

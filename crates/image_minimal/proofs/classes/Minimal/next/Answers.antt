@@ -1,4 +1,4 @@
-use Rattle.image_minimal.proofs.Common.{◌≡◌, ◌+◌, ◌*◌, ◌<◌, slice_get, slice_index, Some, ap, ◌∙◌, sym, subst, arith, LocalRule, IsRule}
+use Rattle.image_minimal.proofs.Common.{◌≡◌, ◌+◌, ◌*◌, ◌<◌, slice_get, slice_index, Some, ap, ◌∙◌, arith}
 use Rattle.image_minimal.proofs.ClassSearches.{class_inside, the_automaton}
 use Rattle.image_minimal.proofs.classes.Minimal.next.Goals as goal
 use Rattle.image_minimal.proofs.classes.Minimal.next.Goals.{After-deref}
@@ -9,13 +9,10 @@ at-set-requires c = class_inside c.self.invariant c.self.view_is c.args.i c.requ
 pub steps-steps-requires : goal.steps-steps-requires
 steps-steps-requires c = omega (arith, c.self.invariant.below c.args.i (class_inside c.self.invariant c.self.view_is c.args.i c.requires.class), c.at-set.ensures)
 
-pub bounds-steps-a : goal.bounds-steps-a
-bounds-steps-a c = omega (arith, c.requires.letter, (subst IsRule (c.rule.ensures ∙ c.graph.ensures ∙ c.self.view_is) c.keeps_limits.ensures).shape.most_states)
-
 -- where the class stands that the least automaton has next
 next_at : (c : After-deref) → slice_get c.self.inside.classes (slice_index c.self.invariant.automaton.next (c.args.i * c.self.invariant.automaton.states + c.args.a)) ≡ Some (slice_index c.deref.result.now (slice_index c.steps-steps.result c.args.a))
 next_at c =
-    let below : c.args.a < c.self.inside.subsets.states = subst (λ (r : LocalRule). c.args.a < r.states) (sym c.self.view_is) c.requires.letter in
+    let below : c.args.a < c.self.inside.subsets.states = rw c.self.view_is c.requires.letter in
     rw c.deref.ensures.value
     (c.self.invariant.next c.args.i c.args.a c.at-set.result _ (class_inside c.self.invariant c.self.view_is c.args.i c.requires.class) c.at-set.ensures below (c.steps-steps.ensures c.args.a below))
 

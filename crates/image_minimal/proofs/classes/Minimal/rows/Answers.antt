@@ -2,9 +2,6 @@ use Rattle.image_minimal.proofs.Common.{◌≡◌, ℕ, ◌+◌, ◌*◌, ◌<�
 use Rattle.image_minimal.proofs.ClassSearches.{the_automaton}
 use Rattle.image_minimal.proofs.classes.Minimal.rows.Goals as goal
 
-pub steps-steps-requires : goal.steps-steps-requires
-steps-steps-requires c = omega (arith, c.self.invariant.below c.loop-class.class (omega (arith, c.len-classes.ensures.len)), c.at-set.ensures)
-
 pub class_of-requires-clause-class : goal.class_of-requires-clause-class
 class_of-requires-clause-class c =
     let h = c.self.invariant in

@@ -1,4 +1,4 @@
-use Rattle.image_minimal.proofs.Common.{◌≡◌, ◌<◌, refl, sym, ◌∙◌, pos, replicate, arith, rules, ints, All-replicate, get_or-replicate, LocalRule}
+use Rattle.image_minimal.proofs.Common.{◌≡◌, ◌<◌, refl, sym, ◌∙◌, pos, replicate, arith, rules, All-replicate, get_or-replicate, LocalRule, IsShape-shape_fault}
 use Rattle.image_minimal.proofs.subsets.Subsets.new.Goals as goal
 
 -- the rule of two states and width 2 that gives 0 for all windows
@@ -10,15 +10,7 @@ from_fn-requires-clause-rule c = (
   zero_rule,
   record {
     rule = record {
-      shape = record {
-        least_states = omega arith;
-        most_states = omega arith;
-        least_width = omega arith;
-        most_width = omega arith;
-        most_nodes = omega arith;
-        least_offset = omega (arith, ints);
-        most_offset = omega (arith, ints);
-      };
+      shape = IsShape-shape_fault 2 2 (pos 0) refl;
       entries = refl;
       letters = All-replicate (λ a. a < 2) 4 0 (omega arith);
     };

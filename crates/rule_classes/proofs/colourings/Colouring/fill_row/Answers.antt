@@ -4,9 +4,6 @@ use Rattle.rule_classes.proofs.laws.Readings.{window-below}
 use Rattle.rule_classes.proofs.laws.Tables.{AreFilled-more}
 use Rattle.rule_classes.proofs.colourings.Colouring.fill_row.Goals as goal
 
-pub read-old-requires-clause-row : goal.read-old-requires-clause-row
-read-old-requires-clause-row c = (c.args.node, c.requires.node, c.requires.row)
-
 pub loop-letter-preserved : goal.loop-letter-preserved
 loop-letter-preserved c =
     let r = c.args.rule.now in
