@@ -5,23 +5,24 @@
  * them as libca.a and libca.so, with this header and ca.pc for pkg-config. crates/ca_c/src/exports.rt has the functions,
  * and their contracts say what is proved about them. The structs have these names in the sources: RuleVerdicts in
  * crates/c_structs/src/table_verdicts.rt, RuleReport in rule_reports.rt and the structs of letter_rows.rt of the same
- * folder, and KeptSums in crates/kept_sums/src/kept.rt. Tests compare this header with these sources, but no proof does.
+ * folder, KeptSums in crates/kept_sums/src/kept.rt, and RoomHandle in crates/room_handles/src/handles.rt. Tests compare this
+ * header with these sources, but no proof does.
  *
  * Pointers. If you pass a pointer with a length, the pointer must point to as many bytes as the length says. The pointer
  * may be NULL if the length is 0. Any other pointer must point to a whole object of its type, and must not be NULL. A call
- * keeps no pointer, and the caller has nothing to free. A call doesn't write to const arguments. It writes to the buffer
- * and to *length, and these must not overlap another argument.
+ * keeps no pointer, and the caller has nothing to free but rooms. A call doesn't write to const arguments. It writes to the
+ * buffer, to *length and to a room, and these must not overlap another argument.
  *
  * Numbers. An argument is converted to its type without a warning: if you pass 258 as a uint8_t, it becomes 2. Check the range
  * of an int before you pass it.
  *
  * Stack. A call takes up to 128 KiB of stack. Give 256 KiB to a thread that calls the library.
  *
- * Threads. A call keeps no state. So several threads may call the library at once, if each thread has its own buffer and
- * its own length. Threads may share arguments that calls only read. A call waits for nothing and starts no thread. It takes
- * memory by malloc, realloc and free of your program, which must be safe for threads. It frees all of this memory before it
- * returns. Don't call the library from a signal handler. If a process with several threads forks, don't call the library in
- * the child.
+ * Threads. A call keeps no state but in a room. So several threads may call the library at once, if each thread has its own
+ * buffer, its own length and its own room. Threads may share arguments that calls only read. A call waits for nothing and
+ * starts no thread. It takes memory by malloc, realloc and free of your program, which must be safe for threads. It frees all
+ * of this memory before it returns, except for the memory of a room. Don't call the library from a signal handler. If a
+ * process with several threads forks, don't call the library in the child.
  */
 #ifndef CA_H
 #define CA_H
@@ -29,6 +30,7 @@
 #include <stdbool.h>
 #include <stddef.h>
 #include <stdint.h>
+#include <stdlib.h>
 
 #ifdef __cplusplus
 extern "C" {
@@ -46,7 +48,7 @@ extern "C" {
 #define CA_MOST_RING_LETTERS 15     /* letters of a ring that shows that a rule doesn't keep a sum */
 
 /* The codes that ca_run and ca_run_json return. If the code is at most CA_CODE_TOO_LONG, there is an output. ca_report returns
- * only CA_CODE_DONE, CA_CODE_MEMORY or CA_CODE_SHORT. */
+ * only CA_CODE_DONE, CA_CODE_MEMORY or CA_CODE_SHORT. Only ca_run_in and ca_report_in return CA_CODE_NO_ROOM. */
 enum ca_code {
     CA_CODE_DONE = 0,       /* the command was carried out */
     CA_CODE_REFUSED = 1,    /* check refused the input */
@@ -57,6 +59,7 @@ enum ca_code {
     CA_CODE_MEMORY = 8,     /* there was no memory */
     CA_CODE_NO_WORDS = 9,   /* a word isn't UTF-8, or the last word has no 0 byte after it */
     CA_CODE_SHORT = 10,     /* the buffer is too short for the output */
+    CA_CODE_NO_ROOM = 22,   /* the room is closed */
 
     /* Other names of the same codes, for older programs. */
     CA_DONE = CA_CODE_DONE,
@@ -352,6 +355,49 @@ static inline uint8_t ca_read_rule(const char *text, struct ca_rule *rule)
 uint32_t ca_version(void);
 
 /*
+ * A room: memory of some 9 MB, which ca_run_in and ca_report_in use again and again. So a call over a room takes less time.
+ * ca_room_new makes a room, and ca_room_free drops it. No result depends on earlier calls over the room. A room serves one
+ * call at a time, so make one for each thread. Don't read or write its fields, and don't copy it.
+ *
+ * Without ca_room_new, begin with {false, NULL}, which is a closed room: a room without memory. ca_room_open opens it, and
+ * ca_room_close closes it and frees its memory.
+ */
+struct ca_room {
+    bool is_open;
+    void *memory;
+};
+
+/* Opens a room. Returns CA_CODE_DONE, or CA_CODE_MEMORY if there is no memory. With CA_CODE_MEMORY the room stays as it was. */
+uint8_t ca_room_open(struct ca_room *room);
+
+/* Closes a room. Nothing happens if the room is closed already. */
+void ca_room_close(struct ca_room *room);
+
+/* Makes a room and opens it. Returns NULL if there is no memory. */
+static inline struct ca_room *ca_room_new(void)
+{
+    struct ca_room *const room = (struct ca_room *)malloc(sizeof *room);
+    if (room != NULL) {
+        room->is_open = false;
+        room->memory = NULL;
+        if (ca_room_open(room) != CA_CODE_DONE) {
+            free(room);
+            return NULL;
+        }
+    }
+    return room;
+}
+
+/* Closes a room of ca_room_new and frees it. Nothing happens if room is NULL. */
+static inline void ca_room_free(struct ca_room *room)
+{
+    if (room != NULL) {
+        ca_room_close(room);
+        free(room);
+    }
+}
+
+/*
  * Carries out a command, as the program ca does.
  *
  * words has the words of the command line without the name of the program. Each word is in UTF-8, with one 0 byte after it:
@@ -371,6 +417,13 @@ uint32_t ca_version(void);
  */
 uint8_t ca_run(const uint8_t *words, size_t words_length, const uint8_t *input, size_t input_length,
                uint8_t *output, size_t room, size_t *length);
+
+/*
+ * Carries out a command as ca_run does, over a room. If the room is closed, it returns CA_CODE_NO_ROOM, *length is 0, and the
+ * buffer doesn't change.
+ */
+uint8_t ca_run_in(struct ca_room *room, const uint8_t *words, size_t words_length, const uint8_t *input,
+                  size_t input_length, uint8_t *output, size_t output_room, size_t *length);
 
 /*
  * Carries out a command as ca_run does, but writes the reply as JSON: one object in ASCII, without blanks and without a
@@ -419,6 +472,14 @@ uint8_t ca_report(uint8_t states, uint8_t width, int8_t offset, const uint8_t *t
 #ifdef __cplusplus
 }
 #endif
+
+/*
+ * Returns the report of a rule as ca_report does, over a room. If the room is closed, it returns CA_CODE_NO_ROOM, *length is 0,
+ * and *report and the buffer don't change.
+ */
+uint8_t ca_report_in(struct ca_room *room, uint8_t states, uint8_t width, int8_t offset, const uint8_t *table,
+                     size_t table_length, const uint8_t *weights, size_t weights_length, struct ca_report *report,
+                     uint8_t *letters, size_t letters_room, size_t *length);
 
 /*
  * Applies a rule once to a configuration, writes letters of the image, and needs no memory. With this call you can check the

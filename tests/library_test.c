@@ -856,11 +856,77 @@ static void test_fault_texts(void)
     }
 }
 
+/* The text of a command over a room. */
+static bool answers_in(struct ca_room *room, const uint8_t *words, size_t words_length, uint8_t code, const char *text)
+{
+    uint8_t output[ROOM];
+    size_t length = 0;
+    memset(output, FILLING, sizeof output);
+    return ca_run_in(room, words, words_length, NOTHING, output, sizeof output, &length) == code
+        && length == strlen(text) && memcmp(output, text, length) == 0 && is_kept(output, length, sizeof output);
+}
+
+/* Calls over rooms answer as calls without rooms do, whatever the room served before. */
+static void test_rooms(void)
+{
+    static struct ca_report alone, over;
+    static uint8_t alone_letters[CA_MOST_REPORT_LETTERS], over_letters[CA_MOST_REPORT_LETTERS];
+    struct ca_room closed = {false, NULL};
+    struct ca_room *const room = ca_room_new();
+    size_t length, over_length;
+    if (room == NULL)
+        abort();
+    is("a text over a room", answers_in(room, WORDS("decide\0" "110\0"), CA_CODE_DONE, REPORT_110));
+    is("a shorter text over the same room", answers_in(room, WORDS("orphan\0" "90\0"), CA_CODE_DONE, "surjective yes\n"));
+    is("no command over a room", answers_in(room, NULL, 0, CA_CODE_USAGE, "usage error\n"));
+    is("the text over the room again", answers_in(room, WORDS("decide\0" "110\0"), CA_CODE_DONE, REPORT_110));
+    is("no words over a room", answers_in(room, WORDS("orphan\0" "90"), CA_CODE_NO_WORDS, ""));
+    for (int number = 0; number < 256; number++) {
+        uint8_t table[8];
+        for (int at = 0; at < 8; at++)
+            table[at] = (uint8_t)(number >> at & 1);
+        memset(&alone, 0, sizeof alone);
+        memset(&over, FILLING, sizeof over);
+        is("a report", ca_report(2, 3, -1, table, 8, OWN, &alone, alone_letters, sizeof alone_letters, &length)
+               == CA_CODE_DONE);
+        is("a report over a room", ca_report_in(room, 2, 3, -1, table, 8, OWN, &over, over_letters, sizeof over_letters,
+               &over_length) == CA_CODE_DONE);
+        is("the same report", memcmp(&alone, &over, sizeof alone) == 0);
+        is("the same letters", length == over_length && memcmp(alone_letters, over_letters, length) == 0);
+        if (length > 0) {
+            memset(over_letters, FILLING, length);
+            is("a short buffer over a room", ca_report_in(room, 2, 3, -1, table, 8, OWN, &over, over_letters, length - 1,
+                   &over_length) == CA_CODE_SHORT && over_length == length && is_kept(over_letters, 0, length));
+        }
+    }
+    is("a rule with a fault over a room", ca_report_in(room, 2, 3, -1, NULL, 0, OWN, &over, NULL, 0, &over_length)
+           == CA_CODE_DONE && over.fault == CA_FAULT_LENGTH && over_length == 0);
+    is("an open room is opened again", ca_room_open(room) == CA_CODE_DONE
+           && answers_in(room, WORDS("orphan\0" "90\0"), CA_CODE_DONE, "surjective yes\n"));
+    ca_room_free(room);
+    ca_room_free(NULL);
+
+    is("a command over a closed room", answers_in(&closed, WORDS("orphan\0" "90\0"), CA_CODE_NO_ROOM, ""));
+    memset(&over, FILLING, sizeof over);
+    length = 1;
+    is("a report over a closed room", ca_report_in(&closed, 2, 3, -1, NULL, 0, OWN, &over, NULL, 0, &length)
+           == CA_CODE_NO_ROOM && length == 0 && is_kept((const uint8_t *)&over, 0, sizeof over));
+    ca_room_close(&closed);
+    is("a closed room is closed again", !closed.is_open);
+    is("a closed room is opened", ca_room_open(&closed) == CA_CODE_DONE && closed.is_open
+           && answers_in(&closed, WORDS("orphan\0" "90\0"), CA_CODE_DONE, "surjective yes\n"));
+    ca_room_close(&closed);
+    is("it is closed again", answers_in(&closed, WORDS("orphan\0" "90\0"), CA_CODE_NO_ROOM, ""));
+}
+
 static void *call_often(void *right)
 {
+    struct ca_room *const room = ca_room_new();
     for (int call = 0; call < CALLS; call++)
-        if (answers(WORDS("decide\0" "110\0"), NOTHING, ROOM, CA_DONE, REPORT_110))
+        if (answers(WORDS("decide\0" "110\0"), NOTHING, ROOM, CA_DONE, REPORT_110) && room != NULL
+            && answers_in(room, WORDS("decide\0" "110\0"), CA_CODE_DONE, REPORT_110))
             ++*(int *)right;
+    ca_room_free(room);
     return NULL;
 }
 
@@ -884,7 +950,9 @@ static void *call_on_a_stack(void *stacked)
     size_t length;
     uint8_t order[8], rule[8] = {0};
     volatile uint8_t begin = 0;
+    struct ca_room *room;
     found->begin = &begin;
+    room = ca_room_new();
     for (size_t at = 0; at < sizeof objects; at++)
         objects[at] = (uint8_t)"{\"a\":"[at % 5];
     memset(lists, '[', sizeof lists);
@@ -896,9 +964,12 @@ static void *call_on_a_stack(void *stacked)
         && ca_run(WORDS("language\0" "110\0"), NOTHING, text, ROOM, &length) == CA_CODE_DONE
         && ca_run(WORDS("preimage\0" "110\0" "0|101|0\0"), NOTHING, text, ROOM, &length) == CA_CODE_DONE
         && ca_report(2, 3, -1, table, 8, NULL, 0, &report, letters, sizeof letters, &length) == CA_CODE_DONE
+        && room != NULL && ca_run_in(room, WORDS("certify\0" "90\0"), NOTHING, text, ROOM, &length) == CA_CODE_DONE
+        && ca_report_in(room, 2, 3, -1, table, 8, NULL, 0, &report, letters, sizeof letters, &length) == CA_CODE_DONE
         && ca_window_order(CA_BIT_INJECTIVE, 2, 3, order, 8) == CA_FAULT_NONE
         && ca_next_rule(CA_BIT_INJECTIVE, 2, 3, order, 8, NULL, 0, 0, rule, 8) == CA_FAULT_NONE
         && ca_kept_sums(2, 3, table, 8, 2, &sums) == CA_FAULT_NONE;
+    ca_room_free(room);
     return NULL;
 }
 
@@ -944,6 +1015,7 @@ int main(void)
     is("the version", ca_version() == CA_VERSION);
     is("the size of the verdicts", sizeof(struct ca_rule_verdicts) == 7);
     is("the size of a report", sizeof(struct ca_report) == 8 + 4 * 4 + 16 * 4 + (1 + 2 + 1 + 2 * 6) * 16 + 8 * 4);
+    is("the size of a room", sizeof(struct ca_room) == 16);
     is("the size of the sums", sizeof(struct ca_kept_sums) == 16 * 16 * 8 + 16 + 16 * 15);
     test_commands();
     test_words();
@@ -952,6 +1024,7 @@ int main(void)
     test_json();
     test_verdicts();
     test_report();
+    test_rooms();
     test_verdict_bytes();
     test_next_rule();
     test_kept_sums();

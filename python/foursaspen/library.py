@@ -47,6 +47,24 @@ class KeptTable(ctypes.Structure):
                 ("rings", (ctypes.c_uint8 * 15) * 16)]
 
 
+class RoomHandle(ctypes.Structure):
+    """Memory that calls use again and again: struct ca_room."""
+    _fields_ = [("is_open", ctypes.c_bool), ("memory", ctypes.c_void_p)]
+
+
+class OpenRoom:
+    """A room of some 9 MB, which is open as long as this object is there. It serves one call at a time."""
+
+    def __init__(self, open_room: Callable[..., int], close: Callable[..., None]) -> None:
+        self.handle = RoomHandle()
+        self._close = close
+        if open_room(ctypes.byref(self.handle)):
+            raise OutOfMemoryError("there was no memory")
+
+    def __del__(self) -> None:
+        self._close(ctypes.byref(self.handle))
+
+
 Weights = ctypes.c_int64 * 16                   # of words, by their values
 Flux = ctypes.c_int64 * 128                     # a number for each word, by its value
 
@@ -58,7 +76,7 @@ class Outcome(NamedTuple):
 
 
 class Library:
-    """A loaded library. Calls of several threads don't meet: each thread has a buffer of its own."""
+    """A loaded library. Calls of several threads don't meet: each thread has a buffer and a room of its own."""
 
     def __init__(self, path: Path) -> None:
         try:
@@ -70,7 +88,9 @@ class Library:
             self._next_rule = loaded.ca_next_rule
             self._kept_sums = loaded.ca_kept_sums
             self._flux = loaded.ca_flux
-            self._image = getattr(loaded, "ca_image", None)    # which older ones of this version lack
+            # Older ones of this version lack these.
+            self._image = getattr(loaded, "ca_image", None)
+            self._run_in = getattr(loaded, "ca_run_in", None)
             version = int(loaded.ca_version())
         except (OSError, AttributeError) as fault:
             raise LibraryMissingError(f"the library can't be loaded: {fault}; {ADVICE}") from fault
@@ -97,12 +117,24 @@ class Library:
             parts = [text, size, text, size, text, size]
             self._image.argtypes = [byte, byte, ctypes.c_int8, text, size, *parts, ctypes.c_int64, text, size]
             self._image.restype = byte
+        if self._run_in is not None:
+            handle = ctypes.POINTER(RoomHandle)
+            self._run_in.argtypes = [handle, *self._run.argtypes]
+            self._run_in.restype = byte
+            self._room_open, self._room_close = loaded.ca_room_open, loaded.ca_room_close
+            self._room_open.argtypes = self._room_close.argtypes = [handle]
+            self._room_open.restype, self._room_close.restype = byte, None
         self._rooms = threading.local()
         self.path = path
 
     def run(self, words: Iterable[str], data: bytes = b"") -> Outcome:
         """What the program comes to on these words and this input."""
-        return self._called(self._run, words, data)
+        if self._run_in is None:
+            return self._called(self._run, words, data)
+        kept: OpenRoom | None = getattr(self._rooms, "kept", None)
+        if kept is None:
+            kept = self._rooms.kept = OpenRoom(self._room_open, self._room_close)
+        return self._called(functools.partial(self._run_in, ctypes.byref(kept.handle)), words, data)
 
     def run_json(self, words: Iterable[str], data: bytes = b"") -> Outcome:
         """The same, with the JSON form of the output: docs/ANSWERS.md."""

@@ -4,7 +4,7 @@ ghost use Rattle.c_structs.specs.LetterRows.{IsRow, AreTwinRows, AreTailRows, Ar
 
 use short_words::ShortPair;
 use std::alloc::AllocError;
-use tail_config::Tail;
+use tail_config::LentTail;
 
 /// The row of a word: where the word is in a buffer of letters.
 #[repr(C)]
@@ -89,7 +89,7 @@ pub fn add_twins(letters: &mut Vec<u8>, pair: &ShortPair) -> Result<TwinRows, Al
 }
 
 /// Appends the parts of a configuration to the letters, and returns their rows.
-fn add_tail(letters: &mut Vec<u8>, tail: &Tail) -> Result<TailRows, AllocError>
+fn add_tail(letters: &mut Vec<u8>, tail: &LentTail) -> Result<TailRows, AllocError>
     ensures letters { OnOk result (letters.new.items ≡ letters.old.items ++ tail_letters tail.now.config) }
     ensures rows { IfOk result (λ rows. AreTailRows letters.new.items rows tail.now.config) }
 {
@@ -104,7 +104,7 @@ fn add_tail(letters: &mut Vec<u8>, tail: &Tail) -> Result<TailRows, AllocError>
 }
 
 /// Appends the parts of two configurations to the letters, and returns their rows.
-pub fn add_split(letters: &mut Vec<u8>, x: &Tail, y: &Tail) -> Result<SplitRows, AllocError>
+pub fn add_split(letters: &mut Vec<u8>, x: &LentTail, y: &LentTail) -> Result<SplitRows, AllocError>
     ensures letters { OnOk result (letters.new.items ≡ letters.old.items ++ split_letters x.now.config y.now.config) }
     ensures rows { IfOk result (λ rows. AreSplitRows letters.new.items rows x.now.config y.now.config) }
 {

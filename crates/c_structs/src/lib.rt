@@ -50,6 +50,6 @@ pub use letter_rows::{LetterRow, SplitRows, TailRows, TwinRows};
 pub use next_rules::{letters_of, next_rule, property_of, shape_rule, write_table};
 pub use numbered_verdicts::{joined, number_of};
 pub use report_parts::MOST_NODES;
-pub use rule_reports::{Reported, RuleReport, report_of_table};
+pub use rule_reports::{Reported, RuleReport, report_in, report_of_table};
 pub use rule_sums::range_number;
 pub use table_verdicts::{RuleVerdicts, fault_number};

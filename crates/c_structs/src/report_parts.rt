@@ -1,14 +1,13 @@
 //! The parts of a report, one for each property: a verdict and the least evidence for it. The words of the evidence are
 //! in a buffer of letters, and a row says where a word is.
 ghost use Rattle.std.specs.Prelude.{◌≡◌, ◌≤◌, ◌++◌, length, IfOk, OnOk};
-ghost use Rattle.cert_values.specs.Parts.{side_of};
-ghost use Rattle.rule_verdicts.specs.Reports.{injective_of, sum_of};
+ghost use Rattle.rule_verdicts.specs.Reports.{injective_of, side_in, sum_of};
 ghost use Rattle.c_structs.specs.ReportParts.{SaysSurjective, SaysInjective, SaysSide, SaysConserving, orphan_letters, injective_letters, side_letters, sum_letters, flux_row};
 
 use crate::letter_rows::{
     LetterRow, NO_ROW, NO_SPLIT, NO_TWINS, SplitRows, TwinRows, add_split, add_twins, add_word,
 };
-use cert_values::SidePart;
+use closing_test::LentClosing;
 use flux_conserve::Keeping;
 use rule_verdicts::Injectivity;
 use short_words::LentWord;
@@ -99,17 +98,17 @@ pub fn add_injective(letters: &mut Vec<u8>, part: &Injectivity) -> Result<Inject
 
 /// Returns the part of the report that says whether the rule closes on a side. If there is a split, its letters are
 /// appended to `letters`.
-pub fn add_side(letters: &mut Vec<u8>, part: &SidePart) -> Result<Side, AllocError>
-    ensures letters { OnOk result (letters.new.items ≡ letters.old.items ++ side_letters (side_of part.now)) }
-    ensures part { IfOk result (λ said. SaysSide letters.new.items said.holds said.ahead said.split (side_of part.now)) }
+pub fn add_side(letters: &mut Vec<u8>, part: &LentClosing) -> Result<Side, AllocError>
+    ensures letters { OnOk result (letters.new.items ≡ letters.old.items ++ side_letters (side_in part.now)) }
+    ensures part { IfOk result (λ said. SaysSide letters.new.items said.holds said.ahead said.split (side_in part.now)) }
 {
     match part {
-        SidePart::Ahead(n) => Ok(Side {
+        LentClosing::Ahead(n) => Ok(Side {
             holds: 1,
             ahead: u32::from(*n),
             split: NO_SPLIT,
         }),
-        SidePart::Split(x, y) => Ok(Side {
+        LentClosing::Split(x, y) => Ok(Side {
             holds: 0,
             ahead: 0,
             split: add_split(letters, x, y)?,

@@ -8,8 +8,7 @@ use crate::letter_rows::{LetterRow, NO_ROW, NO_SPLIT, NO_TWINS, SplitRows, TwinR
 use crate::report_parts::{MOST_NODES, add_conserving, add_injective, add_side, add_surjective};
 use crate::table_verdicts::fault_number;
 use ca_answering::weights_for;
-use orphan_search::Search;
-use rule_verdicts::{Report, least_report};
+use rule_verdicts::{Report, ReportRoom, least_report};
 use std::alloc::{AllocError, Global};
 use word_image::Rule;
 
@@ -112,7 +111,29 @@ pub fn report_of_table(
     ensures { IfOk result (λ made. IsReported (rule_with states width offset table.now) (named_weights weights.now) made.report made.letters.items) }
 {
     match Rule::new(states, width, offset, table) {
-        Ok(rule) => report_of_rule(alloc, &rule, weights),
+        Ok(rule) => {
+            let mut room = ReportRoom::new(alloc)?;
+            report_of_rule(alloc, &mut room, &rule, weights)
+        }
+        Err(fault) => Ok(fault_reported(alloc, fault_number(fault))),
+    }
+}
+
+/// Returns the report that [`report_of_table`] returns. The room can serve many reports, so its memory is taken only
+/// once.
+pub fn report_in(
+    alloc: Global,
+    room: &mut ReportRoom,
+    states: u8,
+    width: u8,
+    offset: i8,
+    table: &[u8],
+    weights: &[u8],
+) -> Result<Reported, AllocError>
+    ensures { IfOk result (λ made. IsReported (rule_with states width offset table.now) (named_weights weights.now) made.report made.letters.items) }
+{
+    match Rule::new(states, width, offset, table) {
+        Ok(rule) => report_of_rule(alloc, room, &rule, weights),
         Err(fault) => Ok(fault_reported(alloc, fault_number(fault))),
     }
 }
@@ -129,16 +150,17 @@ fn fault_reported(alloc: Global, fault: u8) -> Reported
 }
 
 /// Returns the report on a rule with these weights. If the list of weights is empty, each letter weighs its own value.
-fn report_of_rule(alloc: Global, rule: &Rule, weights: &[u8]) -> Result<Reported, AllocError>
+fn report_of_rule(
+    alloc: Global,
+    room: &mut ReportRoom,
+    rule: &Rule,
+    weights: &[u8],
+) -> Result<Reported, AllocError>
     requires { IsRule rule.now }
     ensures { IfOk result (λ made. IsReported rule.now (named_weights weights.now) made.report made.letters.items) }
 {
     match weights_for(rule, named(weights)) {
-        Some(weights) => {
-            let mut search = Search::new(alloc)?;
-            let report = least_report(alloc, &mut search, rule, &weights)?;
-            written(alloc, &report)
-        }
+        Some(weights) => written(alloc, &least_report(room, rule, &weights)),
         None => Ok(fault_reported(alloc, NO_WEIGHTS)),
     }
 }

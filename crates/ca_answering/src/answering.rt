@@ -16,17 +16,19 @@ use ca_questions::{Cause, Found, Question, ShortList, Stop};
 use std::alloc::Global;
 
 /// Returns the answer to a question, or the reason why there is none: a cause, or lack of memory. The answer lends its
-/// long lists from the room. Only splits, a certificate, an automaton and the number of classes need other memory.
+/// long lists from the room. Only a certificate, an automaton and the number of classes need other memory.
 pub fn answer<'r>(alloc: Global, room: &'r mut Room, question: &Question) -> Result<Found<'r>, Stop>
     requires { IsWhole question.now }
     ensures { Answers (question_of question.now) result }
 {
     match question {
-        Question::Report(rule, weights) => report(alloc, &mut room.search, rule, named(weights)),
-        Question::Certify(version, rule, weights) => {
-            certificate(alloc, &mut room.search, *version, rule, named(weights))
+        Question::Report(rule, weights) => {
+            settled(report(&mut room.reports, rule, named(weights)))
         }
-        Question::Orphan(rule) => Ok(orphan(&mut room.search, rule)),
+        Question::Certify(version, rule, weights) => {
+            certificate(alloc, &mut room.reports, *version, rule, named(weights))
+        }
+        Question::Orphan(rule) => Ok(orphan(&mut room.reports, rule)),
         Question::Number(rule) => Ok(number(rule)),
         Question::Reflect(rule) => Ok(reflect(rule)),
         Question::Trim(rule) => Ok(trim(rule)),

@@ -9,7 +9,7 @@ ghost use Rattle.ca_questions.specs.Values.{Settles};
 use ca_questions::{Cause, Found, Inverse};
 use inverse_table::{LentMap, NoMap, TableRoom};
 use inverse_window::WindowAt;
-use rule_verdicts::{Injectivity, injectivity};
+use rule_verdicts::window_or_twins;
 use word_image::Rule;
 
 /// Returns the inverse map of a rule, which reads as few letters of an image as possible. Returns the cause if the rule
@@ -17,9 +17,9 @@ use word_image::Rule;
 pub fn inverse<'r>(room: &'r mut TableRoom, rule: &Rule) -> Result<Found<'r>, Cause>
     ensures { Settles (Question.Inverse rule.now) result }
 {
-    match injectivity(rule) {
-        Injectivity::Window { n, c } => inverse_over(room, rule, WindowAt { n, c }),
-        Injectivity::Twins(pair) => Err(Cause::Twins(pair)),
+    match window_or_twins(rule) {
+        Ok(at) => inverse_over(room, rule, at),
+        Err(twins) => Err(Cause::Twins(twins)),
     }
 }
 

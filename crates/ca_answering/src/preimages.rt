@@ -5,13 +5,13 @@ ghost use Rattle.ca_questions.specs.Findings.{IsFinding};
 ghost use Rattle.ca_questions.specs.Values.{finding_of};
 
 use ca_questions::Found;
-use tail_config::Tail;
+use tail_config::LentTail;
 use tail_preimage::PreimageRoom;
 use word_image::Rule;
 
 /// Returns the first preimage of this configuration, among those with periodic tails. If there is none, returns the
 /// first part of this configuration that is an orphan.
-pub fn preimage<'r>(room: &'r mut PreimageRoom, rule: &Rule, tail: &Tail) -> Found<'r>
+pub fn preimage<'r>(room: &'r mut PreimageRoom, rule: &Rule, tail: &LentTail) -> Found<'r>
     requires { rule.now.states ≡ tail.now.states }
     ensures { IsFinding (Question.Preimage rule.now tail.now.config) (finding_of result) }
 {

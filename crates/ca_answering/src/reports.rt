@@ -3,32 +3,27 @@ ghost use Rattle.std.specs.Prelude.{◌≡◌, length, true, option_copied, IfNo
 ghost use Rattle.cert_values.specs.Versions.{names_weights};
 ghost use Rattle.ca_questions.specs.Questions.{Question};
 ghost use Rattle.ca_questions.specs.Findings.{AreFor, IsFinding, weights_by};
-ghost use Rattle.ca_questions.specs.Values.{Answers, finding_of};
+ghost use Rattle.ca_questions.specs.Values.{Answers, Settles, finding_of};
 
 use ca_questions::{Cause, Found, Stop};
 use cert_values::CertVersion;
-use orphan_search::Search;
-use rule_verdicts::least_orphan;
+use rule_verdicts::{ReportRoom, least_orphan, least_report};
 use std::alloc::Global;
 use word_image::{Rule, Weights};
 
 /// Returns the verdicts on a rule under these weights, each with the least evidence. Without weights, each letter
 /// weighs its own value. Returns the cause `Weights` if there isn't one weight for each letter.
 pub fn report<'r>(
-    alloc: Global,
-    search: &'r mut Search,
+    room: &'r mut ReportRoom,
     rule: &Rule,
     weights: Option<&[u8]>,
-) -> Result<Found<'r>, Stop>
-    ensures { Answers (Question.Report rule.now (option_copied weights.entry)) result }
+) -> Result<Found<'r>, Cause>
+    ensures { Settles (Question.Report rule.now (option_copied weights.entry)) result }
 {
     rule.keeps_limits();
     match weights_for(rule, weights) {
-        Some(weights) => {
-            let report = rule_verdicts::least_report(alloc, search, rule, &weights)?;
-            Ok(Found::Report(report))
-        }
-        None => Err(Stop::Unfit(Cause::Weights)),
+        Some(weights) => Ok(Found::Report(least_report(room, rule, &weights))),
+        None => Err(Cause::Weights),
     }
 }
 
@@ -53,7 +48,7 @@ pub fn weights_for(rule: &Rule, weights: Option<&[u8]>) -> Option<Weights>
 /// `Weights` if there isn't one weight for each letter.
 pub fn certificate(
     alloc: Global,
-    search: &mut Search,
+    room: &mut ReportRoom,
     version: CertVersion,
     rule: &Rule,
     weights: Option<&[u8]>,
@@ -63,7 +58,7 @@ pub fn certificate(
 {
     match weights_for(rule, weights) {
         Some(weights) => {
-            let cert = rule_verdicts::certificate(alloc, search, version, rule, &weights)?;
+            let cert = rule_verdicts::certificate(alloc, room, version, rule, &weights)?;
             Ok(Found::Written(cert))
         }
         None => Err(Stop::Unfit(Cause::Weights)),
@@ -71,10 +66,10 @@ pub fn certificate(
 }
 
 /// Returns the answer with the least orphan, or without an orphan if the rule is surjective.
-pub fn orphan<'r>(search: &'r mut Search, rule: &Rule) -> Found<'r>
+pub fn orphan<'r>(room: &'r mut ReportRoom, rule: &Rule) -> Found<'r>
     ensures { IsFinding (Question.Orphan rule.now) (finding_of result) }
 {
-    Found::Orphan(least_orphan(search, rule))
+    Found::Orphan(least_orphan(room, rule))
 }
 
 /// Returns the answer with the Wolfram number of a rule, or without a number if the rule has 7 states or more.

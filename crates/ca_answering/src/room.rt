@@ -2,7 +2,7 @@
 
 use image_minimal::SeparationRoom;
 use inverse_table::TableRoom;
-use orphan_search::Search;
+use rule_verdicts::ReportRoom;
 use std::alloc::{AllocError, Global};
 use tail_preimage::PreimageRoom;
 
@@ -10,8 +10,8 @@ use tail_preimage::PreimageRoom;
 /// another. No answer depends on an earlier one.
 #[derive(Drop)]
 pub struct Room {
-    /// For the least orphan, which has at most 65,535 letters.
-    pub(crate) search: Search,
+    /// For the verdicts of a rule with their evidence.
+    pub(crate) reports: ReportRoom,
     /// For the least word that is an orphan of only one of two rules.
     pub(crate) separations: SeparationRoom,
     /// For the preimage of a configuration.
@@ -24,7 +24,7 @@ impl Room {
     /// Allocates the memory of a room. The only error is lack of memory.
     pub fn new(alloc: Global) -> Result<Room, AllocError> {
         Ok(Room {
-            search: Search::new(alloc)?,
+            reports: ReportRoom::new(alloc)?,
             separations: SeparationRoom::new(alloc)?,
             preimages: PreimageRoom::new(alloc)?,
             tables: TableRoom::new(alloc)?,

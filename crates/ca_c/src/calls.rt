@@ -13,9 +13,10 @@ use ca_json::reply_json;
 use ca_questions::Reply;
 use ca_text::{Output, reply_text};
 use std::alloc::{AllocError, Global};
+use tail_config::TailRoom;
 
 /// The code if a word of the block isn't UTF-8, or if the last word has no 0 byte after it.
-const NO_WORDS: u8 = 9;
+pub const NO_WORDS: u8 = 9;
 
 /// The code if the buffer of the caller is too short for the output.
 pub const SHORT: u8 = 10;
@@ -65,8 +66,10 @@ pub fn call(alloc: Global, form: Form, block: &[u8], input: &[u8]) -> Result<For
     ensures none { result ≡ Err CallFault.NoWords → (words : List (List ℕ)) → ¬ AreWords block.now words }
 {
     let words = words(alloc, block)?;
+    let mut tails = TailRoom::new(alloc)?;
     let mut room = Room::new(alloc)?;
-    let Ok(reply) = reply(alloc, &mut room, &words, &mut SliceSource::new(input)) else {
+    let mut source = SliceSource::new(input);
+    let Ok(reply) = reply(alloc, &mut tails, &mut room, &words, &mut source) else {
         return Err(CallFault::Memory);
     };
     right_replies_are_writable();

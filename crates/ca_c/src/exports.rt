@@ -32,10 +32,10 @@ use word_image::{Rule, RuleFault, check_shape};
 const VERSION: u32 = 2;
 
 /// The code if memory runs out.
-const MEMORY: u8 = 8;
+pub const MEMORY: u8 = 8;
 
 /// The code if the call wrote its result: a report, a rule, an order of windows, or a flux.
-const FOUND: u8 = 0;
+pub const FOUND: u8 = 0;
 
 /// The code if the number in a call doesn't stand for a property.
 const NO_PROPERTY: u8 = 10;

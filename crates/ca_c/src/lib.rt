@@ -1,4 +1,4 @@
-//! The interface for C: eleven functions with C's calling convention, in a static library.
+//! The interface for C: fifteen functions with C's calling convention, in a static library.
 //!
 //! | Function | What it does |
 //! |---|---|
@@ -12,6 +12,10 @@
 //! | [`ca_next_rule`] | finds the rules of a shape that have a property, one rule in each call |
 //! | [`ca_kept_sums`] | finds all sums of weights that a rule keeps |
 //! | [`ca_flux`] | writes the flux of one such sum |
+//! | [`ca_room_open`] | takes the memory of a room, which calls can use again and again |
+//! | [`ca_room_close`] | gives back the memory of a room |
+//! | [`ca_run_in`] | does what [`ca_run`] does, over a room |
+//! | [`ca_report_in`] | does what [`ca_report`] does, over a room |
 //! | [`ca_version`] | returns the version of the interface |
 //!
 //! The file include/ca.h declares these functions for C.
@@ -28,15 +32,18 @@
 //! | a block that ends in `9` | 20 bytes | 9 | 0 | as it was |
 //!
 //! No function keeps a pointer or has a state. The result of a call depends only on its arguments and on whether
-//! there is memory. For n bytes of words and output, [`ca_run`] takes the time and the memory of `ca_cli::reply` and
-//! **O(n)** more of both. [`ca_run_json`] takes as much memory, and **O(n log n)** more time than `ca_cli::reply`.
-//! For n letters, [`ca_report`] takes the time and the memory of `ca_answering::report` and **O(n)** more of both.
-//! All other calls take no memory.
+//! there is memory. It doesn't depend on what a room served before. For n bytes of words and output, [`ca_run`] takes
+//! the time and the memory of `ca_cli::reply` and **O(n)** more of both. [`ca_run_json`] takes as much memory, and
+//! **O(n log n)** more time than `ca_cli::reply`. For n letters, [`ca_report`] takes the time and the memory of
+//! `ca_answering::report` and **O(n)** more of both. A call over a room takes less memory, since the room has the memory
+//! for long lists. All other calls take no memory, except that [`ca_room_open`] takes the memory of a room, some 9 MB.
 #![tactic(auto)]
 
 mod blocks;
 mod calls;
 mod exports;
+mod room_calls;
+mod room_exports;
 mod sources;
 
 pub use c_structs::{RuleReport, RuleVerdicts};
@@ -44,3 +51,4 @@ pub use exports::{
     ca_flux, ca_kept_sums, ca_next_rule, ca_report, ca_run, ca_run_json, ca_verdict_bytes,
     ca_verdicts, ca_version, ca_window_order,
 };
+pub use room_exports::{ca_report_in, ca_room_close, ca_room_open, ca_run_in};

@@ -13,12 +13,14 @@ use ca_answering::Room;
 use ca_io::{InputFault, Source};
 use ca_text::{Output, write_reply};
 use std::alloc::{AllocError, Global};
+use tail_config::TailRoom;
 
 /// Writes to `output` the answer to these words and to the bytes that the source has left, which only `check` reads,
 /// and returns its status. Returns an error if a read fails, or if there is no memory. What `output` had before is
-/// gone. The room serves one answer after another.
+/// gone. The room serves one answer after another, and so does `tails`, which has memory for a configuration.
 pub fn answer_to<S: Source>(
     alloc: Global,
+    tails: &mut TailRoom,
     room: &mut Room,
     output: &mut Output,
     words: &[String],
@@ -35,7 +37,7 @@ pub fn answer_to<S: Source>(
     ensures reading { Reading (result ≡ Err InputFault.Failed)
         (S.left source.old) (S.left source.new) (S.faults source.old) (S.faults source.new) }
 {
-    let reply = reply(alloc, room, words, source)?;
+    let reply = reply(alloc, tails, room, words, source)?;
     right_replies_are_writable();
     right_replies_fit();
     output.clear();

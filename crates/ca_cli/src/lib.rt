@@ -18,7 +18,7 @@
 //!   text, but not all of it.
 //!
 //! [`run`] makes a room for one call. [`run_in`] does the same over a room that can serve many calls. Then only
-//! `decide`, `certify`, `brief`, `language`, `preimage`, `classes` and `check` can end for lack of memory.
+//! `certify`, `brief`, `language`, `classes` and `check` can end for lack of memory.
 //!
 //! The definition `IsAnswer` of specs/RightAnswers.antt says which status and which output are right for the words
 //! and for the bytes that the source has left. The contract of [`run`] is about this definition. These laws follow

@@ -14,11 +14,13 @@ use ca_commands::{is_check, question};
 use ca_io::{InputFault, Source};
 use ca_questions::{Found, Reply, Stop};
 use std::alloc::{AllocError, Global};
+use tail_config::TailRoom;
 
 /// Returns the reply to these words and to the bytes that the source has left, which only `check` reads. The reply lends
-/// its long lists from the room. Returns an error if a read fails, or if there is no memory.
+/// its long lists from the room, and `tails` has memory for a configuration among the words. Returns an error if a read fails, or if there is no memory.
 pub fn reply<'r, S: Source>(
     alloc: Global,
+    tails: &mut TailRoom,
     room: &'r mut Room,
     words: &[String],
     source: &mut S,
@@ -37,7 +39,7 @@ pub fn reply<'r, S: Source>(
     if is_check(words) {
         return check(alloc, source);
     }
-    let found = match question(alloc, words) {
+    let found = match question(tails, words) {
         Ok(question) => answer(alloc, room, &question),
         Err(stop) => Err(stop),
     };

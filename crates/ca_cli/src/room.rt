@@ -2,11 +2,14 @@
 
 use ca_text::Output;
 use std::alloc::{AllocError, Global};
+use tail_config::TailRoom;
 
 /// The memory that calls of `run_in` use again and again, some 8 MB.
 #[derive(Drop)]
 pub struct Room {
     pub(crate) alloc: Global,
+    /// For the configuration that the words describe.
+    pub(crate) tails: TailRoom,
     /// For the long lists of answers.
     pub(crate) answers: ca_answering::Room,
     /// For the text of a reply.
@@ -18,6 +21,7 @@ impl Room {
     pub fn new(alloc: Global) -> Result<Room, AllocError> {
         Ok(Room {
             alloc,
+            tails: TailRoom::new(alloc)?,
             answers: ca_answering::Room::new(alloc)?,
             output: Output::new(alloc)?,
         })

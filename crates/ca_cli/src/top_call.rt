@@ -80,8 +80,8 @@ pub fn run<S: Source, T: Sink>(
 }
 
 /// Does what [`run`] does, but over a room, which may have served other calls before. Returns `Memory` only for the
-/// commands `decide`, `certify`, `brief`, `language`, `preimage`, `classes` and `check`, if there is no memory for what
-/// they find or for the configuration of `preimage`. If an operand is refused, it never returns `Memory`.
+/// commands `certify`, `brief`, `language`, `classes` and `check`, if there is no memory for what they find. If an
+/// operand is refused, it never returns `Memory`.
 pub fn run_in<S: Source, T: Sink>(
     room: &mut Room,
     words: &[String],
@@ -120,6 +120,7 @@ pub fn run_in<S: Source, T: Sink>(
 {
     match answer_to(
         room.alloc,
+        &mut room.tails,
         &mut room.answers,
         &mut room.output,
         words,

@@ -13,8 +13,7 @@ use crate::short_lists::{colours, weights};
 use ca_questions::{Cause, Drawn, Numbered, Question, ShortList, Stop};
 use cert_values::CertVersion;
 use rule_text::{decimal_number, decimal_offset, is_decimal};
-use std::alloc::Global;
-use tail_config::{TailTextFault, has_form};
+use tail_config::{TailRoom, TailTextFault, has_form};
 use word_image::Rule;
 
 /// Returns whether the words are the command `check`.
@@ -29,8 +28,8 @@ pub fn is_check(words: &[String]) -> bool
 
 /// Returns the question that the words ask. The words must not be the command `check`. Returns `Usage` if they are no
 /// command, or else `RuleFault` for the first operand with a fault, or else `Unfit` if the parts of a configuration
-/// don't fit the rule. The only other error is lack of memory, for a configuration.
-pub fn question(alloc: Global, words: &[String]) -> Result<Question, Stop>
+/// don't fit the rule. The room lends the configuration of a question.
+pub fn question<'w>(room: &'w mut TailRoom, words: &[String]) -> Result<Question<'w>, Stop>
     requires { ¬ IsCommand (map string_bytes words.now) check_command }
     ensures { MatchResult result (IsAskedBy (map string_bytes words.now)) (IsStop (map string_bytes words.now)) }
 {
@@ -38,14 +37,18 @@ pub fn question(alloc: Global, words: &[String]) -> Result<Question, Stop>
         return Err(Stop::Usage);
     };
     match Name::named(word) {
-        Some(name) => named_question(alloc, name, rest),
+        Some(name) => named_question(room, name, rest),
         None => Err(Stop::Usage),
     }
 }
 
 /// Returns the question that a command with this name and these further words asks, or the reason why it asks none.
 #[tactic(auto, using(crate::proofs::laws::Asking::asking))]
-fn named_question(alloc: Global, name: Name, rest: &[String]) -> Result<Question, Stop>
+fn named_question<'w>(
+    room: &'w mut TailRoom,
+    name: Name,
+    rest: &[String],
+) -> Result<Question<'w>, Stop>
     requires { name ≡ names.Check → rest.now ≢ [] }
     ensures { MatchResult result (IsAskedBy (word_of name ∷ map string_bytes rest.now)) (IsStop (word_of name ∷ map string_bytes rest.now)) }
 {
@@ -83,7 +86,7 @@ fn named_question(alloc: Global, name: Name, rest: &[String]) -> Result<Question
             Ok(Question::Same(first, second))
         }
         Name::Erase => Ok(Question::Erase(one_rule(name, rest)?)),
-        Name::Preimage => preimage(alloc, rest),
+        Name::Preimage => preimage(room, rest),
         Name::Survey => Ok(Question::Survey(numbered(rest)?)),
         Name::Sample => Ok(Question::Sample(drawn(rest)?)),
         Name::Classes => Ok(Question::Classes(numbered(rest)?)),
@@ -144,7 +147,7 @@ fn rule_and_weights(name: Name, rest: &[String]) -> Result<(Rule, Option<ShortLi
 }
 
 /// Reads the words after `shift`: a rule R and a number N of cells.
-fn shift(rest: &[String]) -> Result<Question, Stop>
+fn shift(rest: &[String]) -> Result<Question<'static>, Stop>
     ensures { MatchResult result (IsAskedBy (word_of names.Shift ∷ map string_bytes rest.now)) (IsStop (word_of names.Shift ∷ map string_bytes rest.now)) }
 {
     let Some((text, by)) = two(rest) else {
@@ -158,7 +161,7 @@ fn shift(rest: &[String]) -> Result<Question, Stop>
 }
 
 /// Reads the words after `widen`: a rule R and a width M.
-fn widen(rest: &[String]) -> Result<Question, Stop>
+fn widen(rest: &[String]) -> Result<Question<'static>, Stop>
     ensures { MatchResult result (IsAskedBy (word_of names.Widen ∷ map string_bytes rest.now)) (IsStop (word_of names.Widen ∷ map string_bytes rest.now)) }
 {
     let Some((text, width)) = two(rest) else {
@@ -172,7 +175,7 @@ fn widen(rest: &[String]) -> Result<Question, Stop>
 }
 
 /// Reads the words after `permute`: a rule R, and a digit for the new name of each letter.
-fn permute(rest: &[String]) -> Result<Question, Stop>
+fn permute(rest: &[String]) -> Result<Question<'static>, Stop>
     ensures { MatchResult result (IsAskedBy (word_of names.Permute ∷ map string_bytes rest.now)) (IsStop (word_of names.Permute ∷ map string_bytes rest.now)) }
 {
     let Some((text, letters)) = two(rest) else {
@@ -186,7 +189,7 @@ fn permute(rest: &[String]) -> Result<Question, Stop>
 }
 
 /// Reads the words after `preimage`: a rule R and the text of a configuration with periodic tails.
-fn preimage(alloc: Global, rest: &[String]) -> Result<Question, Stop>
+fn preimage<'w>(room: &'w mut TailRoom, rest: &[String]) -> Result<Question<'w>, Stop>
     ensures { MatchResult result (IsAskedBy (word_of names.Preimage ∷ map string_bytes rest.now)) (IsStop (word_of names.Preimage ∷ map string_bytes rest.now)) }
 {
     let Some((text, tail)) = two(rest) else {
@@ -196,11 +199,11 @@ fn preimage(alloc: Global, rest: &[String]) -> Result<Question, Stop>
         return Err(Stop::Usage);
     }
     let rule = rule_operand(1, text)?;
-    match tail_config::parse(alloc, rule.k(), tail) {
+    match room.parse(rule.k(), tail) {
         Ok(tail) => Ok(Question::Preimage(rule, tail)),
         Err(TailTextFault::Tail(fault)) => Err(Stop::Unfit(Cause::Tail(fault))),
-        Err(TailTextFault::Form(_)) => Err(Stop::Usage),
-        Err(TailTextFault::Memory(fault)) => Err(Stop::Memory(fault)),
+        Err(TailTextFault::Form(_)) => unreachable!(),
+        Err(TailTextFault::Memory(_)) => unreachable!(),
     }
 }
 

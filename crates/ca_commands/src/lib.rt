@@ -26,8 +26,8 @@
 //! [`question`] reads each operand once, into a value. It first tests the forms of all operands. If the words are no
 //! command, it returns `Usage`. Then it reads the rules, from left to right. For example, `compose 90 x` gives
 //! `RuleFault` with the number of the operand `x`, which is 2, and with the fault of its text. If the parts of a
-//! configuration don't fit the rule, it returns `Unfit`. A call takes **O(n)** time for n bytes of words. Only the
-//! configuration of `preimage` needs memory.
+//! configuration don't fit the rule, it returns `Unfit`. A call takes **O(n)** time for n bytes of words, and no memory:
+//! the configuration of `preimage` is read into a room.
 #![tactic(auto)]
 
 mod asking;

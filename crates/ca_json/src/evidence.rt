@@ -1,8 +1,7 @@
 //! The JSON of a report: the verdicts of a rule with their evidence.
 ghost use Rattle.std.specs.Prelude.{◌≡◌, IfOk};
 ghost use Rattle.serde_json.specs.View.{view};
-ghost use Rattle.cert_values.specs.Parts.{side_of};
-ghost use Rattle.rule_verdicts.specs.Reports.{evidence_of, injective_of, sum_of};
+ghost use Rattle.rule_verdicts.specs.Reports.{evidence_of, injective_of, side_in, sum_of};
 ghost use Rattle.ca_questions.specs.Findings.{Finding};
 ghost use Rattle.rule_text.specs.PrintedRules.{number_found};
 ghost use Rattle.ca_questions.specs.Writable.{HasDigits, HasRingDigits, HasTwinDigits, IsWritable};
@@ -11,14 +10,14 @@ ghost use Rattle.ca_json.specs.Values.{conserving_json, injective_json, number_o
 
 use crate::values::{number_or_null, pair_value, tail_value};
 use cert_format::{flux_value, rule_value, weights_value, word_value};
-use cert_values::SidePart;
+use closing_test::LentClosing;
 use flux_conserve::Keeping;
 use rule_text::number;
 use rule_verdicts::{Injectivity, Report};
 use serde_json::{Map, Value, json, put};
 use short_words::LentWord;
 use std::alloc::{AllocError, Global};
-use tail_config::Tail;
+use tail_config::LentTail;
 use word_image::{FluxRow, Rule};
 
 /// Returns the object of a report: the rule, its number, the weights, and the verdicts with their evidence.
@@ -85,12 +84,12 @@ fn injective_value(alloc: Global, found: &Injectivity) -> Result<Value, AllocErr
 
 /// Returns the object that says whether the rule closes on a side, with a look-ahead if it does, and with a split if
 /// it doesn't.
-fn side_value(alloc: Global, found: &SidePart) -> Result<Value, AllocError>
-    ensures { IfOk result (λ v. view v ≡ side_json (side_of found.now)) }
+fn side_value(alloc: Global, found: &LentClosing) -> Result<Value, AllocError>
+    ensures { IfOk result (λ v. view v ≡ side_json (side_in found.now)) }
 {
     match found {
-        SidePart::Ahead(n) => json!(in alloc; {"ahead": *n, "holds": true}),
-        SidePart::Split(x, y) => {
+        LentClosing::Ahead(n) => json!(in alloc; {"ahead": *n, "holds": true}),
+        LentClosing::Split(x, y) => {
             let x = accepted_tail_value(alloc, x)?;
             let y = accepted_tail_value(alloc, y)?;
             json!(in alloc; {"holds": false, "split": [x, y]})
@@ -118,7 +117,7 @@ fn conserving_value(alloc: Global, rule: &Rule, found: &Keeping) -> Result<Value
 }
 
 /// Returns the object with the left period, the middle and the right period of a configuration.
-fn accepted_tail_value(alloc: Global, tail: &Tail) -> Result<Value, AllocError>
+fn accepted_tail_value(alloc: Global, tail: &LentTail) -> Result<Value, AllocError>
     ensures { IfOk result (λ v. view v ≡ tail_json (tail.now).config) }
 {
     tail_value(alloc, tail.left(), tail.middle(), tail.right())

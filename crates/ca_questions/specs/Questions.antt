@@ -27,12 +27,10 @@ pub data Question : Type 0 where
   Summary : (rules : List LocalRule) → Question
   Classes : (rules : List LocalRule) → Question
 
--- the answer to the question may need memory besides a room: it has splits, a certificate, an automaton or a number of classes, or the question has a configuration
+-- the answer to the question may need memory besides a room: it has a certificate, an automaton or a number of classes
 abbrev pub AnswerNeedsMemory : Question → Type 0
-AnswerNeedsMemory (Report r weights) = ⊤
 AnswerNeedsMemory (Certify version r weights) = ⊤
 AnswerNeedsMemory (Language r) = ⊤
-AnswerNeedsMemory (Preimage r t) = ⊤
 AnswerNeedsMemory (Classes rules) = ⊤
 AnswerNeedsMemory _ = ⊥
 

@@ -8,12 +8,13 @@ use crate::short_list::ShortList;
 use cert_values::CertVersion;
 use rule_text::{TextFault, check_shape, numbered};
 use rule_verdicts::fault_past_all;
-use tail_config::Tail;
+use tail_config::LentTail;
 use word_image::Rule;
 
-/// A question. Some questions have weights; if none are given, each letter weighs its own value.
+/// A question. Some questions have weights; if none are given, each letter weighs its own value. A configuration stands
+/// in the room in which it was read.
 #[derive(Drop)]
-pub enum Question {
+pub enum Question<'w> {
     /// What are the verdicts of the rule under these weights, each with the least evidence?
     Report(Rule, Option<ShortList>),
     /// What is the certificate of this version for the rule and these weights?
@@ -50,7 +51,7 @@ pub enum Question {
     /// configuration without a change of the image.
     Erase(Rule),
     /// What is a preimage of this configuration under the rule?
-    Preimage(Rule, Tail),
+    Preimage(Rule, LentTail<'w>),
     /// How many of the rules with these numbers have each property?
     Survey(Numbered),
     /// How many of the rules that a generator draws from this seed have each property?

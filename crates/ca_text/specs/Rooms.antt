@@ -2,7 +2,7 @@
 -- appended to an output.
 use Rattle.std.specs.Prelude.{ℕ, ◌≡◌, ◌+◌, ◌≤◌, List, ◌++◌, length, Result, OnOk, IsOk, ⊤}
 use Rattle.tail_preimage.specs.Lengths.{most_stretch}
-use Rattle.ca_questions.specs.Findings.{Finding}
+use Rattle.ca_questions.specs.Findings.{Finding, Unfit}
 use Rattle.ca_questions.specs.Replies.{Reply}
 
 -- the number of bytes for which an output has room when it is made
@@ -29,6 +29,17 @@ IsShortReply (Reply.Found f) = IsShortFinding f
 IsShortReply (Reply.Accepted v) = ⊥
 IsShortReply (Reply.Refused f) = ⊥
 IsShortReply _ = ⊤
+
+-- the reply has a text of a few lines, whatever the rule: a number, a rule, counts, a cause other than twins, a fault, or words that are no command
+abbrev pub IsSmallReply : Reply → Type 0
+IsSmallReply (Reply.Found (Finding.Number n)) = ⊤
+IsSmallReply (Reply.Found (Finding.Rule r)) = ⊤
+IsSmallReply (Reply.Found (Finding.Summary t)) = ⊤
+IsSmallReply (Reply.Found _) = ⊥
+IsSmallReply (Reply.NoFit (Unfit.Twins x y)) = ⊥
+IsSmallReply (Reply.Accepted v) = ⊥
+IsSmallReply (Reply.Refused f) = ⊥
+IsSmallReply _ = ⊤
 
 -- an output has room for the text of the reply: it is about neither a certificate nor an automaton, and a preimage or a gap has at most 33,792 letters
 abbrev pub FitsRoom : Reply → Type 0

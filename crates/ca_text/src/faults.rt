@@ -1,8 +1,9 @@
 //! The lines for faults of operands, and for causes, which say why a question has no answer.
 ghost use Rattle.std.specs.Prelude.{◌+◌, ◌++◌, codes, length};
 ghost use Rattle.rule_text.specs.FaultTexts.{fault_text};
+ghost use Rattle.ca_questions.specs.Replies.{Reply};
 ghost use Rattle.ca_questions.specs.Values.{unfit_of};
-ghost use Rattle.ca_text.specs.Rooms.{AppendsAtMost, IsAppended};
+ghost use Rattle.ca_text.specs.Rooms.{AppendsAtMost, IsAppended, IsSmallReply};
 ghost use Rattle.ca_text.specs.StatusLines.{operand_fault_line, unfit_line};
 ghost use Rattle.ca_text.specs.Texts.{unfit_text};
 ghost use Rattle.ca_questions.specs.Writable.{IsWritableUnfit};
@@ -20,6 +21,7 @@ pub fn write_unfit(output: &mut Output, cause: &Cause) -> Result<(), AllocError>
     requires { IsWritableUnfit (unfit_of cause.now) }
     ensures appended { IsAppended result output.old output.new (unfit_line (unfit_text (unfit_of cause.now))) }
     ensures few { AppendsAtMost 2200 result output.old output.new }
+    ensures small { IsSmallReply (Reply.NoFit (unfit_of cause.now)) → AppendsAtMost 100 result output.old output.new }
 {
     match cause {
         Cause::Twins(pair) => output.push_line_with_words(

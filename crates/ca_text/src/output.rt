@@ -11,7 +11,7 @@ ghost use Rattle.ca_text.specs.Rooms.{AppendsAtMost, IsAppended, most_text};
 use crate::decimals::{MOST_DIGITS, write_decimal};
 use std::alloc::{AllocError, Global};
 use std::marker::Model;
-use tail_config::Tail;
+use tail_config::LentTail;
 use word_image::{Rule, digit};
 
 /// The number of bytes for which an output has room when it is made. The longest report has fewer.
@@ -129,7 +129,7 @@ impl Output {
     }
 
     /// Appends the text of a configuration.
-    pub fn push_tail(&mut self, config: &Tail) -> Result<(), AllocError>
+    pub fn push_tail(&mut self, config: &LentTail) -> Result<(), AllocError>
         ensures appended { IsAppended result self.old self.new (tail.printed config.now.config) }
         ensures few { AppendsAtMost 3074 result self.old self.new }
     {

@@ -3,7 +3,7 @@ ghost use Rattle.std.specs.Prelude.{◌≡◌, ◌++◌, ◌+◌, ◌≤◌, len
 ghost use Rattle.ca_questions.specs.Values.{reply_of};
 ghost use Rattle.ca_questions.specs.Writable.{IsWritableReply};
 ghost use Rattle.ca_text.specs.Replies as texts;
-ghost use Rattle.ca_text.specs.Rooms.{AppendsAtMost, FitsRoom, IsShortReply, most_text};
+ghost use Rattle.ca_text.specs.Rooms.{AppendsAtMost, FitsRoom, IsShortReply, IsSmallReply, most_text};
 
 use crate::faults::{write_operand_fault, write_unfit};
 use crate::output::Output;
@@ -20,6 +20,7 @@ pub fn write_reply(alloc: Global, output: &mut Output, reply: &Reply) -> Result<
     ensures appended { OnOk result (output.new ≡ output.old ++ texts.reply_text (reply_of reply.now)) }
     ensures fits { IsShortReply (reply_of reply.now) → length output.old + length (texts.reply_text (reply_of reply.now)) ≤ most_text → IsOk result }
     ensures few { FitsRoom (reply_of reply.now) → AppendsAtMost most_text result output.old output.new }
+    ensures small { IsSmallReply (reply_of reply.now) → AppendsAtMost 500 result output.old output.new }
 {
     match reply {
         Reply::Found(found) => write_found(alloc, output, found),

@@ -3,21 +3,20 @@ ghost use Rattle.std.specs.Prelude.{◌+◌, ◌*◌, ◌++◌, length, codes, i
 ghost use Rattle.std.specs.List.{flat_map};
 ghost use Rattle.tail_config.specs.TailTexts as tail;
 ghost use Rattle.rule_text.specs.PrintedRules.{number_found, printed_rule, offset_text};
-ghost use Rattle.cert_values.specs.Parts.{side_of};
-ghost use Rattle.rule_verdicts.specs.Reports.{evidence_of, injective_of, sum_of};
+ghost use Rattle.rule_verdicts.specs.Reports.{evidence_of, injective_of, side_in, sum_of};
 ghost use Rattle.ca_text.specs.Reports.{line, number_line, surjective_line, injective_line, side_line, conserving_line, report_lines};
 ghost use Rattle.ca_text.specs.Rooms.{AppendsAtMost, IsAppended};
 ghost use Rattle.ca_questions.specs.Findings.{Finding};
 ghost use Rattle.ca_questions.specs.Writable.{HasDigits, HasTwinDigits, HasRingDigits, IsWritable};
 
 use crate::output::Output;
-use cert_values::SidePart;
+use closing_test::LentClosing;
 use flux_conserve::Keeping;
 use rule_text::number;
 use rule_verdicts::{Injectivity, Report};
 use short_words::LentWord;
 use std::alloc::AllocError;
-use tail_config::Tail;
+use tail_config::LentTail;
 use word_image::Rule;
 
 /// Appends the eight lines of a report: the rule, its number, and its six verdicts with their evidence.
@@ -100,21 +99,26 @@ fn write_injective(output: &mut Output, found: &Injectivity) -> Result<(), Alloc
 
 /// Appends the line that says whether the rule closes on a side, with a look-ahead if it does, and with a split if it
 /// doesn't. `name` is the word for the side.
-fn write_side(output: &mut Output, name: &str, found: &SidePart) -> Result<(), AllocError>
-    ensures appended { IsAppended result output.old output.new (side_line name.now (side_of found.now)) }
+fn write_side(output: &mut Output, name: &str, found: &LentClosing) -> Result<(), AllocError>
+    ensures appended { IsAppended result output.old output.new (side_line name.now (side_in found.now)) }
     ensures few { AppendsAtMost (6200 + length name.now) result output.old output.new }
 {
     match found {
-        SidePart::Ahead(n) => {
+        LentClosing::Ahead(n) => {
             output.push(name.as_bytes())?;
             output.push_line_with_number(" yes ahead ", u128::from(*n))
         }
-        SidePart::Split(x, y) => write_split(output, name, x, y),
+        LentClosing::Split(x, y) => write_split(output, name, x, y),
     }
 }
 
 /// Appends the line of a rule that doesn't close on a side, with its split. `name` is the word for the side.
-fn write_split(output: &mut Output, name: &str, x: &Tail, y: &Tail) -> Result<(), AllocError>
+fn write_split(
+    output: &mut Output,
+    name: &str,
+    x: &LentTail,
+    y: &LentTail,
+) -> Result<(), AllocError>
     ensures appended { IsAppended result output.old output.new (line (name.now ++ codes " no split " ++ tail.printed x.now.config ++ codes " " ++ tail.printed y.now.config)) }
     ensures few { AppendsAtMost (6200 + length name.now) result output.old output.new }
 {

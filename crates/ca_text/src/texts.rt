@@ -2,7 +2,7 @@
 ghost use Rattle.std.specs.Prelude.{◌≡◌, ◌++◌, ◌+◌, ◌≤◌, length, IsOk, OnOk};
 ghost use Rattle.ca_questions.specs.Replies.{Reply};
 ghost use Rattle.ca_questions.specs.Values.{finding_of};
-ghost use Rattle.ca_text.specs.Rooms.{AppendsAtMost, FitsRoom, IsShortFinding, most_text};
+ghost use Rattle.ca_text.specs.Rooms.{AppendsAtMost, FitsRoom, IsShortFinding, IsSmallReply, most_text};
 ghost use Rattle.ca_text.specs.Texts.{text_of};
 ghost use Rattle.ca_questions.specs.Writable.{IsWritable};
 
@@ -24,6 +24,7 @@ pub fn write_found(alloc: Global, output: &mut Output, found: &Found) -> Result<
     ensures appended { OnOk result (output.new ≡ output.old ++ text_of (finding_of found.now)) }
     ensures fits { IsShortFinding (finding_of found.now) → length output.old + length (text_of (finding_of found.now)) ≤ most_text → IsOk result }
     ensures few { FitsRoom (Reply.Found (finding_of found.now)) → AppendsAtMost most_text result output.old output.new }
+    ensures small { IsSmallReply (Reply.Found (finding_of found.now)) → AppendsAtMost 500 result output.old output.new }
 {
     match found {
         Found::Report(report) => write_report(output, report),

@@ -49,18 +49,14 @@ pub IsLeastSplitOf-walks : {r : LocalRule} {x y : TailOver} (w : Walks) → IsRu
 IsLeastSplitOf-walks {r} w rule h first second =
     rw (first, second) (record { least = IsLeastRightSplit-walks w rule h; first = IsShortOver-walks r w first_letter; second = IsShortOver-walks r w second_letter })
 
--- one of the two configurations of a split is short, if it is a configuration over the rule's letters
-IsShortTail-tail_by : (r : LocalRule) (w : Walks) (letter : ℕ → ℕ) → IsTail r.states (tail_by letter w) → IsShortTail r.states (tail_by letter w)
-IsShortTail-tail_by r w letter tail =
-    let short = IsShortOver-walks r w letter in
-    record { tail = tail; left = omega arith; middle = omega arith; right = omega arith }
-
--- the configurations of the least walks of all states are short and over the rule's letters
-pub IsShortTail-walks : {r : LocalRule} (w : Walks) → IsRule r → IsLeastSoFar r (pair_count r + pair_count r) (Some w)
-    → IsShortTail r.states (tail_by first_letter w) × IsShortTail r.states (tail_by second_letter w)
-IsShortTail-walks {r} w rule h =
-    let split = (IsLeastRightSplit-walks w rule h).split.split in
-    (IsShortTail-tail_by r w first_letter split.first, IsShortTail-tail_by r w second_letter split.second)
+-- a configuration over the letters of the rule whose parts have at most 512 letters is short
+pub IsShortTail-over : {r : LocalRule} {t : TailOver} → IsTail r.states t.config → IsShortOver r t → IsShortTail r.states t.config
+IsShortTail-over tail short = record {
+  tail = tail;
+  left = omega (arith, short.left);
+  middle = omega (arith, short.middle);
+  right = omega (arith, short.right);
+}
 
 -- a rule for which no walks are found is right-closing
 pub IsRightClosing-none_found : {r : LocalRule} → IsRule r → IsLeastSoFar r (pair_count r + pair_count r) None → IsRightClosing r

@@ -1,16 +1,18 @@
 -- The meaning of the results of the functions `right` and `left`, which test whether a rule is closing on a side. A
 -- look-ahead is a number n for which m - 1 letters of a word and n letters of its image determine the next letter of
 -- the word. A split consists of two different configurations with the same image that agree far out on one side.
-use Rattle.std.specs.Prelude.{◌≡◌, ℕ, ◌+◌, ◌≤◌, length}
+use Rattle.std.specs.Prelude.{◌≡◌, ℕ, ◌+◌, ◌/◌, ◌%◌, ◌≤◌, List, length, map}
 use Rattle.least_walk.specs.Queues.{most_steps}
 use Rattle.pair_rank.specs.Sides.{most_rank}
-use Rattle.word_image.specs.LocalRules.{LocalRule, mirrored}
+use Rattle.word_image.specs.LocalRules.{LocalRule, mirrored, most_states}
 use Rattle.word_image.specs.Windows.{IsLeastRightAhead}
-use Rattle.tail_config.specs.Tails.{IsRightClosing, IsLeftClosing}
+use Rattle.tail_config.specs.Tails.{TailConfig, IsRightClosing, IsLeftClosing}
 use Rattle.tail_config.specs.Splits.{IsLeastRightSplit, IsLeastLeftSplit}
 use Rattle.tail_config.specs.TailValues.{TailOver}
 use Rattle.closing_test.specs.declared.closing.Closing.{Closing}
 use Rattle.closing_test.specs.declared.closing.Closing.TheVariants.{Ahead, Split}
+use Rattle.closing_test.specs.declared.split_room.LentClosing.{LentClosing}
+use Rattle.closing_test.specs.declared.split_room.LentClosing.TheVariants as lent
 
 -- the least look-ahead of a rule is at most this number: two more than the greatest rank of a pair of nodes
 abbrev pub most_ahead : ℕ
@@ -44,3 +46,20 @@ IsRightAnswer r (Split x y) = ¬ IsRightClosing r × IsLeastSplitOf r x y
 abbrev pub IsLeftAnswer : LocalRule → Closing → Type 0
 IsLeftAnswer r (Ahead n) = IsLeftClosing r × IsLeastRightAhead (mirrored r) n × (n ≤ most_ahead)
 IsLeftAnswer r (Split x y) = ¬ IsLeftClosing r × IsLeastLeftSplitOf r x y
+
+-- the same evidence with a split in memory of its own
+abbrev pub closing_of : LentClosing → Closing
+closing_of (lent.Ahead n) = Ahead n
+closing_of (lent.Split x y) = Split x y
+
+-- the configuration over the letters of the rule
+abbrev pub tail_over : LocalRule → TailConfig → TailOver
+tail_over r t = record { states = r.states; config = t }
+
+-- the first letter of each step: a step on the letters a and b is the number a * 16 + b
+abbrev pub first_word : List ℕ → List ℕ
+first_word steps = map (λ step. step / most_states) steps
+
+-- the second letter of each step
+abbrev pub second_word : List ℕ → List ℕ
+second_word steps = map (λ step. step % most_states) steps

@@ -5,10 +5,9 @@
 //! to the left. A Tail is a configuration with a left period, a middle and a right period.
 
 ghost use Rattle.std.specs.Prelude.{◌≡◌, IfOk};
-ghost use Rattle.closing_test.specs.Closing.{IsRightAnswer, IsLeftAnswer};
+ghost use Rattle.closing_test.specs.Closing.{IsRightAnswer, IsLeftAnswer, closing_of};
 
-use crate::look_ahead::{ahead_left, ahead_right};
-use crate::split::least_split;
+use crate::split_room::{LentClosing, SplitRoom};
 use least_walk::Walker;
 use pair_graph::Pairs;
 use pair_rank::Ranks;
@@ -37,25 +36,8 @@ pub fn right(
     requires { ranks.now ≡ rule.now }
     ensures { IfOk result (IsRightAnswer rule.now) }
 {
-    right_over(alloc, &Pairs::of(rule), ranks, walker)
-}
-
-/// Returns the least right look-ahead of the rule of these pairs if the rule is right-closing, and otherwise its
-/// least normal right split. `ranks` must be the ranks of the rule. The only error is lack of memory.
-pub fn right_over(
-    alloc: Global,
-    pairs: &Pairs,
-    ranks: &Ranks,
-    walker: &mut Walker,
-) -> Result<Closing, AllocError>
-    requires { ranks.now ≡ pairs.now }
-    ensures { IfOk result (IsRightAnswer pairs.now) }
-{
-    if let Some(ahead) = ahead_right(pairs.rule(), ranks) {
-        return Ok(Closing::Ahead(ahead));
-    }
-    let (first, second) = least_split(alloc, pairs, walker)?;
-    Ok(Closing::Split(first, second))
+    let mut room = SplitRoom::new(alloc)?;
+    owned(alloc, &room.right(&Pairs::of(rule), ranks, walker))
 }
 
 /// Returns the least left look-ahead if the rule is left-closing, and otherwise its least normal left split. The split
@@ -70,24 +52,16 @@ pub fn left(
     requires { ranks.now ≡ rule.now }
     ensures { IfOk result (IsLeftAnswer rule.now) }
 {
-    left_over(alloc, &Pairs::of(rule), ranks, walker)
+    let mut room = SplitRoom::new(alloc)?;
+    owned(alloc, &room.left(&Pairs::of(rule), ranks, walker))
 }
 
-/// Returns the least left look-ahead of the rule of these pairs if the rule is left-closing, and otherwise its least
-/// normal left split. `ranks` must be the ranks of the rule. The only error is lack of memory.
-pub fn left_over(
-    alloc: Global,
-    pairs: &Pairs,
-    ranks: &Ranks,
-    walker: &mut Walker,
-) -> Result<Closing, AllocError>
-    requires { ranks.now ≡ pairs.now }
-    ensures { IfOk result (IsLeftAnswer pairs.now) }
+/// Copies the evidence into memory of its own. The only error is lack of memory.
+fn owned(alloc: Global, found: &LentClosing) -> Result<Closing, AllocError>
+    ensures { IfOk result (λ closing. closing ≡ closing_of found.now) }
 {
-    if let Some(ahead) = ahead_left(pairs.rule(), ranks) {
-        return Ok(Closing::Ahead(ahead));
+    match found {
+        LentClosing::Ahead(ahead) => Ok(Closing::Ahead(*ahead)),
+        LentClosing::Split(x, y) => Ok(Closing::Split(x.to_tail(alloc)?, y.to_tail(alloc)?)),
     }
-    let mirrored = Pairs::of(&pairs.rule().reflect());
-    let (first, second) = least_split(alloc, &mirrored, walker)?;
-    Ok(Closing::Split(first.mirror(), second.mirror()))
 }

@@ -36,7 +36,7 @@
 //! If there are N = k^(m - 1) nodes, a look-ahead takes time **O(k·k^m)** and no memory. So does the test whether a
 //! rule closes. A split takes one search for all middles and one search for the period of each state. The search for
 //! a period ends when the split would be greater than the least split so far. This takes time **O(k·N⁴)** in
-//! operations on rows. Only the two Tails need memory: the walks are stored in arrays.
+//! operations on rows. The walks are stored in arrays, and a [`SplitRoom`] has the memory for the two configurations.
 #![tactic(auto)]
 
 mod closes;
@@ -44,8 +44,10 @@ mod closing;
 mod ends;
 mod look_ahead;
 mod split;
+mod split_room;
 mod walks;
 
 pub use closes::{is_left_closing, is_right_closing};
-pub use closing::{Closing, left, left_over, right, right_over};
+pub use closing::{Closing, left, right};
 pub use look_ahead::{ahead_left, ahead_right};
+pub use split_room::{LentClosing, SplitRoom};

@@ -6,66 +6,22 @@
 //! The middle leads from the unmarked pair of the node of zeros with itself to some state. The period leads from this
 //! state to the same pair of nodes with the mark.
 
-ghost use Rattle.std.specs.Prelude.{◌≡◌, ◌+◌, ◌*◌, ◌<◌, ◌≤◌, [], ◌∷◌, IfOk, IfSome};
+ghost use Rattle.std.specs.Prelude.{◌≡◌, ◌+◌, ◌*◌, ◌<◌, IfSome};
 ghost use Rattle.least_walk.specs.Queues.{most_steps};
-ghost use Rattle.word_image.specs.LocalRules.{IsRule, most_states};
+ghost use Rattle.word_image.specs.LocalRules.{IsRule};
 ghost use Rattle.word_image.specs.Graphs.{pair_count};
-ghost use Rattle.tail_config.specs.Tails.{IsRightClosing};
 ghost use Rattle.tail_config.specs.Splits.{IsNormalRightSplit};
-ghost use Rattle.tail_config.specs.TailTexts.{IsShortTail};
-ghost use Rattle.tail_config.specs.TailValues.{config_of};
 ghost use Rattle.tail_laws.specs.SplitWalks.{first_tail, second_tail};
 ghost use Rattle.closing_test.specs.Walks.{IsLeastSoFar, middle_pairs, period_pairs};
-ghost use Rattle.closing_test.specs.Closing.{IsLeastSplitOf};
 
 use crate::walks::Walks;
-use least_walk::{WalkTree, Walker, spelled};
+use least_walk::{WalkTree, Walker};
 use pair_graph::Pairs;
-use short_words::ShortWord;
-use std::alloc::{AllocError, Global};
-use tail_config::Tail;
-
-/// Returns the least normal right split of a rule that isn't right-closing. The only error is lack of memory, for the
-/// two Tails.
-pub fn least_split(
-    alloc: Global,
-    pairs: &Pairs,
-    walker: &mut Walker,
-) -> Result<(Tail, Tail), AllocError>
-    requires { ¬ IsRightClosing pairs.now }
-    ensures { IfOk result (λ split. IsLeastSplitOf pairs.now split.0 split.1) }
-{
-    let k = pairs.graph().k();
-    let Some(walks) = least_walks(pairs, walker) else {
-        unreachable!()
-    };
-    let middles = spelled(walks.middle.as_slice());
-    let periods = spelled(walks.period.as_slice());
-    let first = tail_of(alloc, k, &middles.x, &periods.x)?;
-    let second = tail_of(alloc, k, &middles.y, &periods.y)?;
-    Ok((first, second))
-}
-
-/// Returns the Tail with the left period 0, this middle and this right period. The only error is lack of memory.
-fn tail_of(alloc: Global, k: u8, middle: &ShortWord, right: &ShortWord) -> Result<Tail, AllocError>
-    requires least { 2 ≤ k }
-    requires most { k ≤ most_states }
-    requires tail { IsShortTail k (config_of (0 ∷ []) middle.now right.now) }
-    ensures { IfOk result (λ tail. tail ≡ record { states = k; config = config_of (0 ∷ []) middle.now right.now }) }
-{
-    let left = vec![in alloc; 0]?;
-    let middle = middle.to_vec(alloc)?;
-    let right = right.to_vec(alloc)?;
-    match Tail::new(k, left, middle, right) {
-        Ok(tail) => Ok(tail),
-        Err(_) => unreachable!(),
-    }
-}
 
 /// Returns the walks of the least normal right split, or None if there is no such split. For each state of the marked
 /// graph it looks at one split at most. It looks at states with short middles first, so that later searches for periods
 /// are short.
-fn least_walks(pairs: &Pairs, walker: &mut Walker) -> Option<Walks>
+pub fn least_walks(pairs: &Pairs, walker: &mut Walker) -> Option<Walks>
     ensures { IsLeastSoFar pairs.now (pair_count pairs.now + pair_count pairs.now) result }
 {
     pairs.rule().keeps_limits();

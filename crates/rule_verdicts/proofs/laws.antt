@@ -1,4 +1,5 @@
 pub mod Openness
+pub mod SideParts
 pub mod Sums
 pub mod WrittenParts
 pub mod Means

@@ -1,7 +1,7 @@
 //! The certificate of a rule: the parts of its report in memory of their own, and what a judge needs to check them. A
 //! node is a word of m - 1 letters, and a rank tells how long walks with equal labels can be that begin or end at two
 //! nodes.
-ghost use Rattle.std.specs.Prelude.{◌≡◌, ◌≤◌, All, length, true, IfOk, OnOk};
+ghost use Rattle.std.specs.Prelude.{◌≡◌, ℕ, ◌≤◌, All, length, true, IfOk, OnOk};
 ghost use Rattle.word_image.specs.LocalRules.{IsRule};
 ghost use Rattle.word_image.specs.Weights.{AreWeights};
 ghost use Rattle.word_image.specs.Words.{IsSurjective};
@@ -10,10 +10,12 @@ ghost use Rattle.cert_values.specs.Versions.{names_weights};
 ghost use Rattle.cert_values.specs.Parts as parts;
 ghost use Rattle.certificate_laws.specs.LeastEvidence.{IsOrphanPart};
 ghost use Rattle.certificate_laws.specs.WrittenCertificates.{HasWrittenParts, orphan_of, IsListPart};
-ghost use Rattle.rule_verdicts.specs.Reports.{injective_of, sum_of};
+ghost use Rattle.rule_verdicts.specs.Reports.{AreOver, injective_of, side_in, sum_of};
 
 use crate::report::{Injectivity, report_over};
-use cert_values::{Cert, CertVersion, InjectivePart, SumPart, SurjectivePart};
+use crate::report_room::ReportRoom;
+use cert_values::{Cert, CertVersion, InjectivePart, SidePart, SumPart, SurjectivePart};
+use closing_test::LentClosing;
 use debruijn::Graph;
 use eden_law::reached;
 use flux_conserve::Keeping;
@@ -29,7 +31,7 @@ use word_image::{FluxRow, Rule, SetList, Side, Weights, Word};
 /// cover list in version 2, or the reached pairs in version 3. The only error is lack of memory.
 pub fn certificate(
     alloc: Global,
-    search: &mut Search,
+    room: &mut ReportRoom,
     version: CertVersion,
     rule: &Rule,
     weights: &Weights,
@@ -44,9 +46,11 @@ pub fn certificate(
     have_eight_bits(weights.as_slice());
     let pairs = Pairs::of(rule);
     let ranks = Ranks::from_pairs(&pairs);
-    let report = report_over(alloc, search, &pairs, &ranks, weights)?;
+    let report = report_over(room, &pairs, &ranks, weights);
     let surjective = surjective_part(alloc, version, &pairs, &report.orphan)?;
     let injective = injective_part(alloc, &report.injective)?;
+    let right = side_part(alloc, &report.right)?;
+    let left = side_part(alloc, &report.left)?;
     let conserving = sum_part(alloc, rule, &report.conserving)?;
     let forward = ranks.row(alloc, Side::Right)?;
     Ok(Cert {
@@ -54,8 +58,8 @@ pub fn certificate(
         rule: *rule,
         surjective,
         injective,
-        right: report.right,
-        left: report.left,
+        right,
+        left,
         conserving,
         weights: *weights,
         forward,
@@ -129,6 +133,17 @@ fn injective_part(alloc: Global, found: &Injectivity) -> Result<InjectivePart, A
             x: word(alloc, pair.x.as_slice())?,
             y: word(alloc, pair.y.as_slice())?,
         }),
+    }
+}
+
+/// Returns the evidence about a side as a part of a certificate.
+fn side_part(alloc: Global, found: &LentClosing) -> Result<SidePart, AllocError>
+    ensures side { IfOk result (λ part. parts.side_of part ≡ side_in found.now) }
+    ensures over { (k : ℕ) → AreOver k found.now → IfOk result (parts.IsOver k) }
+{
+    match found {
+        LentClosing::Ahead(n) => Ok(SidePart::Ahead(*n)),
+        LentClosing::Split(x, y) => Ok(SidePart::Split(x.to_tail(alloc)?, y.to_tail(alloc)?)),
     }
 }
 

@@ -40,7 +40,7 @@
 //! image begin with these nodes. The *backward rank* is the same number for words that end with these nodes.
 //! [`least_report`] finds the evidence for a rule and weights of its letters. [`certificate`] adds the
 //! other parts that the judge of certificates needs: the cover list in version 2 or the reached pairs in version 3,
-//! and the exact rank of each pair of nodes. [`keeps_sums`], [`least_orphan`] and [`injectivity`] answer one question
+//! and the exact rank of each pair of nodes. [`keeps_sums`], [`least_orphan`] and [`window_or_twins`] answer one question
 //! each.
 //!
 //! Each function takes the time of the functions of other crates that decide its questions. Let a rule have k states,
@@ -52,10 +52,12 @@ mod certificates;
 mod numbers;
 mod parts;
 mod report;
+mod report_room;
 mod truths;
 
 pub use certificates::certificate;
 pub use numbers::{fault_past_all, next_table, verdict_bytes};
-pub use parts::{injectivity, least_orphan};
+pub use parts::{least_orphan, window_or_twins};
 pub use report::{Injectivity, Report, least_report};
+pub use report_room::ReportRoom;
 pub use truths::{Truths, keeps_sums, rule_of_table};

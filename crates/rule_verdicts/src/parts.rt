@@ -1,30 +1,27 @@
-//! The least evidence for one verdict: functions that turn the result of a decider into a part of a report.
+//! The least evidence for one verdict.
 ghost use Rattle.std.specs.Prelude.{◌≡◌};
 ghost use Rattle.word_image.specs.LocalRules.{LocalRule};
-ghost use Rattle.closing_test.specs.Closing.{IsRightAnswer, IsLeftAnswer};
-ghost use Rattle.cert_values.specs.Parts.{side_of, IsOver};
-ghost use Rattle.certificate_laws.specs.LeastEvidence.{IsOrphanPart, IsInjectivePart, IsRightPart, IsLeftPart};
-ghost use Rattle.rule_verdicts.specs.Parts.{HasShortWindow};
+ghost use Rattle.certificate_laws.specs.LeastEvidence.{IsOrphanPart, IsInjectivePart};
+ghost use Rattle.rule_verdicts.specs.Parts.{IsWindowOrTwins};
 ghost use Rattle.rule_verdicts.specs.Reports.{injective_of};
 
 use crate::report::Injectivity;
-use cert_values::SidePart;
-use closing_test::Closing;
+use crate::report_room::ReportRoom;
 use debruijn::Graph;
 use eden_law::is_surjective;
-use inverse_window::{least_twins, window};
+use inverse_window::{WindowAt, least_twins, window};
 use least_walk::Walker;
 use orphan_search::Search;
 use pair_graph::Pairs;
 use pair_rank::Ranks;
-use short_words::LentWord;
+use short_words::{LentWord, ShortPair};
 use word_image::Rule;
 
-/// Returns the least orphan, at most 65,535 letters, or None if the rule is surjective. The search lends the orphan.
-pub fn least_orphan<'r>(search: &'r mut Search, rule: &Rule) -> Option<LentWord<'r>>
+/// Returns the least orphan, at most 65,535 letters, or None if the rule is surjective. The room lends the orphan.
+pub fn least_orphan<'r>(room: &'r mut ReportRoom, rule: &Rule) -> Option<LentWord<'r>>
     ensures { IsOrphanPart rule.now result }
 {
-    first_orphan(search, &Graph::of(rule))
+    first_orphan(&mut room.search, &Graph::of(rule))
 }
 
 /// Returns the least orphan of the rule with this graph, or None if the rule is surjective.
@@ -38,41 +35,47 @@ pub(crate) fn first_orphan<'r>(search: &'r mut Search, graph: &Graph) -> Option<
     Some(LentWord::of(search.word()))
 }
 
-/// Returns the least determined window if the rule is injective, and its least twins if it isn't. A window has at
-/// most 240 letters of the image.
-pub fn injectivity(rule: &Rule) -> Injectivity
-    ensures least { IsInjectivePart rule.now (injective_of result) }
-    ensures most { HasShortWindow (injective_of result) }
+/// Returns the least determined window if the rule is injective. If it isn't, returns its least twins as the error. A
+/// window has at most 240 letters of the image, and twins have at most 512 letters.
+pub fn window_or_twins(rule: &Rule) -> Result<WindowAt, ShortPair>
+    ensures { IsWindowOrTwins rule.now result }
 {
     let pairs = Pairs::of(rule);
     let ranks = Ranks::from_pairs(&pairs);
-    injectivity_over(&pairs, &ranks, &mut Walker::empty())
+    window_or_twins_over(&pairs, &ranks, &mut Walker::empty())
 }
 
-/// Returns the least determined window if the rule is injective, and its least twins if it isn't. `pairs` are the pairs
-/// of nodes of the rule, and `ranks` are their ranks.
-pub(crate) fn injectivity_over(pairs: &Pairs, ranks: &Ranks, walker: &mut Walker) -> Injectivity
+/// Returns the least determined window if the rule of these pairs of nodes is injective. If it isn't, returns its least
+/// twins as the error. `ranks` are the ranks of the pairs.
+pub(crate) fn window_or_twins_over(
+    pairs: &Pairs,
+    ranks: &Ranks,
+    walker: &mut Walker,
+) -> Result<WindowAt, ShortPair>
     requires { ranks.now ≡ pairs.now }
-    ensures least { IsInjectivePart pairs.now (injective_of result) }
-    ensures most { HasShortWindow (injective_of result) }
+    ensures { IsWindowOrTwins pairs.now result }
 {
     if let Some(at) = window(pairs.rule(), ranks) {
-        return Injectivity::Window { n: at.n, c: at.c };
+        return Ok(at);
     }
     match least_twins(pairs, walker) {
-        Some(pair) => Injectivity::Twins(pair),
+        Some(pair) => Err(pair),
         None => unreachable!(),
     }
 }
 
-/// Turns the evidence about a side into a part of a report. A look-ahead shows that the rule closes on the side, and a
-/// split shows that it doesn't.
-pub(crate) fn side_part(found: Closing) -> SidePart
-    ensures right { (r : LocalRule) → IsRightAnswer r found → IsRightPart r (side_of result) × IsOver r.states result }
-    ensures left { (r : LocalRule) → IsLeftAnswer r found → IsLeftPart r (side_of result) × IsOver r.states result }
+/// Turns a window, or twins as the error, into a part of a report, which lends the twins from `twins`.
+pub(crate) fn lent<'r>(
+    twins: &'r mut ShortPair,
+    found: Result<WindowAt, ShortPair>,
+) -> Injectivity<'r>
+    ensures { (r : LocalRule) → IsWindowOrTwins r found → IsInjectivePart r (injective_of result) }
 {
     match found {
-        Closing::Ahead(n) => SidePart::Ahead(n),
-        Closing::Split(x, y) => SidePart::Split(x, y),
+        Ok(at) => Injectivity::Window { n: at.n, c: at.c },
+        Err(pair) => {
+            *twins = pair;
+            Injectivity::Twins(twins)
+        }
     }
 }

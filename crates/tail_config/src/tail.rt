@@ -12,6 +12,7 @@ ghost use Rattle.tail_config.specs.TailValues.{IsAcceptedTail, config_of};
 ghost use Rattle.tail_config.specs.TailFaults.{tail_fault};
 
 use crate::faults::{TailRefusal, check_parts};
+use crate::lent_tail::LentTail;
 use std::marker::Model;
 use word_image::{MOST_WIDTH, Rule};
 
@@ -103,6 +104,13 @@ impl Tail {
         ensures tail { IsAcceptedTail self.now }
     {
         &self.right
+    }
+
+    /// Lends the configuration without a copy of its parts.
+    pub fn lend(&self) -> LentTail<'_>
+        ensures { result ≡ self.now }
+    {
+        LentTail::of(self.k, &self.left, &self.middle, &self.right)
     }
 
     /// Returns the letter at the place `i`.

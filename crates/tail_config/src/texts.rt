@@ -30,13 +30,13 @@ pub enum TailTextFault {
 
 /// The digits of the three parts of a text.
 #[derive(Drop)]
-struct SplitText<'a> {
-    // The digits of the left period.
-    left: &'a [u8],
-    // The digits of the middle.
-    middle: &'a [u8],
-    // The digits of the right period.
-    right: &'a [u8],
+pub(crate) struct SplitText<'a> {
+    /// The digits of the left period.
+    pub left: &'a [u8],
+    /// The digits of the middle.
+    pub middle: &'a [u8],
+    /// The digits of the right period.
+    pub right: &'a [u8],
 }
 
 /// Returns whether a text has the form `L|M|R`, where L, M and R consist of hexadecimal digits of either case. Each of
@@ -63,10 +63,7 @@ pub fn parse(alloc: Global, k: u8, text: &[u8]) -> Result<Tail, TailTextFault>
         ⊎ (result ≡ Err (TailTextFault.Memory alloc_error)) }
     ensures every_fault { (f : TailTextFault) → IsTailTextFault k text.now f → result ≡ Err f }
 {
-    let parts = split(text)?;
-    if let Err(fault) = check_digits(k, &parts) {
-        return Err(TailTextFault::Tail(fault));
-    }
+    let parts = accepted_parts(k, text)?;
     tail_of(alloc, k, &parts).map_err(TailTextFault::Memory)
 }
 
@@ -86,6 +83,19 @@ pub fn print(alloc: Global, tail: &Tail) -> Result<Vec<u8>, AllocError>
 pub fn printed_text_is_read()
     ensures { (t : TailOver) → IsAcceptedTail t → IsTailText t.states (printed t.config) t.config }
 {}
+
+/// Returns the digits of the parts of a text that describes a Tail over the letters below k. If it doesn't, returns its
+/// first fault.
+pub(crate) fn accepted_parts(k: u8, text: &[u8]) -> Result<SplitText<'_>, TailTextFault>
+    ensures parts { IfOk result (λ p. IsTailText k text.now (letters_of p.left.now p.middle.now p.right.now)) }
+    ensures fault { IfErr result (IsTailTextFault k text.now) }
+{
+    let parts = split(text)?;
+    match check_digits(k, &parts) {
+        Ok(()) => Ok(parts),
+        Err(fault) => Err(TailTextFault::Tail(fault)),
+    }
+}
 
 /// Splits a text at its two bars into the digits of its three parts. Returns `Form` if the text doesn't have the form
 /// `L|M|R`.

@@ -106,5 +106,5 @@ pub fn preimage(alloc: Global, rule: &Rule, tail: &Tail) -> Result<Pre, AllocErr
     ensures exactly { IfOk result (λ pre. IsTrue (is_from pre) ↔ ((p : PlacedConfig) × MapsTo rule.now p tail.now.config)) }
 {
     let mut room = PreimageRoom::new(alloc)?;
-    room.preimage(rule, tail).to_pre(alloc)
+    room.preimage(rule, &tail.lend()).to_pre(alloc)
 }

@@ -18,7 +18,7 @@ use crate::walks::{MOST_WALK, WalkRoom, least_node};
 use debruijn::Graph;
 use std::alloc::{AllocError, Global};
 use std::marker::Model;
-use tail_config::Tail;
+use tail_config::LentTail;
 use word_image::Rule;
 
 /// The memory of searches for preimages, which is allocated once: some 200 kilobytes. Contracts say nothing about its
@@ -59,7 +59,7 @@ impl PreimageRoom {
 
     /// Returns what `preimage` returns: the first placed configuration that the rule maps to the given configuration.
     /// If there is none, returns the first stretch of the given configuration that is an orphan.
-    pub fn preimage(&mut self, rule: &Rule, tail: &Tail) -> LentPre<'_>
+    pub fn preimage(&mut self, rule: &Rule, tail: &LentTail) -> LentPre<'_>
         requires { rule.now.states ≡ tail.now.states }
         ensures answer { IsPreimageAnswer rule.now tail.now.config (pre_of result) }
         ensures only { (other : Pre) → IsPreimageAnswer rule.now tail.now.config other → other ≡ pre_of result }
@@ -85,7 +85,7 @@ impl PreimageRoom {
     fn first_placed(
         &mut self,
         graph: &Graph,
-        tail: &Tail,
+        tail: &LentTail,
         parts: &PartRelations,
         spans: Spans,
     ) -> LentPlaced<'_>
@@ -130,7 +130,7 @@ fn starts(graph: &Graph, parts: &PartRelations, spans: Spans) -> u16
 
 /// Returns the place at which the middle of a placed configuration begins. `periods` is the number of left periods of
 /// the given configuration that this middle spans.
-fn place_of(graph: &Graph, tail: &Tail, periods: u8) -> i64
+fn place_of(graph: &Graph, tail: &LentTail, periods: u8) -> i64
     ensures { result ≡ graph.now.offset -ℤ pos (periods * length tail.now.config.left) }
 {
     let letters = u32::from(periods) * tail.left().len() as u32;

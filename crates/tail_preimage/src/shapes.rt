@@ -11,7 +11,7 @@ ghost use Rattle.tail_preimage.specs.Parts.{AreTailParts, HaveParts, PassesThrou
 use crate::periods::{Periods, least_first, least_sum, open, periods_of, rounds, some_rounds};
 use crate::relations::{Relation, relation, reversed, sources};
 use debruijn::Graph;
-use tail_config::Tail;
+use tail_config::LentTail;
 use word_image::MOST_NODES;
 
 /// The relations of the parts of the given configuration. A relation says from which nodes to which nodes walks lead
@@ -41,7 +41,7 @@ pub struct Spans {
 }
 
 /// Returns the relations of the parts of this configuration.
-pub fn parts_of(graph: &Graph, tail: &Tail) -> PartRelations
+pub fn parts_of(graph: &Graph, tail: &LentTail) -> PartRelations
     requires { graph.now.states ≡ tail.now.states }
     ensures parts { AreTailParts graph.now tail.now.config result }
     ensures tail { IsAcceptedTail tail.now }

@@ -16,7 +16,7 @@ use crate::words::{append, append_copies};
 use debruijn::Graph;
 use std::alloc::{AllocError, Global};
 use std::marker::Model;
-use tail_config::Tail;
+use tail_config::LentTail;
 use word_image::Rule;
 
 /// The greatest number of letters in a word along which a walk is sought: 16 left periods, a middle and 16 right
@@ -76,7 +76,7 @@ impl WalkRoom {
 
     /// Takes `left` left periods, the middle and `right` right periods of a configuration as the word. Both numbers
     /// are at most 16.
-    pub fn set_stretch(&mut self, tail: &Tail, left: u8, right: u8)
+    pub fn set_stretch(&mut self, tail: &LentTail, left: u8, right: u8)
         requires left { left ≤ most_nodes }
         requires right { right ≤ most_nodes }
         ensures word { self.new ≡ stretch tail.now.config left right }

@@ -4,9 +4,9 @@ use Rattle.ca_answering.proofs.laws.OwnWeights.{IsFinding-by}
 use Rattle.c_structs.proofs.laws.Reports.{IsReported-written, IsReported-none}
 use Rattle.c_structs.proofs.rule_reports.report_of_rule.Goals as goal
 
-pub returns-in_ok-report-in-Some : goal.returns-in_ok-report-in-Some
-returns-in_ok-report-in-Some c =
-    let made = c.in_ok-report-in-Some.ensures in
+pub returns-in-Some : goal.returns-in-Some
+returns-in-Some c =
+    let made = c.least_report.ensures in
     let right = rw c.named.ensures at (IsFinding-by _ c.requires c.in-Some.ensures.each made.weights c.in-Some.ensures.weights made.least) in
     IsReported-written c.written.result c.requires right c.written.ensures.letters c.written.ensures.report
 

@@ -1,11 +1,9 @@
 use Rattle.std.proofs.Common.{subst}
-use Rattle.certificate_laws.specs.LeastEvidence.{IsInjectivePart}
-use Rattle.rule_verdicts.specs.declared.report.Injectivity.{Injectivity}
-use Rattle.rule_verdicts.specs.Reports.{injective_of}
+use Rattle.rule_verdicts.specs.Parts.{IsWindowOrTwins}
 use Rattle.ca_questions.proofs.Common.{IsUnfitFor}
 use Rattle.ca_answering.proofs.inverses.inverse.Goals as goal
 
-pub returns-in-Twins : goal.returns-in-Twins
-returns-in-Twins c =
-    let found = subst (λ (part : Injectivity). IsInjectivePart c.args.rule.now (injective_of part)) c.in-Twins.is c.injectivity.ensures.least in
-    IsUnfitFor.Twins c.args.rule.now c.in-Twins.pair.x c.in-Twins.pair.y found.0 found.1
+pub returns-in-Err : goal.returns-in-Err
+returns-in-Err c =
+    let found = subst (IsWindowOrTwins c.args.rule.now) c.in-Err.is c.window_or_twins.ensures in
+    IsUnfitFor.Twins c.args.rule.now c.in-Err.twins.x c.in-Err.twins.y found.0 found.1

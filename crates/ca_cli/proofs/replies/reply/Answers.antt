@@ -5,7 +5,7 @@ use Rattle.ca_cli.specs.Outcomes.{IsOutcome}
 use Rattle.ca_cli.specs.RightAnswers.{IsReplyTo}
 use Rattle.ca_cli.proofs.laws.Memory.{IsOutcome-answered}
 use Rattle.ca_cli.proofs.replies.reply.Goals as goal
-use Rattle.ca_cli.proofs.replies.reply.Goals.{in-Ok+in-Preimage-1, in-Ok+in-Report-1, in-Err}
+use Rattle.ca_cli.proofs.replies.reply.Goals.{in-Ok, in-Err}
 
 pub returns-then-is_check-clause-reply : goal.returns-then-is_check-clause-reply
 returns-then-is_check-clause-reply g c =
@@ -17,8 +17,7 @@ returns-then-is_check-clause-memory g c e same = inl (check_command, c.is_check.
 pub returns-in_err-said-clause-memory : goal.returns-in_err-said-clause-memory
 returns-in_err-said-clause-memory g c e same =
     let outcome : IsOutcome _ c.match-question.found = elim c.match-question.branch [
-      | in-Ok+in-Preimage-1 w ↦ subst (IsOutcome _) (sym w.found-is) (IsOutcome-answered w.answer-found.result w.in-Ok.ensures.0 w.answer-found.ensures)
-      | in-Ok+in-Report-1 w ↦ subst (IsOutcome _) (sym w.found-is) (IsOutcome-answered w.answer-found.result w.in-Ok.ensures.0 w.answer-found.ensures)
+      | in-Ok w ↦ subst (IsOutcome _) (sym w.found-is) (IsOutcome-answered w.answer-found.result w.in-Ok.ensures.0 w.answer-found.ensures)
       | in-Err w ↦ subst (IsOutcome _) (sym w.found-is) w.in-Err.ensures
     ] in
     c.in_err-said.ensures _ None outcome
@@ -26,8 +25,7 @@ returns-in_err-said-clause-memory g c e same =
 pub returns-clause-reply : goal.returns-clause-reply
 returns-clause-reply g c =
     let outcome : IsOutcome _ c.match-question.found = elim c.match-question.branch [
-      | in-Ok+in-Preimage-1 w ↦ subst (IsOutcome _) (sym w.found-is) (IsOutcome-answered w.answer-found.result w.in-Ok.ensures.0 w.answer-found.ensures)
-      | in-Ok+in-Report-1 w ↦ subst (IsOutcome _) (sym w.found-is) (IsOutcome-answered w.answer-found.result w.in-Ok.ensures.0 w.answer-found.ensures)
+      | in-Ok w ↦ subst (IsOutcome _) (sym w.found-is) (IsOutcome-answered w.answer-found.result w.in-Ok.ensures.0 w.answer-found.ensures)
       | in-Err w ↦ subst (IsOutcome _) (sym w.found-is) w.in-Err.ensures
     ] in
     c.in_ok-said.ensures _ _ outcome

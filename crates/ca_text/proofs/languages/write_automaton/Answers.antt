@@ -1,4 +1,4 @@
-use Rattle.std.proofs.Common.{◌≡◌, ℕ, ◌+◌, List, ◌++◌, append-nil, sym, ap, ap₂, ◌∙◌, arith, flat_map}
+use Rattle.std.proofs.Common.{◌≡◌, ℕ, List, ◌++◌, append-nil, sym, ap, ap₂, ◌∙◌, arith, flat_map}
 use Rattle.word_image.proofs.Common.{range_with_len}
 use Rattle.ca_questions.proofs.Common.{automaton_of}
 use Rattle.ca_text.specs.Lines.{class_line, classes_line, dead_line}

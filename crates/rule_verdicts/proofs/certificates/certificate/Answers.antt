@@ -1,7 +1,7 @@
 use Rattle.std.proofs.Common.{All, ◌≤◌, ◌∙◌, refl, sym, ap, slice_index, subst, subst₂}
 use Rattle.word_image.specs.declared.side.Side.TheVariants.{Right, Left}
 use Rattle.word_image.proofs.Common.{LocalRule, AreWeights}
-use Rattle.cert_values.proofs.Common.{Certificate, InjectiveEvidence, SumEvidence, surjective_of, injective_of, side_of, sum_of}
+use Rattle.cert_values.proofs.Common.{Certificate, InjectiveEvidence, SideEvidence, SumEvidence, surjective_of, injective_of, side_of, sum_of}
 use Rattle.cert_values.specs.Parts.{IsOver}
 use Rattle.certificate_laws.specs.LeastEvidence.{IsOrphanPart, IsInjectivePart, IsRightPart, IsLeftPart, IsConservingPart}
 use Rattle.certificate_laws.specs.WrittenCertificates.{orphan_of, HasWrittenParts, IsListPart}
@@ -17,8 +17,8 @@ made c = record {
   rule = c.args.rule.now;
   surjective = surjective_of c.in_ok-surjective.surjective;
   injective = injective_of c.in_ok-injective.injective;
-  right = side_of c.in_ok-report.report.right;
-  left = side_of c.in_ok-report.report.left;
+  right = side_of c.in_ok-right.right;
+  left = side_of c.in_ok-left.left;
   conserving = sum_of c.in_ok-conserving.conserving;
   weights = c.args.weights.now;
   forward = c.in_ok-forward.forward;
@@ -32,12 +32,12 @@ are_weights c = record { each_letter = c.requires.weights; small = subst (All (�
 -- the certificate that is made has the parts that are written for the rule
 HasWrittenParts-made : (c : goal.In_ok-row) → HasWrittenParts c.args.version c.args.rule.now c.args.weights.now (made c)
 HasWrittenParts-made c =
-    let report = c.in_ok-report.report in
+    let report = c.report_over-report.result in
     let weight = slice_index c.args.weights.now in
     let part = surjective_of c.in_ok-surjective.surjective in
     let pairs = c.of-pairs.ensures in
     let ranks = c.from_pairs-ranks.ensures ∙ pairs in
-    let least = c.in_ok-report.ensures.least in
+    let least = c.report_over-report.ensures.least in
     let sum = ap (λ (r : LocalRule). found.sum_of r report.conserving) (least.rule ∙ pairs) ∙ sym c.in_ok-conserving.ensures in
     record {
       version_is = refl;
@@ -46,8 +46,8 @@ HasWrittenParts-made c =
         rule = refl;
         surjective = subst (λ (r : LocalRule). IsOrphanPart r (orphan_of part)) pairs c.in_ok-surjective.ensures.orphan;
         injective = subst₂ (λ (r : LocalRule) (e : InjectiveEvidence). IsInjectivePart r e) pairs (sym c.in_ok-injective.ensures) least.injective;
-        right = subst (λ (r : LocalRule). IsRightPart r (side_of report.right)) pairs least.right;
-        left = subst (λ (r : LocalRule). IsLeftPart r (side_of report.left)) pairs least.left;
+        right = subst₂ (λ (r : LocalRule) (e : SideEvidence). IsRightPart r e) pairs (sym c.in_ok-right.ensures.side) least.right;
+        left = subst₂ (λ (r : LocalRule) (e : SideEvidence). IsLeftPart r e) pairs (sym c.in_ok-left.ensures.side) least.left;
         conserving = subst₂ (λ (r : LocalRule) (e : SumEvidence). IsConservingPart weight r e) pairs sum least.conserving;
       };
       list = subst (λ (r : LocalRule). IsListPart c.args.version r part) pairs c.in_ok-surjective.ensures.list;
@@ -56,12 +56,11 @@ HasWrittenParts-made c =
     }
 
 pub invariant_of-result : goal.invariant_of-result
-invariant_of-result c =
-    let report = c.in_ok-report.report in (
-      subst (λ (r : LocalRule). IsOver r.states report.right) c.of-pairs.ensures c.in_ok-report.ensures.right,
-      subst (λ (r : LocalRule). IsOver r.states report.left) c.of-pairs.ensures c.in_ok-report.ensures.left,
-      IsShaped-written c.requires.version c.keeps_limits.ensures (are_weights c) (HasWrittenParts-made c),
-    )
+invariant_of-result c = (
+  subst (λ (r : LocalRule). IsOver r.states c.in_ok-right.right) c.of-pairs.ensures (c.in_ok-right.ensures.over _ c.report_over-report.ensures.right),
+  subst (λ (r : LocalRule). IsOver r.states c.in_ok-left.left) c.of-pairs.ensures (c.in_ok-left.ensures.over _ c.report_over-report.ensures.left),
+  IsShaped-written c.requires.version c.keeps_limits.ensures (are_weights c) (HasWrittenParts-made c),
+)
 
 pub returns-clause-weights : goal.returns-clause-weights
 returns-clause-weights c = are_weights c

@@ -2,6 +2,7 @@ use Rattle.std.proofs.Common.{subst, slice_index}
 use Rattle.word_image.proofs.Common.{LocalRule}
 use Rattle.certificate_laws.specs.LeastEvidence.{IsOrphanPart, IsConservingPart}
 use Rattle.rule_verdicts.specs.Reports.{sum_of}
+use Rattle.rule_verdicts.proofs.laws.SideParts.{IsRightPart-answer, IsLeftPart-answer}
 use Rattle.rule_verdicts.proofs.laws.Sums.{IsConservingPart-shown}
 use Rattle.rule_verdicts.proofs.report.report_over.Goals as goal
 
@@ -13,15 +14,15 @@ returns-clause-least c =
     record {
       rule = c.rule-rule.ensures;
       surjective = subst (λ (r : LocalRule). IsOrphanPart r c.first_orphan.result) c.graph.ensures c.first_orphan.ensures;
-      injective = c.injectivity_over.ensures.least;
-      right = (c.side_part.ensures.right r c.in_ok-right.ensures).0;
-      left = (c.side_part-2.ensures.left r c.in_ok-left.ensures).0;
+      injective = c.lent.ensures r c.window_or_twins_over.ensures;
+      right = (IsRightPart-answer r c.right.result c.right.ensures).0;
+      left = (IsLeftPart-answer r c.left.result c.left.ensures).0;
       conserving = subst (λ (r : LocalRule). IsConservingPart weight r (sum_of c.rule-rule.result.now keeping)) c.rule-rule.ensures
           (IsConservingPart-shown weight keeping c.keeps_limits.ensures c.conserve.ensures.conserving c.conserve.ensures.shown);
     }
 
 pub returns-clause-right : goal.returns-clause-right
-returns-clause-right c = (c.side_part.ensures.right c.args.pairs.now c.in_ok-right.ensures).1
+returns-clause-right c = (IsRightPart-answer c.args.pairs.now c.right.result c.right.ensures).1
 
 pub returns-clause-left : goal.returns-clause-left
-returns-clause-left c = (c.side_part-2.ensures.left c.args.pairs.now c.in_ok-left.ensures).1
+returns-clause-left c = (IsLeftPart-answer c.args.pairs.now c.left.result c.left.ensures).1
