@@ -474,8 +474,8 @@ uint8_t ca_report(uint8_t states, uint8_t width, int8_t offset, const uint8_t *t
 #endif
 
 /*
- * Returns the report of a rule as ca_report does, over a room. If the room is closed, it returns CA_CODE_NO_ROOM, *length is 0,
- * and *report and the buffer don't change.
+ * Returns the report of a rule as ca_report does, over a room. It never returns CA_CODE_MEMORY. If the room is closed, it
+ * returns CA_CODE_NO_ROOM, *length is 0, and *report and the buffer don't change.
  */
 uint8_t ca_report_in(struct ca_room *room, uint8_t states, uint8_t width, int8_t offset, const uint8_t *table,
                      size_t table_length, const uint8_t *weights, size_t weights_length, struct ca_report *report,

@@ -2,6 +2,7 @@ pub mod Verdicts
 pub mod NumberedVerdicts
 pub mod NextRules
 pub mod RuleSums
+pub mod LetterRooms
 pub mod LetterRows
 pub mod ReportParts
 pub mod Reports

@@ -3,7 +3,7 @@
 //! Each struct has the layout of C and contains no pointer. The words of a report follow each other in one buffer of
 //! letters. Each word has a *row*: the place of its first letter in the buffer, and its number of letters. For
 //! example, if the buffer begins with the orphan 01010, the row of the orphan has the place 0 and the length 5.
-//! [`report_of_table`] makes a report and its buffer. [`RuleVerdicts`] has only the verdicts of a rule, without
+//! A [`RowRoom`] makes a report and its buffer. [`RuleVerdicts`] has only the verdicts of a rule, without
 //! evidence.
 //!
 //! The evidence for a verdict has these kinds. An *orphan* is a word without a preimage. A *window* (n, c) says that
@@ -22,7 +22,7 @@
 //! | 1 to 6 | a fault of a rule: states, width, nodes, offset, length, letter | [`fault_number`] |
 //! | 1 to 9 | a fault of rules with consecutive numbers: 1 to 6 as in the first line, 7 kind, 8 number, 9 form | [`number_of`] |
 //! | 14, 15 | a fault of the length of the words of a sum: the words have no letter, or there are more than 16 words | [`range_number`] |
-//! | 18 | there isn't one weight for each letter | [`report_of_table`] |
+//! | 18 | there isn't one weight for each letter | [`RowRoom::report`] |
 //! | 19 to 21 | a fault of a configuration: a period, a letter, or a place out of reach | [`write_image`] |
 //!
 //! A *shape* is a number of states and a width. [`next_rule`] finds the rules of a shape that have a property, one
@@ -30,8 +30,7 @@
 //! right-closing, 8 for left-closing, 16 for open and 32 for conserving. The number of a property is its bit.
 //! [`property_of`] returns the property with a number.
 //!
-//! For n letters, a report takes the time and the memory of `ca_answering::report`, and **O(n)** more of both.
-//! Nothing else here takes memory. For a rule of width m, [`write_image`] writes n letters in time **O(n m)**, and it
+//! For n letters, a report takes the time of `ca_answering::report`, and **O(n)** more. Only [`RowRoom::new`] takes memory. For a rule of width m, [`write_image`] writes n letters in time **O(n m)**, and it
 //! also reads each letter of the configuration once. A ring and a word can be passed to it as parts of a
 //! configuration.
 #![tactic(auto)]
@@ -41,6 +40,7 @@ mod letter_rows;
 mod next_rules;
 mod numbered_verdicts;
 mod report_parts;
+mod row_room;
 mod rule_reports;
 mod rule_sums;
 mod table_verdicts;
@@ -50,6 +50,7 @@ pub use letter_rows::{LetterRow, SplitRows, TailRows, TwinRows};
 pub use next_rules::{letters_of, next_rule, property_of, shape_rule, write_table};
 pub use numbered_verdicts::{joined, number_of};
 pub use report_parts::MOST_NODES;
-pub use rule_reports::{Reported, RuleReport, report_in, report_of_table};
+pub use row_room::RowRoom;
+pub use rule_reports::RuleReport;
 pub use rule_sums::range_number;
 pub use table_verdicts::{RuleVerdicts, fault_number};

@@ -1,19 +1,12 @@
 //! The report of a rule with its evidence, as a struct of C and a buffer of letters.
-ghost use Rattle.std.specs.Prelude.{◌≡◌, [], option_copied, IfOk};
-ghost use Rattle.word_image.specs.LocalRules.{IsRule};
+ghost use Rattle.std.specs.Prelude.{◌≡◌, ◌≤◌, [], vec_capacity};
 ghost use Rattle.rule_verdicts.specs.Reports.{evidence_of};
-ghost use Rattle.c_structs.specs.Reports.{IsReported, IsReportOf, letters_in, named_weights, no_report, rule_with};
+ghost use Rattle.c_structs.specs.LetterRooms.{most_report};
+ghost use Rattle.c_structs.specs.Reports.{IsReportOf, letters_in, no_report};
 
 use crate::letter_rows::{LetterRow, NO_ROW, NO_SPLIT, NO_TWINS, SplitRows, TwinRows};
 use crate::report_parts::{MOST_NODES, add_conserving, add_injective, add_side, add_surjective};
-use crate::table_verdicts::fault_number;
-use ca_answering::weights_for;
-use rule_verdicts::{Report, ReportRoom, least_report};
-use std::alloc::{AllocError, Global};
-use word_image::Rule;
-
-/// The number of the fault that there are more or fewer weights than the rule has letters.
-const NO_WEIGHTS: u8 = 18;
+use rule_verdicts::Report;
 
 /// The verdicts of a rule, each with its least evidence. A verdict is 1 if it holds, and 0 if it doesn't. The words
 /// of the evidence are in a buffer of letters.
@@ -63,7 +56,7 @@ pub struct RuleReport {
 
 impl RuleReport {
     /// Returns the report that has only the number of this fault.
-    fn none(fault: u8) -> RuleReport
+    pub(crate) fn none(fault: u8) -> RuleReport
         ensures { result ≡ no_report fault }
     {
         RuleReport {
@@ -90,105 +83,21 @@ impl RuleReport {
     }
 }
 
-/// A report, and the buffer with the letters of its words.
-#[derive(Drop)]
-pub struct Reported {
-    pub report: RuleReport,
-    pub letters: Vec<u8>,
-}
-
-/// Returns the report on the rule with these states, width, offset and table. The list of weights has one weight for
-/// each letter. If the list is empty, each letter weighs its own value. If the rule or the list has a fault, the report
-/// has the number of the first fault.
-pub fn report_of_table(
-    alloc: Global,
-    states: u8,
-    width: u8,
-    offset: i8,
-    table: &[u8],
-    weights: &[u8],
-) -> Result<Reported, AllocError>
-    ensures { IfOk result (λ made. IsReported (rule_with states width offset table.now) (named_weights weights.now) made.report made.letters.items) }
+/// Returns a report in the layout of C, and writes the letters of its words to a list that has room for them.
+pub(crate) fn written(letters: &mut Vec<u8>, found: &Report) -> RuleReport
+    requires empty { letters.old.items ≡ [] }
+    requires room { most_report ≤ vec_capacity letters.old }
+    ensures letters { letters.new.items ≡ letters_in (evidence_of found.now) }
+    ensures report { IsReportOf letters.new.items (evidence_of found.now) result }
+    ensures room { most_report ≤ vec_capacity letters.new }
 {
-    match Rule::new(states, width, offset, table) {
-        Ok(rule) => {
-            let mut room = ReportRoom::new(alloc)?;
-            report_of_rule(alloc, &mut room, &rule, weights)
-        }
-        Err(fault) => Ok(fault_reported(alloc, fault_number(fault))),
-    }
-}
-
-/// Returns the report that [`report_of_table`] returns. The room can serve many reports, so its memory is taken only
-/// once.
-pub fn report_in(
-    alloc: Global,
-    room: &mut ReportRoom,
-    states: u8,
-    width: u8,
-    offset: i8,
-    table: &[u8],
-    weights: &[u8],
-) -> Result<Reported, AllocError>
-    ensures { IfOk result (λ made. IsReported (rule_with states width offset table.now) (named_weights weights.now) made.report made.letters.items) }
-{
-    match Rule::new(states, width, offset, table) {
-        Ok(rule) => report_of_rule(alloc, room, &rule, weights),
-        Err(fault) => Ok(fault_reported(alloc, fault_number(fault))),
-    }
-}
-
-/// Returns the report that has only the number of this fault, without letters.
-fn fault_reported(alloc: Global, fault: u8) -> Reported
-    ensures report { result.report ≡ no_report fault }
-    ensures letters { result.letters.items ≡ [] }
-{
-    Reported {
-        report: RuleReport::none(fault),
-        letters: Vec::new(alloc),
-    }
-}
-
-/// Returns the report on a rule with these weights. If the list of weights is empty, each letter weighs its own value.
-fn report_of_rule(
-    alloc: Global,
-    room: &mut ReportRoom,
-    rule: &Rule,
-    weights: &[u8],
-) -> Result<Reported, AllocError>
-    requires { IsRule rule.now }
-    ensures { IfOk result (λ made. IsReported rule.now (named_weights weights.now) made.report made.letters.items) }
-{
-    match weights_for(rule, named(weights)) {
-        Some(weights) => written(alloc, &least_report(room, rule, &weights)),
-        None => Ok(fault_reported(alloc, NO_WEIGHTS)),
-    }
-}
-
-/// Returns the weights, or None if the list is empty.
-fn named(weights: &[u8]) -> Option<&[u8]>
-    ensures { option_copied result ≡ named_weights weights.now }
-{
-    if weights.is_empty() {
-        None
-    } else {
-        Some(weights)
-    }
-}
-
-/// Returns a report in the layout of C, and the letters of its words.
-fn written(alloc: Global, found: &Report) -> Result<Reported, AllocError>
-    ensures letters { IfOk result (λ made. made.letters.items ≡ letters_in (evidence_of found.now)) }
-    ensures report { IfOk result (λ made. IsReportOf made.letters.items (evidence_of found.now) made.report) }
-{
-    let mut letters = Vec::new(alloc);
-    let surjective = add_surjective(&mut letters, &found.orphan)?;
-    let injective = add_injective(&mut letters, &found.injective)?;
-    let right = add_side(&mut letters, &found.right)?;
-    let left = add_side(&mut letters, &found.left)?;
-    let conserving = add_conserving(&mut letters, &found.rule, &found.conserving)?;
+    let surjective = add_surjective(letters, &found.orphan);
+    let injective = add_injective(letters, &found.injective);
+    let right = add_side(letters, &found.right);
+    let left = add_side(letters, &found.left);
+    let conserving = add_conserving(letters, &found.rule, &found.conserving);
     let flux = conserving.flux;
-    let report = RuleReport {
+    RuleReport {
         fault: 0,
         surjective: surjective.holds,
         injective: injective.holds,
@@ -208,6 +117,5 @@ fn written(alloc: Global, found: &Report) -> Result<Reported, AllocError>
         right_split: right.split,
         left_split: left.split,
         reserved: [0; 8],
-    };
-    Ok(Reported { report, letters })
+    }
 }

@@ -18,9 +18,10 @@ ghost use Rattle.c_structs.specs.Reports.{IsReportCall, named_weights, rule_with
 ghost use Rattle.tail_config.specs.TailValues.{config_of};
 
 use crate::calls::{Form, SHORT, hand_back, put};
+use crate::room_exports::report_over;
 use c_structs::{
-    RuleReport, RuleVerdicts, TailParts, fault_number, joined, letters_of, next_rule, number_of,
-    property_of, range_number, report_of_table, shape_rule, write_image, write_table,
+    RowRoom, RuleReport, RuleVerdicts, TailParts, fault_number, joined, letters_of, next_rule,
+    number_of, property_of, range_number, shape_rule, write_image, write_table,
 };
 use kept_sums::{Flux, KeptSums, Row, are_small, check_range, flux, kept_sums};
 use rule_lists::{is_order, write_order};
@@ -142,16 +143,10 @@ pub extern "C" fn ca_report(
 ) -> u8
     ensures { IsReportCall (rule_with states width offset table.now) (named_weights weights.now) report.old letters.old result length.new report.new letters.new }
 {
-    match report_of_table(alloc, states, width, offset, table, weights) {
-        Ok(made) => {
-            *length = made.letters.len();
-            if put(&made.letters, letters) {
-                *report = made.report;
-                FOUND
-            } else {
-                SHORT
-            }
-        }
+    match RowRoom::new(alloc) {
+        Ok(mut room) => report_over(
+            &mut room, states, width, offset, table, weights, report, letters, length,
+        ),
         Err(_) => {
             *length = 0;
             MEMORY

@@ -7,7 +7,7 @@ ghost use Rattle.ca_c.specs.Calls.{IsHandedBack};
 use crate::calls::{SHORT, put};
 use crate::exports::{FOUND, MEMORY};
 use crate::room_calls::hand_back_over;
-use c_structs::{RuleReport, report_in};
+use c_structs::{RowRoom, RuleReport};
 use room_handles::{CallRoom, RoomHandle};
 use std::alloc::Global;
 
@@ -65,8 +65,8 @@ pub extern "C" fn ca_run_in(
     code
 }
 
-/// Writes a report as [`ca_report`](crate::ca_report) does, but with the memory of the handle's room. Returns 22 and the
-/// number 0 if the handle has no room. Then the report and the buffer stay as they were.
+/// Writes a report as [`ca_report`](crate::ca_report) does, but with the memory of the handle's room, so it never returns
+/// 8. Returns 22 and the number 0 if the handle has no room. Then the report and the buffer stay as they were.
 #[unsafe(no_mangle)]
 pub extern "C" fn ca_report_in(
     alloc: Global,
@@ -82,6 +82,7 @@ pub extern "C" fn ca_report_in(
 ) -> u8
     ensures reported { handle.old.is_open ≡ true →
         IsReportCall (rule_with states width offset table.now) (named_weights weights.now) report.old letters.old result length.new report.new letters.new }
+    ensures memory { result ≢ 8 }
     ensures closed { handle.old.is_open ≡ false →
         (result ≡ 22) × (length.new ≡ 0) × (report.new ≡ report.old) × (letters.new ≡ letters.old) }
     ensures kept { handle.new.is_open ≡ handle.old.is_open }
@@ -91,16 +92,24 @@ pub extern "C" fn ca_report_in(
         return NO_ROOM;
     };
     let code = report_over(
-        alloc, &mut room, states, width, offset, table, weights, report, letters, length,
+        &mut room.reports,
+        states,
+        width,
+        offset,
+        table,
+        weights,
+        report,
+        letters,
+        length,
     );
     handle.put(room);
     code
 }
 
-/// Writes a report with the memory of a room, and returns its code.
-fn report_over(
-    alloc: Global,
-    room: &mut CallRoom,
+/// Writes a report with the memory of a room, and returns 0. If the buffer is too short for the letters, returns 10, and
+/// the report and the buffer stay as they were.
+pub fn report_over(
+    room: &mut RowRoom,
     states: u8,
     width: u8,
     offset: i8,
@@ -110,29 +119,16 @@ fn report_over(
     letters: &mut [u8],
     length: &mut usize,
 ) -> u8
-    ensures { IsReportCall (rule_with states width offset table.now) (named_weights weights.now) report.old letters.old result length.new report.new letters.new }
+    ensures reported { IsReportCall (rule_with states width offset table.now) (named_weights weights.now) report.old letters.old result length.new report.new letters.new }
+    ensures memory { result ≢ 8 }
 {
-    match report_in(
-        alloc,
-        &mut room.reports,
-        states,
-        width,
-        offset,
-        table,
-        weights,
-    ) {
-        Ok(made) => {
-            *length = made.letters.len();
-            if put(&made.letters, letters) {
-                *report = made.report;
-                FOUND
-            } else {
-                SHORT
-            }
-        }
-        Err(_) => {
-            *length = 0;
-            MEMORY
-        }
+    let made = room.report(states, width, offset, table, weights);
+    let found = room.letters();
+    *length = found.len();
+    if put(found, letters) {
+        *report = made;
+        FOUND
+    } else {
+        SHORT
     }
 }

@@ -1,8 +1,8 @@
 //! The type `CallRoom`, which has the memory of calls.
 
+use c_structs::RowRoom;
 use ca_answering::Room;
 use ca_text::Output;
-use rule_verdicts::ReportRoom;
 use std::alloc::{AllocError, Global};
 use tail_config::TailRoom;
 
@@ -15,8 +15,8 @@ pub struct CallRoom {
     pub answers: Room,
     /// For the text of a reply.
     pub output: Output,
-    /// For the words of reports.
-    pub reports: ReportRoom,
+    /// For reports and the letters of their words.
+    pub reports: RowRoom,
 }
 
 impl CallRoom {
@@ -26,7 +26,7 @@ impl CallRoom {
             tails: TailRoom::new(alloc)?,
             answers: Room::new(alloc)?,
             output: Output::new(alloc)?,
-            reports: ReportRoom::new(alloc)?,
+            reports: RowRoom::new(alloc)?,
         })
     }
 

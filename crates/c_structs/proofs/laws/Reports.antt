@@ -1,5 +1,5 @@
 -- What a report says, where letters are added behind its words, and what comes of the question for a report.
-use Rattle.std.proofs.Common.{◌≡◌, ℕ, ◌≤◌, List, ◌++◌, length, drop, Option, Some, None, Result, Ok, Err, sym, ap, subst, subst₂, ◌∙◌, [], arith, IfOk}
+use Rattle.std.proofs.Common.{◌≡◌, ℕ, ◌≤◌, List, ◌++◌, length, drop, Option, Some, None, sym, ap, subst, subst₂, ◌∙◌, [], arith}
 use Rattle.word_image.proofs.Common.{LocalRule, IsRule, rule_fault}
 use Rattle.word_image.specs.declared.local_rule.RuleFault.{RuleFault}
 use Rattle.cert_values.specs.Evidence.{Window, Twins, Ahead, Split}
@@ -7,7 +7,6 @@ use Rattle.cert_values.proofs.Common.{InjectiveEvidence, SideEvidence}
 use Rattle.certificate_laws.specs.LeastEvidence.{Evidence}
 use Rattle.ca_questions.proofs.Common.{Question, Finding, AreFor, IsFinding}
 use Rattle.c_structs.specs.declared.rule_reports.RuleReport.{RuleReport}
-use Rattle.c_structs.specs.declared.rule_reports.Reported.{Reported}
 use Rattle.c_structs.specs.declared.letter_rows.LetterRow.{LetterRow}
 use Rattle.c_structs.specs.declared.letter_rows.TwinRows.{TwinRows}
 use Rattle.c_structs.specs.declared.letter_rows.SplitRows.{SplitRows}
@@ -35,22 +34,19 @@ SaysSide-grown letters after holds ahead split (Ahead n) grown h = h
 SaysSide-grown letters after holds ahead split (Split x y) grown h = (h.0, h.1, AreSplitRows-grown grown h.2)
 
 -- the report that is written is the right one
-pub IsReported-written : {r : LocalRule} {weights : Option (List ℕ)} {e : Evidence} {E : Type 0} (result : Result Reported E) → IsRule r
-    → IsFinding (Question.Report r weights) (Finding.Report e) → IfOk result (λ made. made.letters.items ≡ letters_in e)
-    → IfOk result (λ made. IsReportOf made.letters.items e made.report) → IfOk result (λ made. IsReported r weights made.report made.letters.items)
-IsReported-written {r} {weights} {e} (Ok made) rule fits same says =
-    subst (IsReported r weights made.report) (sym same) (IsReported.Found e made.report rule fits (subst (λ (xs : List ℕ). IsReportOf xs e made.report) same says))
-IsReported-written (Err fault) rule fits same says = tt
+pub IsReported-written : {r : LocalRule} {weights : Option (List ℕ)} {e : Evidence} {v : RuleReport} {letters : List ℕ} → IsRule r → IsFinding (Question.Report r weights) (Finding.Report e)
+    → letters ≡ letters_in e → IsReportOf letters e v → IsReported r weights v letters
+IsReported-written {r} {weights} {e} {v} rule fits same says =
+    subst (IsReported r weights v) (sym same) (IsReported.Found e v rule fits (subst (λ (xs : List ℕ). IsReportOf xs e v) same says))
 
 -- there is no report where there isn't one weight for each letter
-pub IsReported-none : {r : LocalRule} {weights : Option (List ℕ)} (made : Reported) → IsRule r → ¬ AreFor weights r → made.report ≡ no_report 18 → made.letters.items ≡ []
-    → IsReported r weights made.report made.letters.items
-IsReported-none {r} {weights} made rule none same empty = subst₂ (IsReported r weights) (sym same) (sym empty) (IsReported.NoWeights rule none)
+pub IsReported-none : {r : LocalRule} {weights : Option (List ℕ)} {v : RuleReport} {letters : List ℕ} → IsRule r → ¬ AreFor weights r → v ≡ no_report 18 → letters ≡ [] → IsReported r weights v letters
+IsReported-none {r} {weights} rule none same empty = subst₂ (IsReported r weights) (sym same) (sym empty) (IsReported.NoWeights rule none)
 
 -- there is no report where there is no rule
-pub IsReported-fault : (r : LocalRule) {weights : Option (List ℕ)} (made : Reported) {code : ℕ} (f : RuleFault) → Some f ≡ rule_fault r.states r.width r.offset r.table
-    → code ≡ fault_code (Some f) → made.report ≡ no_report code → made.letters.items ≡ [] → IsReported r weights made.report made.letters.items
-IsReported-fault r {weights} made f fault coded same empty =
+pub IsReported-fault : (r : LocalRule) {weights : Option (List ℕ)} {v : RuleReport} {letters : List ℕ} {code : ℕ} (f : RuleFault) → Some f ≡ rule_fault r.states r.width r.offset r.table
+    → code ≡ fault_code (Some f) → v ≡ no_report code → letters ≡ [] → IsReported r weights v letters
+IsReported-fault r {weights} f fault coded same empty =
     subst₂ (IsReported r weights) (sym (same ∙ ap no_report coded)) (sym empty) (IsReported.NoRule f (sym fault))
 
 -- the report is handed back, and all letters
