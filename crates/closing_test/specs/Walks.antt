@@ -3,10 +3,12 @@
 -- first walk spells the two middles, and the second walk spells the two right periods. The number a * 16 + b stands for
 -- the pair of letters (a, b). The walks lead from state to state, and a state is a pair of nodes with a mark. The best
 -- walks are the walks of the least split that has been found so far.
-use Rattle.std.specs.Prelude.{◌≡◌, ℕ, ◌+◌, ◌<◌, ◌≤◌, ◌⊎◌, length, List, map, Option, Some, None}
+use Rattle.std.specs.Prelude.{◌≡◌, ℕ, ◌+◌, ◌%◌, ◌<◌, ◌≤◌, ◌⊎◌, length, List, map, Option, Some, None}
 use Rattle.std.specs.declared.cmp.Ordering.TheVariants.{Greater}
 use Rattle.word_image.specs.LocalRules.{LocalRule, most_states}
-use Rattle.search_laws.specs.PairWalks.{uncode}
+use Rattle.word_image.specs.Graphs.{pair_count}
+use Rattle.word_image.specs.MarkedPairs.{marked}
+use Rattle.search_laws.specs.PairWalks.{IsLeastWalk, uncode}
 use Rattle.tail_config.specs.Tails.{TailConfig}
 use Rattle.tail_config.specs.Splits.{splits_cmp}
 use Rattle.tail_laws.specs.SplitWalks.{IsNoSplitBelow, IsLeastSplitAt, IsLeastBelow, IsSplitAt, split_of}
@@ -37,6 +39,10 @@ IsMostAfter best n most = (w v : ℕ) → n ≤ w → most < v
 -- no split whose right periods begin at the state t is less than the best split; if there is no best split, no split has right periods that begin at t
 abbrev pub IsNoneBefore : LocalRule → ℕ → Option Walks → Type 0
 IsNoneBefore r t best = (w v : List (ℕ × ℕ)) → IsSplitAt r t w v → ¬ ComesBefore (split_of w v) best
+
+-- the steps are the least walk from the state t back to its pair of nodes, with the mark
+abbrev pub IsPeriodAt : LocalRule → ℕ → List ℕ → Type 0
+IsPeriodAt r t steps = IsLeastWalk (marked r) r.states t (t % pair_count r + pair_count r) (map (uncode most_states) steps)
 
 -- the walks `found` are the least split whose right periods begin at the state t, and this split is less than the best split
 pub record AreEarlier (r : LocalRule) (t : ℕ) (best : Option Walks) (found : Walks) : Type 0 where

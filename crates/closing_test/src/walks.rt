@@ -2,7 +2,7 @@
 //! The states of the marked graph are the pairs of nodes, without a mark and with it. A step on two different letters
 //! sets the mark.
 
-ghost use Rattle.std.specs.Prelude.{◌≡◌, ◌*◌, ◌+◌, ◌<◌, ◌≤◌, ◌↔◌, IsTrue, MatchOption, length};
+ghost use Rattle.std.specs.Prelude.{◌≡◌, ◌*◌, ◌+◌, ◌<◌, ◌≤◌, ◌↔◌, IsTrue, IfSome, MatchOption, length};
 ghost use Rattle.std.specs.declared.cmp.Ordering.TheVariants.{Greater};
 ghost use Rattle.least_walk.specs.Queues.{most_steps};
 ghost use Rattle.word_image.specs.Graphs.{pair_count};
@@ -26,7 +26,7 @@ pub struct Walks {
 }
 
 impl Walks {
-    ghost use Rattle.closing_test.specs.Walks.{ComesBefore, IsMostAfter, IsNoneBefore, AreEarlier, split_by};
+    ghost use Rattle.closing_test.specs.Walks.{ComesBefore, IsMostAfter, IsNoneBefore, IsPeriodAt, AreEarlier, split_by};
 
     /// Returns the number of steps of both walks together.
     fn letters(&self) -> usize
@@ -63,6 +63,24 @@ impl Walks {
         requires state { state < 2 * pair_count pairs.now }
         ensures { MatchOption result (IsNoneBefore pairs.now state best.now) (AreEarlier pairs.now state best.now) }
     {
+        let period = Walks::period(pairs, walker, middles, state, best)?;
+        Walks::at(pairs, middles, state, period, best)
+    }
+
+    /// Returns the least walk from the marked pair `state` back to its pair of nodes, with the mark. Returns None if
+    /// there is no such walk, or if no split with it can be less than `best`, the least split so far.
+    fn period<'w>(
+        pairs: &Pairs,
+        walker: &'w mut Walker,
+        middles: &WalkTree,
+        state: u16,
+        best: &Option<Walks>,
+    ) -> Option<&'w [u8]>
+        requires middles { middles.now.source ≡ record { rule = pairs.now; start = 0; most = most_steps } }
+        requires state { state < 2 * pair_count pairs.now }
+        ensures least { MatchOption result (IsNoneBefore pairs.now state best.now) (λ period. IsPeriodAt pairs.now state period.now) }
+        ensures most { IfSome result (λ period. length period.now ≤ most_steps) }
+    {
         let steps = middles.steps_to(state)?;
         let most = Walks::most_steps(best, steps);
         if most == 0 {
@@ -70,6 +88,24 @@ impl Walks {
         }
         let count = pairs.count();
         let period = walker.walk_within(pairs, state, state % count + count, most)?;
+        Some(period)
+    }
+
+    /// Returns the walks of the least normal split that has the marked pair `state` between its two walks. `period` is
+    /// the second walk. Returns None if the split isn't less than `best`, the least split so far.
+    fn at(
+        pairs: &Pairs,
+        middles: &WalkTree,
+        state: u16,
+        period: &[u8],
+        best: &Option<Walks>,
+    ) -> Option<Walks>
+        requires middles { middles.now.source ≡ record { rule = pairs.now; start = 0; most = most_steps } }
+        requires state { state < 2 * pair_count pairs.now }
+        requires period { IsPeriodAt pairs.now state period.now }
+        requires most { length period.now ≤ most_steps }
+        ensures { MatchOption result (IsNoneBefore pairs.now state best.now) (AreEarlier pairs.now state best.now) }
+    {
         let middle = middles.walk_to(state)?;
         let found = Walks {
             middle,

@@ -12,8 +12,8 @@ use std::marker::Model;
 pub struct ReportRoom {
     /// For the least orphan, which has at most 65,535 letters.
     pub(crate) search: Search,
-    /// For the least twins.
-    pub(crate) twins: ShortPair,
+    /// For the least twins, in a box, since larger values cost more when they are moved.
+    pub(crate) twins: Box<ShortPair>,
     /// For the least right split.
     pub(crate) right: SplitRoom,
     /// For the least left split.
@@ -31,12 +31,13 @@ impl Model for ReportRoom {
 impl ReportRoom {
     /// Allocates the memory of a room. The only error is lack of memory.
     pub fn new(alloc: Global) -> Result<ReportRoom, AllocError> {
+        let twins = ShortPair {
+            x: ShortWord::new(),
+            y: ShortWord::new(),
+        };
         Ok(ReportRoom {
             search: Search::new(alloc)?,
-            twins: ShortPair {
-                x: ShortWord::new(),
-                y: ShortWord::new(),
-            },
+            twins: Box::new(alloc, twins)?,
             right: SplitRoom::new(alloc)?,
             left: SplitRoom::new(alloc)?,
         })
