@@ -1,19 +1,13 @@
 -- What is written for a rule is accepted, so it is the certificate that is written.
-use Rattle.std.proofs.Common.{◌≡◌, List, ℕ, true, refl, subst}
+use Rattle.std.proofs.Common.{◌≡◌, List, ℕ, true, refl, sym, subst}
 use Rattle.word_image.proofs.Common.{LocalRule, IsRule, AreWeights}
 use Rattle.cert_values.specs.declared.cert_version.CertVersion.{CertVersion}
 use Rattle.cert_values.proofs.Common.{names_weights, Certificate, IsCertificateText, certificate_text}
-use Rattle.cert_conditions.proofs.Common.{IsAccepted, verdicts_of}
 use Rattle.certificate_laws.specs.WrittenCertificates.{HasWrittenParts, IsWritten}
-use Rattle.certificate_laws.proofs.MetConditions.{MeetsConditions-written}
-use Rattle.certificate_laws.proofs.ShortTexts.{short-written}
+use Rattle.certificate_laws.proofs.MetConditions.{MeetsConditions-own, own_parts}
+use Rattle.certificate_laws.proofs.ShortTexts.{short-own}
 use Rattle.certificate_laws.proofs.TextsReadBack.{IsCertificateText-own}
 use Rattle.certificate_laws.proofs.WrittenShapes.{IsShaped-written}
-
--- bytes that say what is written for a rule are accepted with its verdicts
-pub IsAccepted-written : {version : CertVersion} {r : LocalRule} {weights : List ℕ} {c : Certificate} {bytes : List ℕ} → IsRule r → HasWrittenParts version r weights c → IsCertificateText bytes c
-    → IsAccepted bytes (verdicts_of c)
-IsAccepted-written {c = c} rule parts text = record { certificate = c; text = text; meets = MeetsConditions-written rule parts; verdicts = refl }
 
 -- a certificate with the written parts whose text is read back is the one that is written for the rule
 pub IsWritten-read_back : {version : CertVersion} {r : LocalRule} {weights : List ℕ} {c : Certificate} {bytes : List ℕ} → names_weights version ≡ true → IsRule r → AreWeights r.states weights
@@ -21,8 +15,13 @@ pub IsWritten-read_back : {version : CertVersion} {r : LocalRule} {weights : Lis
 IsWritten-read_back {c = c} names rule are parts written text =
     record {
       parts = parts;
-      accepted = IsAccepted-written rule parts (subst (λ b. IsCertificateText b c) written text);
-      short = short-written names rule are parts;
+      accepted = record {
+        certificate = c;
+        text = subst (λ b. IsCertificateText b c) written text;
+        meets = MeetsConditions-own (subst IsRule (sym parts.least.rule) rule) (own_parts parts);
+        verdicts = refl;
+      };
+      short = short-own (IsShaped-written names rule are parts) (own_parts parts);
     }
 
 -- what has the parts, of an accepted rule and weights of its letters, is the certificate that is written: its text is read back

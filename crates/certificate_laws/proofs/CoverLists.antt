@@ -1,5 +1,5 @@
 -- Each set of a list contains a set of its cover list, and each set of the cover list is listed.
-use Rattle.std.proofs.Common.{◌≡◌, ◌≢◌, ℕ, zero, suc, ◌+◌, ◌<◌, ◌≤◌, Bool, true, false, cond, List, [], ◌∷◌, length, get_or, Contains, bit_and, refl, sym, ap, ap₂, subst, ◌∙◌, ⊎_elim, arith, ◌==◌, ◌&&◌, not, filter, ne_eqb, eqb-true}
+use Rattle.std.proofs.Common.{◌≡◌, ◌≢◌, ℕ, zero, suc, ◌<◌, ◌≤◌, Bool, true, false, cond, List, [], ◌∷◌, length, Contains, bit_and, refl, sym, ap, ap₂, subst, ◌∙◌, ⊎_elim, arith, ◌==◌, ◌&&◌, not, filter, ne_eqb, eqb-true}
 use Rattle.std.specs.Int.Bits.{and_self}
 use Rattle.word_image.proofs.Common.{list_any, cases_eq, eqb-false, and_parts, not-true, and_le_r, All-filter, All-contains_itself, is_subset, is_cover, covers_of}
 use Rattle.cert_values.proofs.laws.Members.{some_passes}
@@ -18,15 +18,11 @@ Contains-filter p (y ∷ xs) x (zero, l, same) passes =
     subst (λ b. Contains (cond b (y ∷ filter p xs) (filter p xs)) x) (sym first) (zero, omega arith, same)
 Contains-filter p (y ∷ xs) x (suc k, l, same) passes = Contains-cond (p y) y (filter p xs) x (Contains-filter p xs x (k, omega arith, same) passes)
 
--- what holds of each element holds of what is contained
-holds-contained : {X : Type 0} (P : X → Type 0) (xs : List X) (x : X) → ((k : ℕ) (d : X) → k < length xs → P (get_or xs k d)) → Contains xs x → P x
-holds-contained P xs x each h = subst P h.2 (each h.0 x h.1)
-
 -- each set of a cover list is the full set or listed
 pub Contains-covers : (full : ℕ) (sets : List ℕ) → Contains sets full → (set : ℕ) → Contains (covers_of full sets) set → Contains sets set
 Contains-covers full sets there set (zero, l, same) = subst (Contains sets) same there
 Contains-covers full sets there set (suc k, l, same) =
-    holds-contained (Contains sets) (filter (is_cover full sets) sets) set (All-filter (is_cover full sets) (Contains sets) sets (All-contains_itself sets)) (k, omega arith, same)
+    subst (Contains sets) same (All-filter (is_cover full sets) (Contains sets) sets (All-contains_itself sets) k set (omega arith))
 
 -- a set in the cover list that is part of a set
 pub record HasCover (full : ℕ) (sets : List ℕ) (set : ℕ) : Type 0 where
@@ -61,7 +57,7 @@ pub HasCover-listed : (full : ℕ) (sets : List ℕ) (set : ℕ) → Contains se
 HasCover-listed full sets set there = cover_below full sets (suc set) set (omega arith) there
 
 -- a filtered list is no longer
-length-filter-le : {X : Type 0} (p : X → Bool) (xs : List X) → length (filter p xs) ≤ length xs
+pub length-filter-le : {X : Type 0} (p : X → Bool) (xs : List X) → length (filter p xs) ≤ length xs
 length-filter-le p [] = omega arith
 length-filter-le p (x ∷ xs) =
     let rest = length-filter-le p xs in
@@ -69,7 +65,3 @@ length-filter-le p (x ∷ xs) =
       | true ↦ omega arith
       | false ↦ omega arith
     ]
-
--- a cover list has at most one set more than the list
-pub length-covers : (full : ℕ) (sets : List ℕ) → length (covers_of full sets) ≤ length sets + 1
-length-covers full sets = omega (arith, length-filter-le (is_cover full sets) sets)

@@ -3,10 +3,10 @@ use Rattle.std.proofs.Common.{◌≡◌, ◌≢◌, ℕ, zero, suc, ◌+◌, ◌
 use Rattle.std.proofs.lemmas.Map.Made.{IsDistinct-from_AllPairs}
 use Rattle.std.proofs.lemmas.Map.Steps.{length-le_from_distinct_below}
 use Rattle.std.proofs.lemmas.Map.Views.{Contains-from_any}
-use Rattle.word_image.proofs.Common.{Decides-eqb, slice_get-get_or, pow-le-pow_right, LocalRule, IsRule, IsWord, node_count, IsLastSet, IsFamily, IsAscending, IsLeastWordOf, IsCoverList, full_set, paired_at, paired_length}
+use Rattle.word_image.proofs.Common.{Decides-eqb, slice_get-get_or, pow-le-pow_right, LocalRule, IsRule, IsWord, node_count, IsLastSet, IsFamily, IsAscending, IsLeastWordOf, IsCoverList, is_cover, full_set, paired_at, paired_length}
 use Rattle.search_laws.proofs.Common.{word_number, word_number-le, word_number-less}
 use Rattle.certificate_laws.proofs.MetConditions.{IsLastSet-each}
-use Rattle.certificate_laws.proofs.CoverLists.{length-covers}
+use Rattle.certificate_laws.proofs.CoverLists.{length-filter-le}
 
 -- each word of the list is one over k letters
 abbrev AllWords : ℕ → List (List ℕ) → Type 0
@@ -52,4 +52,4 @@ length-family {r} {sets} rule family =
 
 -- a cover list has at most 65,537 sets
 pub length-IsCoverList : {r : LocalRule} {sets : List ℕ} → IsRule r → IsCoverList r sets → length sets ≤ 65537
-length-IsCoverList {r} rule (family, is, same) = omega (arith, ap length same, length-covers (full_set r) family, length-family rule is)
+length-IsCoverList {r} rule (family, is, same) = omega (arith, ap length same, length-filter-le (is_cover (full_set r) family) family, length-family rule is)

@@ -32,10 +32,6 @@ AreLastSets-family {r} {sets} surjective family =
       all = λ w set last. ⊎_elim (λ listed. listed) (λ late. absurd (IsOrphan-not_surjective (IsOrphan-empty_set late.1) surjective)) (family.all w set last);
     }
 
--- the cover list of a family has the full set
-Contains-covers_full : (full : ℕ) (family : List ℕ) → Contains (covers_of full family) full
-Contains-covers_full full family = (0, omega arith, refl)
-
 -- a fact of each set of the family is one of each set of its cover list
 each_cover : (P : ℕ → Type 0) (full : ℕ) (family : List ℕ) → Contains family full → ((set : ℕ) → Contains family set → P set)
     → EachBelow (length (covers_of full family)) (λ i. P (slice_index (covers_of full family) i))
@@ -67,7 +63,7 @@ surjective-met version {r} rule (Sets sets) surjective (two, (family, is, same))
     let some = λ (set : ℕ) (listed : Contains family set). at_listed (λ s. s ≢ 0) family (nonempty-last_sets surjective last) set listed in
     let kept = StepIsKept-covers r full family (at_listed (λ s. EachBelow r.states (StepIsKept One r family s)) family (StepIsKept-last_sets rule last)) in
     let met : SurjectiveMet Two r (Sets (covers_of full family)) = (
-      Contains-covers_full full family,
+      (0, omega arith, refl),
       each_cover (λ s. s ≢ 0) full family there some,
       each_cover (λ s. EachBelow r.states (StepIsKept Two r (covers_of full family) s)) full family there kept,
       tt,
@@ -105,7 +101,7 @@ conserving-met weight rule (Flux phi) part = (Flows-exact rule part.1, tt)
 conserving-met weight rule (Ring p) part = (tt, IsLossy-ring part.1.lossy)
 
 -- a certificate with the evidence that is written for its own rule meets the conditions
-MeetsConditions-own : {c : Certificate} → IsRule c.rule → HasWrittenParts c.version c.rule c.weights c → MeetsConditions c
+pub MeetsConditions-own : {c : Certificate} → IsRule c.rule → HasWrittenParts c.version c.rule c.weights c → MeetsConditions c
 MeetsConditions-own {c} rule parts (SideClaims side.Right) = AllFall-ranks side.Right rule c.forward parts.forward.ranks
 MeetsConditions-own {c} rule parts (SideClaims side.Left) = AllFall-ranks side.Left rule c.backward parts.backward.ranks
 MeetsConditions-own {c} rule parts FullListed = (surjective-met c.version rule c.surjective parts.least.surjective parts.list).0
@@ -129,7 +125,3 @@ pub own_parts : {version : CertVersion} {r : LocalRule} {weights : List ℕ} {c 
 own_parts {version} {r} {weights} {c} parts =
     subst (λ (v : CertVersion). HasWrittenParts v c.rule c.weights c) (sym parts.version_is)
     (subst₂ (λ (s : LocalRule) (ws : List ℕ). HasWrittenParts version s ws c) (sym parts.least.rule) (sym parts.weights_are) parts)
-
--- what is written for a rule meets the conditions
-pub MeetsConditions-written : {version : CertVersion} {r : LocalRule} {weights : List ℕ} {c : Certificate} → IsRule r → HasWrittenParts version r weights c → MeetsConditions c
-MeetsConditions-written rule parts = MeetsConditions-own (subst IsRule (sym parts.least.rule) rule) (own_parts parts)

@@ -12,7 +12,7 @@ use Rattle.json.proofs.Printed.Decimals.{IsNumber-decimal, IsNumber-signed_decim
 use Rattle.json.proofs.Printed.Tokens.{tokens-print}
 use Rattle.json.proofs.Printed.Trees.{ArePrintable-json_tokens, value-json_tokens}
 use Rattle.json.proofs.Printed.Utf8.{are_ascii, IsUtf8-quoted, IsUtf8-are_ascii}
-use Rattle.serde_json.specs.Data.{Data, null, number, string, array, object, negative, Items, no_items, item, Members, no_members, member, put}
+use Rattle.serde_json.specs.Data.{Data, null, number, string, array, object, negative, Items, item, Members, no_members, member, put}
 use Rattle.serde_json.specs.Read.{of_json, of_items, of_members, read, max_depth}
 use Rattle.serde_json.specs.View.{items_of}
 use Rattle.serde_json.specs.Written.{outline, items_outline, members_outline, compact_text, items_text, members_text, comma_if}
@@ -78,9 +78,6 @@ IsReadBack-negative n v fits = record {
 }
 
 -- values in a row are read back, one by one
-AreReadBack-none : (n : ℕ) → AreReadBack n no_items
-AreReadBack-none n = record { depth = omega arith; numbers = tt; values = refl; text = λ later. IsUtf8-are_ascii _ refl }
-
 AreReadBack-item : {n : ℕ} {d : Data} {ds : Items} → IsReadBack n d → AreReadBack n ds → AreReadBack n (item d ds)
 AreReadBack-item {d = d} {ds = ds} first rest = record {
   depth = max-le first.depth rest.depth;
@@ -90,7 +87,7 @@ AreReadBack-item {d = d} {ds = ds} first rest = record {
 }
 
 AreReadBack-map : {A : Type 0} {n : ℕ} (f : A → Data) (P : A → Type 0) → ((x : A) → P x → IsReadBack n (f x)) → (xs : List A) → All P xs → AreReadBack n (items_of (map f xs))
-AreReadBack-map f P each [] all = AreReadBack-none _
+AreReadBack-map f P each [] all = record { depth = omega arith; numbers = tt; values = refl; text = λ later. IsUtf8-are_ascii _ refl }
 AreReadBack-map f P each (x ∷ xs) all = AreReadBack-item (each x (All-head P x xs all)) (AreReadBack-map f P each xs (All-tail P x xs all))
 
 -- an array of values that are read back is read back

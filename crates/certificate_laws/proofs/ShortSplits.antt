@@ -1,10 +1,10 @@
 -- The least normal right split is short: its middle and right period have together at most as many letters as there are pairs, and m more.
-use Rattle.std.proofs.Common.{◌≡◌, ℕ, ◌+◌, ◌-◌, ◌<◌, ◌≤◌, List, ◌∷◌, length, subst, ⊎_elim, arith, length-append, Greater}
+use Rattle.std.proofs.Common.{ℕ, ◌+◌, ◌-◌, ◌≤◌, ◌∷◌, length, subst, ⊎_elim, arith, length-append}
 use Rattle.word_image.proofs.Common.{cases_lt, LocalRule, IsRule, word_of, IsRightAhead, pair_count, IsFirstOfRight, length-word_of, PairGoes}
 use Rattle.word_image.specs.declared.side.Side.TheVariants.{Right}
 use Rattle.pair_laws.proofs.Common.{pair_of-first_of, Together-endless}
 use Rattle.pair_laws.proofs.Aheads.{IsRightAhead-pairs}
-use Rattle.tail_config.proofs.Common.{TailConfig, IsNormalRightSplit, IsLeastRightSplit, splits_cmp}
+use Rattle.tail_config.proofs.Common.{TailConfig, IsNormalRightSplit, IsLeastRightSplit}
 use Rattle.tail_laws.proofs.FirstPairs.{LeadsToLoop, looped_tail, normal_split-loop}
 use Rattle.tail_laws.proofs.EndlessPairs.{LeadsToLoop-begin}
 use Rattle.tail_laws.proofs.Common.{IsRightClosing-ahead, no_right_closing}
@@ -17,10 +17,6 @@ record HasShortSplit (r : LocalRule) : Type 0 where
   pub split : IsNormalRightSplit r x y
   pub short : length x.middle + length x.right ≤ r.width - 1 + 1 + pair_count r
 
--- the middle of the configuration of a node, a letter, a walk and a loop
-length-looped_tail : (r : LocalRule) (node a : ℕ) (walk turn : List ℕ) → length (looped_tail r node a walk turn).middle ≡ r.width - 1 + 1 + length walk
-length-looped_tail r node a walk turn = omega (arith, length-append (word_of r.states (r.width - 1) node) (a ∷ walk), length-word_of r.states (r.width - 1) node)
-
 -- a first pair that begins together for as long as there are pairs gives one
 HasShortSplit-begins : {r : LocalRule} {p : ℕ} → IsRule r → IsFirstOfRight r p → PairGoes Right r p (pair_count r) → HasShortSplit r
 HasShortSplit-begins {r} {p} rule f begins =
@@ -29,12 +25,8 @@ HasShortSplit-begins {r} {p} rule f begins =
       x = looped_tail r f.node f.a way.first way.first_turn;
       y = looped_tail r f.node f.b way.second way.second_turn;
       split = normal_split-loop rule f way;
-      short = omega (arith, length-looped_tail r f.node f.a way.first way.first_turn, way.within);
+      short = omega (arith, length-append (word_of r.states (r.width - 1) f.node) (f.a ∷ way.first), length-word_of r.states (r.width - 1) f.node, way.within);
     }
-
--- a split with more letters of middle and period together comes later
-splits_cmp-longer : (x y u v : TailConfig) → length u.middle + length u.right < length x.middle + length x.right → splits_cmp (x, y) (u, v) ≡ Greater
-splits_cmp-longer x y u v less = later_by_number (length x.middle + length x.right) (length u.middle + length u.right) _ less
 
 -- the middle and the right period of the least right split have together at most m letters more than there are pairs
 pub IsLeastRightSplit-le : {r : LocalRule} {x y : TailConfig} → IsRule r → IsLeastRightSplit r x y → length x.middle + length x.right ≤ r.width - 1 + 1 + pair_count r
@@ -45,7 +37,7 @@ IsLeastRightSplit-le {r} {x} {y} rule least =
       omega arith,
       (λ p first begins.
           let other = HasShortSplit-begins rule first (Together-endless Right rule _ _ _ (omega arith) begins (pair_count r)) in
-          least.least other.x other.y other.split (splits_cmp-longer x y other.x other.y (omega (arith, other.short)))),
+          least.least other.x other.y other.split (later_by_number (length x.middle + length x.right) (length (other.x).middle + length (other.x).right) _ (omega (arith, other.short)))),
     ) in
     absurd (no_right_closing least (IsRightClosing-ahead rule ahead)))
     (λ short. short)

@@ -1,19 +1,16 @@
 -- The text that is written for a rule has fewer than 450,000 bytes.
-use Rattle.std.proofs.Common.{◌≡◌, ℕ, ◌+◌, ◌-◌, ◌^◌, ◌<◌, ◌≤◌, true, false, ⊎_elim, List, [], ◌∷◌, length, map, slice_index, Option, Some, None, arith, length-append, ℤ, pos, negsuc, ◌≤ℤ◌, codes}
+use Rattle.std.proofs.Common.{ℕ, ◌+◌, ◌-◌, ◌^◌, ◌<◌, ◌≤◌, true, false, ⊎_elim, List, [], ◌∷◌, length, map, slice_index, Option, Some, None, arith, length-append, ℤ, pos, negsuc, ◌≤ℤ◌, codes}
 use Rattle.std.proofs.lemmas.Fmt.{length-decimal-le, length_signed_le}
 use Rattle.word_image.proofs.Common.{pow-le-pow_right, ints, length-map, All-weaker, LocalRule, IsRule, node_count, pair_count, AreWeights, window_count-le, pair_count-le}
 use Rattle.serde_json.specs.Data.{Data, Members, no_members, member, string}
 use Rattle.serde_json.specs.Written.{compact_text, members_text}
-use Rattle.tail_config.proofs.Common.{IsShortTail}
 use Rattle.rule_text.specs.PrintedRules.{offset_text, printed_rule}
 use Rattle.tail_laws.proofs.Common.{length-IsLeastTwins}
 use Rattle.cert_values.specs.declared.cert_version.CertVersion.{CertVersion}
 use Rattle.cert_values.specs.declared.cert_version.CertVersion.TheVariants.{One}
-use Rattle.cert_values.proofs.Common.{number_of, names_weights, SurjectiveEvidence, InjectiveEvidence, SideEvidence, SumEvidence, Certificate, IsSurjectiveShape, IsInjectiveShape, IsSideShape, IsSumShape, IsClaim, IsRankShape, IsNear, IsShaped, Sets, Pairs, Orphan, Window, Twins, Ahead, Split, Flux, Ring, array_from, whole_value, signed_value, word_value, tail_value, claim_value, surjective_value, injective_value, side_value, sum_value, ranks_value, weights_members, certificate_text, weights_members-cases}
+use Rattle.cert_values.proofs.Common.{number_of, SurjectiveEvidence, InjectiveEvidence, SideEvidence, SumEvidence, Certificate, IsSurjectiveShape, IsInjectiveShape, IsSideShape, IsSumShape, IsClaim, IsRankShape, IsNear, IsShaped, Sets, Pairs, Orphan, Window, Twins, Ahead, Split, Flux, Ring, array_from, whole_value, signed_value, word_value, tail_value, claim_value, surjective_value, injective_value, side_value, sum_value, ranks_value, weights_members, certificate_text, weights_members-cases}
 use Rattle.certificate_laws.specs.LeastEvidence.{IsOrphanPart, IsInjectivePart, IsConservingPart}
 use Rattle.certificate_laws.specs.WrittenCertificates.{orphan_of, IsListPart, HasWrittenParts}
-use Rattle.certificate_laws.proofs.MetConditions.{own_parts}
-use Rattle.certificate_laws.proofs.WrittenShapes.{IsShaped-written}
 use Rattle.certificate_laws.proofs.PairLists.{length-reached}
 use Rattle.certificate_laws.proofs.FamilySizes.{length-IsCoverList}
 use Rattle.certificate_laws.proofs.ShortOrphans.{length-IsLeastOrphan}
@@ -81,8 +78,6 @@ length-injective_value rule (Twins x y) shape part =
 length-side_value : (r : LocalRule) (e : SideEvidence) → IsSideShape r e → length (compact_text (side_value e)) ≤ 6300
 length-side_value r (Ahead n) shape = omega (arith, length-only (codes "ahead") (whole_value n), length-whole_value n shape.1)
 length-side_value r (Split x y) shape =
-    let first : IsShortTail r.states x = shape.0 in
-    let second : IsShortTail r.states y = shape.1 in
     omega (arith, length-only (codes "split") (array_from (tail_value x ∷ tail_value y ∷ [])), length-pair_text (tail_value x) (tail_value y), length-tail_value x, length-tail_value y)
 
 -- the text of a flux or a ring has at most 200 bytes
@@ -110,7 +105,6 @@ length-weights_members : {r : LocalRule} → IsRule r → (weights : List ℕ) �
 length-weights_members {r} rule weights are =
     let value : Data = array_from (map whole_value weights) in
     let small = All-weaker (λ w. w ≤ 255) (λ w. length (compact_text (whole_value w)) ≤ 5) (λ w l. length-whole_value w (omega (arith, l))) weights are.small in
-    let few = rule.shape.most_states in
     ⊎_elim
     (λ (own, none). rw none (omega arith))
     (λ (other, named). rw named (omega (arith, length-member true (codes "weights") value no_members, length-values whole_value 5 weights small, are.each_letter)))
@@ -122,7 +116,7 @@ number_of-le One = omega arith
 number_of-le _ = omega arith
 
 -- what is written for its own rule has a short text
-short-own : {c : Certificate} → IsShaped c → HasWrittenParts c.version c.rule c.weights c → length (certificate_text c) < 450000
+pub short-own : {c : Certificate} → IsShaped c → HasWrittenParts c.version c.rule c.weights c → length (certificate_text c) < 450000
 short-own {c} shaped parts =
     let rule = shaped.rule in
     let weights : Members = weights_members c.rule c.weights in
@@ -154,8 +148,3 @@ short-own {c} shaped parts =
       length-surjective_value c.version rule c.surjective shaped.surjective parts.least.surjective parts.list,
       length-whole_value (number_of c.version) (number_of-le c.version),
     )
-
--- the text that is written for a rule is short
-pub short-written : {version : CertVersion} {r : LocalRule} {weights : List ℕ} {c : Certificate} → names_weights version ≡ true → IsRule r → AreWeights r.states weights
-    → HasWrittenParts version r weights c → length (certificate_text c) < 450000
-short-written names rule are parts = short-own (IsShaped-written names rule are parts) (own_parts parts)

@@ -38,17 +38,7 @@ IsPlainByte x = (35 ≤ x) × (x ≢ 92)
 -- a plain byte stands for itself
 escape_byte-plain : (x : ℕ) → IsPlainByte x → escape_byte x ≡ x ∷ []
 unfolding escape_byte
-escape_byte-plain x (low, other) =
-    rw (
-      ne_eqb x 34 (λ e. omega arith),
-      ne_eqb x 92 other,
-      ne_eqb x 8 (λ e. omega arith),
-      ne_eqb x 12 (λ e. omega arith),
-      ne_eqb x 10 (λ e. omega arith),
-      ne_eqb x 13 (λ e. omega arith),
-      ne_eqb x 9 (λ e. omega arith),
-      le-ltb x 32 (omega arith),
-    )
+escape_byte-plain x (low, other) = grind (arith, ne_eqb, le-ltb)
 
 -- a text of plain bytes stands for itself
 escape-plain : (s : List ℕ) → All IsPlainByte s → escape s ≡ s
@@ -105,15 +95,7 @@ length-comma_if false = omega arith
 length-items_text : (n : ℕ) (later : Bool) (ds : List Data) → All (λ d. length (compact_text d) ≤ n) ds → length (items_text later (items_of ds)) ≤ length ds * (n + 1) + 1
 length-items_text n later [] all = omega arith
 length-items_text n later (d ∷ ds) all =
-    let rest : List ℕ = items_text true (items_of ds) in
-    omega (
-      arith,
-      length-comma_if later,
-      length-append (comma_if later) (compact_text d ++ rest),
-      length-append (compact_text d) rest,
-      All-head (λ d. length (compact_text d) ≤ n) d ds all,
-      length-items_text n true ds (All-tail (λ d. length (compact_text d) ≤ n) d ds all),
-    )
+    grind (arith, length-comma_if, length-append, All-head, All-tail, length-items_text n true ds (All-tail (λ d. length (compact_text d) ≤ n) d ds all))
 
 -- the text of an array of values of n bytes each takes one byte more for each, and two for the brackets
 pub length-values : {A : Type 0} (f : A → Data) (n : ℕ) (xs : List A) → All (λ x. length (compact_text (f x)) ≤ n) xs → length (compact_text (array_from (map f xs))) ≤ length xs * (n + 1) + 2

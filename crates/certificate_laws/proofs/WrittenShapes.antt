@@ -17,7 +17,6 @@ IsSideShape-split : {r : LocalRule} {x y : TailConfig} → IsRule r → IsLeastR
 IsSideShape-split {r} {x} {y} rule least =
     let few = IsLeastRightSplit-le rule least in
     let pairs = pair_count-le rule in
-    let width = rule.shape.most_width in
     let split = least.split in (
       record { tail = split.split.first; left = omega (arith, ap length split.first.left); middle = omega arith; right = omega arith },
       record { tail = split.split.second; left = omega (arith, ap length split.second.left); middle = omega (arith, split.middles); right = omega (arith, split.rights) },

@@ -1,9 +1,9 @@
 -- Under a surjective rule every word has as many preimages as there are nodes (Hedlund 1969): with fewer of one word, words that have it again and again would have too few.
-use Rattle.std.proofs.Common.{◌≡◌, ℕ, ◌+◌, ◌-◌, ◌*◌, ◌/◌, ◌%◌, ◌^◌, ◌<◌, ◌≤◌, ◌↔◌, List, [], ◌∷◌, ◌++◌, length, map, take, drop, All, refl, sym, ap, ap₂, ◌∙◌, subst, ⊎_elim, arith, mod-lt, mod-eq_of_lt, length-append, length-drop, length-take-le, pow-suc, one-mul, pow-add, div-add-mod', take_at, drop_at, drop-drop}
-use Rattle.word_image.proofs.Common.{pow-zero, one-le-pow, pow-le-pow_right, cases_eq, cases_lt, mul-add-lt, same_from_place, div_below, length-map, All-nil, All-cons, All-head, All-tail, All-take, All-drop, All-append, All-map, LocalRule, IsRule, IsWord, value, word_of, node_count, image, IsPreimage, IsSurjective, value-below, value-injective, value-word_of, word_of-value, length-word_of, IsWord-word_of, IsWord-image, length-image, image-take, image-drop, node_count_pos, twice_below, but, but_there, but_else}
+use Rattle.std.proofs.Common.{◌≡◌, ℕ, ◌+◌, ◌-◌, ◌*◌, ◌/◌, ◌%◌, ◌^◌, ◌<◌, ◌≤◌, ◌↔◌, List, [], ◌∷◌, ◌++◌, length, map, take, drop, All, refl, sym, ap, ap₂, ◌∙◌, subst, ⊎_elim, arith, mod-lt, length-append, length-drop, length-take-le, pow-suc, one-mul, pow-add, div-add-mod', take_at, drop_at, drop-drop}
+use Rattle.word_image.proofs.Common.{pow-zero, pow-le-pow_right, cases_eq, cases_lt, mul-add-lt, same_from_place, div_below, length-map, All-nil, All-cons, All-head, All-tail, All-take, All-drop, All-append, All-map, LocalRule, IsRule, IsWord, value, word_of, node_count, image, IsPreimage, IsSurjective, value-below, value-injective, value-word_of, word_of-value, length-word_of, IsWord-word_of, IsWord-image, length-image, image-take, image-drop, node_count_pos, twice_below, but, but_there, but_else}
 use Rattle.garden_laws.specs.Preimages.{HasPreimages, IsBalanced}
 use Rattle.garden_laws.proofs.Powers.{power-outgrows}
-use Rattle.garden_laws.proofs.Blocks.{blocks, length-blocks, spread, spread-blocks, last-below}
+use Rattle.garden_laws.proofs.Blocks.{blocks, length-blocks, spread, spread-blocks, last-below, two_words}
 use Rattle.garden_laws.proofs.Numbered.{Numbered, numbered}
 
 -- the number a is that of a preimage of a word of l letters with this value
@@ -65,8 +65,8 @@ blocks-woven {r} rule w (c ∷ cs) z hw p =
     let block : List ℕ = take (l + d) z in
     let long : length z ≡ length (woven k d w (c ∷ cs)) + d = p.long in
     let enough : l + d ≤ length z = omega (arith, long, length-woven k d w (c ∷ cs)) in
-    let full : length block ≡ l + d = length-take-le (l + d) z enough in
-    let word : IsWord k block = All-take (λ a. a < k) (l + d) z p.word in
+    let full = length-take-le (l + d) z enough in
+    let word = All-take (λ a. a < k) (l + d) z p.word in
     let all : l + d - d ≡ l = omega arith in
     let maps : image r block ≡ w =
     image-take rule (l + d) z ∙ ap (λ n. take n (image r z)) all ∙ ap (take l) p.maps ∙ take_at w (word_of k d c ++ woven k d w cs) l refl in
@@ -118,7 +118,7 @@ woven_number-below : {r : LocalRule} {w : List ℕ} {j : ℕ} {z : List ℕ} →
 woven_number-below {r} {w} {j} {z} rule hw q few h =
     let n : ℕ = length w + (r.width - 1) in
     let places : List ℕ = map (preimages r (length w) (value r.states w)).place (blocks r.states n j z) in
-    let long : length places ≡ j = length-map (blocks r.states n j z) (preimages r (length w) (value r.states w)).place ∙ length-blocks r.states n j z in
+    let long = length-map (blocks r.states n j z) (preimages r (length w) (value r.states w)).place ∙ length-blocks r.states n j z in
     mul-add-lt _ (node_count r) _ (q ^ j)
     (subst (λ i. value q places < q ^ i) long (value-below q places (IsWord-places (preimages r (length w) (value r.states w)) q few (blocks r.states n j z) (blocks-IsWoven rule hw h))))
     (last-below r (j * n) z h.preimage.word (length-IsWoven h))
@@ -148,10 +148,7 @@ same_number {r} {w} {j} {y} {z} rule hw q few hy hz e =
 
 -- there are two nodes at least
 node_count-two : {r : LocalRule} → IsRule r → 2 ≤ node_count r
-node_count-two {r} rule =
-    let one : r.states ^ 1 ≡ r.states = pow-suc r.states 0 ∙ ap (λ n. n * r.states) (pow-zero r.states) ∙ one-mul r.states in
-    let most : r.states ^ 1 ≤ r.states ^ (r.width - 1) = pow-le-pow_right (omega (arith, rule.shape.least_states)) (omega arith) in
-    omega (arith, rule.shape.least_states)
+node_count-two {r} rule = grind (arith, pow-suc, pow-zero, one-mul, pow-le-pow_right)
 
 -- under a surjective rule no word has fewer preimages than there are nodes
 no_fewer : {r : LocalRule} → IsRule r → IsSurjective r → (w : List ℕ) → IsWord r.states w → node_count r ≤ (preimages r (length w) (value r.states w)).count
@@ -161,29 +158,19 @@ no_fewer {r} rule every w hw =
     let nodes : ℕ = node_count r in
     let q : ℕ = nodes - 1 in
     let j : ℕ = q * nodes in
-    let some : 2 ≤ nodes = node_count-two rule in
-    let positive : 0 < nodes ^ j = one-le-pow j nodes (omega arith) in
-    let cs : ℕ → List ℕ = λ v. word_of nodes j (v % nodes ^ j) in
-    let small : (v : ℕ) → IsWord nodes (cs v) = λ v. IsWord-word_of nodes j (v % nodes ^ j) (mod-lt v positive) in
-    let u : ℕ → List ℕ = λ v. woven k d w (cs v) in
-    let preimage : (v : ℕ) → (z : List ℕ) × IsPreimage r (u v) z = λ v. every (u v) (IsWord-woven k d w (cs v) hw (small v)) in
-    let z : ℕ → List ℕ = λ v. (preimage v).0 in
-    let is : (v : ℕ) → IsWoven r w j (z v) = λ v. record { cs = cs v; long = length-word_of nodes j (v % nodes ^ j); small = small v; preimage = (preimage v).1 } in
+    let some = node_count-two rule in
+    let preimage : (cs : List ℕ) → IsWord nodes cs × (length cs ≡ j) → (z : List ℕ) × IsPreimage r (woven k d w cs) z = λ cs is. every (woven k d w cs) (IsWord-woven k d w cs hw is.0) in
+    let parts : (cs : List ℕ) (is : IsWord nodes cs × (length cs ≡ j)) → IsWoven r w j (preimage cs is).0 = λ cs is. record { cs = cs; long = is.1; small = is.0; preimage = (preimage cs is).1 } in
     ⊎_elim
     (λ fewer.
     let few : (preimages r (length w) (value k w)).count ≤ q = omega arith in
     let outgrows : q ^ j * nodes < (q + 1) ^ j = power-outgrows q nodes (omega arith) in
     let next : q + 1 ≡ nodes = omega arith in
-    let room : nodes * q ^ j < nodes ^ j = omega (arith, outgrows, ap (λ n. n ^ j) next) in
-    let found = twice_below (nodes * q ^ j) (λ v. woven_number r (length w) (value k w) q j (z v)) (λ v l. woven_number-below rule hw q few (is v)) in
-    let back : (v : ℕ) → v ≤ nodes * q ^ j → value nodes (cs v) ≡ v = λ v l.
-    let below : v < nodes ^ j = omega arith in
-    ap (λ i. value nodes (word_of nodes j i)) (mod-eq_of_lt {n = v} below) ∙ value-word_of nodes j v below in
-    let one : z found.0 ≡ z found.1 = same_number rule hw q few (is found.0) (is found.1) found.4 in
-    let words : u found.0 ≡ u found.1 = sym (preimage found.0).1.maps ∙ ap (image r) one ∙ (preimage found.1).1.maps in
-    let same : cs found.0 ≡ cs found.1 =
-    woven-injective k d w (cs found.0) (cs found.1) (small found.0) (small found.1) (length-word_of nodes j (found.0 % nodes ^ j) ∙ sym (length-word_of nodes j (found.1 % nodes ^ j))) words in
-    absurd (omega (arith, found.2, found.3, sym (back found.0 (omega (arith, found.2, found.3))) ∙ ap (value nodes) same ∙ back found.1 found.3)))
+    let (x, y, first, second, other, same) = two_words nodes j (nodes * q ^ j) (λ cs is. woven_number r (length w) (value k w) q j (preimage cs is).0) (omega (arith, outgrows, ap (λ n. n ^ j) next)) (λ cs is.
+    woven_number-below rule hw q few (parts cs is)) in
+    let words : woven k d w x ≡ woven k d w y =
+    sym (preimage x first).1.maps ∙ ap (image r) (same_number rule hw q few (parts x first) (parts y second) same) ∙ (preimage y second).1.maps in
+    absurd (other (woven-injective k d w x y first.0 second.0 (first.1 ∙ sym second.1) words)))
     (λ enough. enough)
     (cases_lt (preimages r (length w) (value k w)).count nodes)
 
@@ -191,9 +178,9 @@ no_fewer {r} rule every w hw =
 no_more : {r : LocalRule} → IsRule r → (l : ℕ) → ((c : ℕ) → c < r.states ^ l → node_count r ≤ (preimages r l c).count) → (c : ℕ) → c < r.states ^ l → (preimages r l c).count ≤ node_count r
 no_more {r} rule l enough c below =
     let nodes : ℕ = node_count r in
-    let some : 0 < nodes = node_count_pos rule in
+    let some = node_count_pos rule in
     let all : ℕ = r.states ^ (l + (r.width - 1)) in
-    let many : all ≡ r.states ^ l * nodes = pow-add r.states l (r.width - 1) in
+    let many = pow-add r.states l (r.width - 1) in
     ⊎_elim
     (λ more.
     let f : ℕ → ℕ = λ i. (preimages r l (i / nodes)).at (i % nodes) in
@@ -264,10 +251,10 @@ IsBalanced-surjective {r} rule every w hw =
     let k : ℕ = r.states in
     let l : ℕ = length w in
     let least : (c : ℕ) → c < k ^ l → node_count r ≤ (preimages r l c).count = λ c h.
-    let v : List ℕ = word_of k l c in
+    let v = word_of k l c in
     subst (λ n. node_count r ≤ (preimages r n c).count) (length-word_of k l c)
     (subst (λ b. node_count r ≤ (preimages r (length v) b).count) (value-word_of k l c h) (no_fewer rule every v (IsWord-word_of k l c h))) in
-    let below : value k w < k ^ l = value-below k w hw in
+    let below = value-below k w hw in
     let count : (preimages r l (value k w)).count ≡ node_count r = omega (arith, least (value k w) below, no_more rule l least (value k w) below) in
     subst (HasPreimages r w) count (HasPreimages-count rule w hw)
 

@@ -1,6 +1,6 @@
 -- Words as lists of blocks of l letters, and lists of numbers that leave out one number.
-use Rattle.std.proofs.Common.{◌≡◌, ◌≢◌, ℕ, zero, suc, ◌+◌, ◌-◌, ◌*◌, ◌^◌, ◌<◌, ◌≤◌, List, [], ◌∷◌, ◌++◌, length, map, take, drop, All, get_or, refl, sym, ap, ap₂, ◌∙◌, subst, ⊎_elim, arith, length-drop, append_assoc, length-take-le, take-append-drop, drop-drop}
-use Rattle.word_image.proofs.Common.{length-map, All-nil, All-cons, All-head, All-tail, All-take, All-drop, All-map, LocalRule, IsWord, value, word_of, node_count, value-below, value-injective, word_of-value, value-node, moved, but_cases}
+use Rattle.std.proofs.Common.{◌≡◌, ◌≢◌, ℕ, zero, suc, ◌+◌, ◌-◌, ◌*◌, ◌%◌, ◌^◌, ◌<◌, ◌≤◌, List, [], ◌∷◌, ◌++◌, length, map, take, drop, All, get_or, refl, sym, ap, ap₂, ◌∙◌, subst, ⊎_elim, arith, mod-lt, mod-eq_of_lt, length-drop, append_assoc, length-take-le, take-append-drop, drop-drop}
+use Rattle.word_image.proofs.Common.{length-map, All-nil, All-cons, All-head, All-tail, All-take, All-drop, All-map, LocalRule, IsWord, value, word_of, node_count, value-below, value-injective, word_of-value, value-word_of, length-word_of, IsWord-word_of, value-node, moved, but_cases, twice_below}
 
 -- the values of the first j blocks of l letters
 abbrev pub blocks : ℕ → ℕ → ℕ → List ℕ → List ℕ
@@ -31,8 +31,7 @@ pub spread-blocks : (k l j : ℕ) (x : List ℕ) → IsWord k x → j * l ≤ le
 spread-blocks k l zero x h e = let none : zero * l ≡ 0 = omega arith in ap (λ n. drop n x) none
 spread-blocks k l (suc j) x h e =
     let block : length (take l x) ≡ l = length-take-le l x (omega arith) in
-    let first : word_of k l (value k (take l x)) ≡ take l x =
-    ap (λ n. word_of k n (value k (take l x))) (sym block) ∙ word_of-value k (take l x) (All-take (λ a. a < k) l x h) in
+    let first = ap (λ n. word_of k n (value k (take l x))) (sym block) ∙ word_of-value k (take l x) (All-take (λ a. a < k) l x h) in
     let more : l + j * l ≡ suc j * l = omega arith in
     let left : drop (suc j * l) x ≡ drop (j * l) (drop l x) = sym (drop-drop (j * l) l x ∙ ap (λ n. drop n x) more) in
     append_assoc (word_of k l (value k (take l x))) (spread k l (blocks k l j (drop l x))) (drop (suc j * l) x)
@@ -63,7 +62,6 @@ block_code q v ds = value q (map (moved q v) ds)
 IsWord-moved : {q v : ℕ} {ds : List ℕ} → IsWithout q v ds → IsWord q (map (moved q v) ds)
 IsWord-moved {q} {v} {ds} h =
     All-map (λ d. d < q) (moved q v) ds (λ i d l.
-    let below : get_or ds i d < suc q = h.below i d l in
     ⊎_elim (λ at. omega (arith, at.0, at.1, h.left_out, h.none i d l)) (λ at. omega (arith, at.0, at.1)) (but_cases (λ x. x) q v (get_or ds i d)))
 
 -- the code of a list of numbers that leave out v is below q to the power of its length
@@ -72,10 +70,7 @@ block_code-below {q} {v} {ds} h = subst (λ n. block_code q v ds < q ^ n) (lengt
 
 -- what is moved comes back
 moved-back : (q v d : ℕ) → d ≢ v → moved v q (moved q v d) ≡ d
-moved-back q v d other =
-    ⊎_elim (λ at. ap (moved v q) at.1 ∙ ⊎_elim (λ b. b.1 ∙ sym at.0) (λ b. absurd (b.0 refl)) (but_cases (λ x. x) v q v))
-    (λ at. ap (moved v q) at.1 ∙ ⊎_elim (λ b. absurd (other b.0)) (λ b. b.1) (but_cases (λ x. x) v q d))
-    (but_cases (λ x. x) q v d)
+moved-back q v d other = grind (arith, but_cases)
 
 -- a list that is moved comes back
 map-moved_back : (q v : ℕ) (ds : List ℕ) → All (λ d. d ≢ v) ds → map (moved v q) (map (moved q v) ds) ≡ ds
@@ -99,3 +94,15 @@ IsWithout-moved q v x ds left_out new other below =
           (λ i d l. ⊎_elim (λ at. subst (λ c. c < suc q) (sym at.1) new) (λ at. subst (λ c. c < suc q) (sym at.1) (below i d l)) (but_cases (λ x. x) v x (get_or ds i d)));
       none = All-map (λ d. d ≢ v) (moved v x) ds (λ i d l. ⊎_elim (λ at e. other (sym at.1 ∙ e)) (λ at e. at.0 (sym at.1 ∙ e)) (but_cases (λ x. x) v x (get_or ds i d)));
     }
+
+-- where there are more words of n letters than numbers, two different words have one number
+pub two_words : (k n b : ℕ) (f : (w : List ℕ) → IsWord k w × (length w ≡ n) → ℕ) → b < k ^ n → ((w : List ℕ) (h : IsWord k w × (length w ≡ n)) → f w h < b)
+    → (x : List ℕ) × (y : List ℕ) × (h : IsWord k x × (length x ≡ n)) × (g : IsWord k y × (length y ≡ n)) × (x ≢ y) × (f x h ≡ f y g)
+two_words k n b f more below =
+    let w : ℕ → List ℕ = λ v. word_of k n (v % k ^ n) in
+    let is : (v : ℕ) → IsWord k (w v) × (length (w v) ≡ n) = λ v. (IsWord-word_of k n (v % k ^ n) (mod-lt v (omega arith)), length-word_of k n (v % k ^ n)) in
+    let back : (v : ℕ) → v ≤ b → value k (w v) ≡ v = λ v l.
+    let small : v < k ^ n = omega arith in
+    ap (λ i. value k (word_of k n i)) (mod-eq_of_lt {n = v} small) ∙ value-word_of k n v small in
+    let (i, j, less, last, same) = twice_below b (λ v. f (w v) (is v)) (λ v l. below (w v) (is v)) in
+    (w i, w j, is i, is j, (λ e. absurd (omega (arith, less, sym (back i (omega (arith, less, last))) ∙ ap (value k) e ∙ back j last))), same)

@@ -13,10 +13,6 @@ pub count_below-more : (p : ℕ → Bool) (n : ℕ) → count_below p (n + 1) �
 unfolding count_below
 count_below-more p n = let e : n + 1 ≡ suc n = omega arith in ap (count_below p) e
 
--- with a number more that passes, one number more is counted
-count_below-yes : (p : ℕ → Bool) (n : ℕ) → p n ≡ true → count_below p (n + 1) ≡ count_below p n + 1
-count_below-yes p n passes = count_below-more p n ∙ ap (λ b. count_below p n + from_bool b) passes
-
 -- below a greater bound no fewer numbers pass
 count_below-le : (p : ℕ → Bool) (i d : ℕ) → count_below p i ≤ count_below p (i + d)
 count_below-le p i zero = let e : i + 0 ≡ i = omega arith in omega (arith, ap (count_below p) e)
@@ -24,16 +20,15 @@ count_below-le p i (suc d) =
     let e : i + suc d ≡ i + d + 1 = omega arith in
     omega (arith, count_below-le p i d, ap (count_below p) e, count_below-more p (i + d))
 
+-- below a greater bound more numbers pass, if one between them passes
+count_below-less : (p : ℕ → Bool) (i j : ℕ) → p i ≡ true → i < j → count_below p i < count_below p j
+count_below-less p i j passes less =
+    let back : i + 1 + (j - (i + 1)) ≡ j = omega arith in
+    omega (arith, count_below-more p i, ap from_bool passes, count_below-le p (i + 1) (j - (i + 1)), ap (count_below p) back)
+
 -- two numbers that pass, with as many before them, are one
 count_below-injective : (p : ℕ → Bool) (i j : ℕ) → p i ≡ true → p j ≡ true → count_below p i ≡ count_below p j → i ≡ j
-count_below-injective p i j hi hj e =
-    ⊎_elim
-    (λ less. let back : i + 1 + (j - (i + 1)) ≡ j = omega arith in absurd (omega (arith, count_below-yes p i hi, count_below-le p (i + 1) (j - (i + 1)), ap (count_below p) back, e)))
-    (λ most. ⊎_elim
-    (λ more. let back : j + 1 + (i - (j + 1)) ≡ i = omega arith in absurd (omega (arith, count_below-yes p j hj, count_below-le p (j + 1) (i - (j + 1)), ap (count_below p) back, e)))
-    (λ least. omega arith)
-    (cases_lt j i))
-    (cases_lt i j)
+count_below-injective p i j hi hj e = grind (arith, count_below-less, cases_lt)
 
 -- a number that passes with i before it, if there are more than i
 nth : (p : ℕ → Bool) (n i : ℕ) → i < count_below p n → (v : ℕ) × (v < n) × (p v ≡ true) × (count_below p v ≡ i)
@@ -57,8 +52,7 @@ count_below-exact p n m at holds apart all =
     let number : ℕ → ℕ = λ i. count_below p (at i) in
     let within : (i : ℕ) → i ≤ count_below p n → number i < count_below p n = λ i l.
     let is = holds i (omega arith) in
-    let back : at i + 1 + (n - (at i + 1)) ≡ n = omega (arith, is.0) in
-    omega (arith, count_below-yes p (at i) is.1, count_below-le p (at i + 1) (n - (at i + 1)), ap (count_below p) back) in
+    count_below-less p (at i) n is.1 is.0 in
     let found = twice_below (count_below p n) number within in
     let first = holds found.0 (omega (arith, found.2, found.3)) in
     let second = holds found.1 (omega (arith, found.3)) in
@@ -73,10 +67,9 @@ count_below-exact p n m at holds apart all =
     let i : ℕ = found.0 in
     let j : ℕ = found.1 in
     let one : (place i).0 ≡ (place j).0 = sym (index i).2 ∙ ap at found.4 ∙ (index j).2 in
-    let rests : i % (m + 1) ≡ j % (m + 1) = sym (place i).3 ∙ ap (count_below p) one ∙ (place j).3 in
     let first : i % (m + 1) ≡ i = mod-eq_of_lt {n = i} (omega (arith, found.2, found.3)) in
     let second : j % (m + 1) ≡ j = mod-eq_of_lt {n = j} (omega (arith, found.3)) in
-    absurd (omega (arith, rests, first, second, found.2)))
+    absurd (omega (arith, sym (place i).3 ∙ ap (count_below p) one ∙ (place j).3, first, second, found.2)))
     (λ most. omega arith)
     (cases_lt m (count_below p n)))
     (cases_lt (count_below p n) m)

@@ -28,8 +28,7 @@ IsEven-surjective {r} rule every a letter =
     let k : ℕ = r.states in
     let n : ℕ = length r.table in
     let is : ℕ → Bool = λ b. b == a in
-    let one : 1 + (r.width - 1) ≡ r.width = omega arith in
-    let size : k ^ (1 + (r.width - 1)) ≡ n = ap (λ i. k ^ i) one ∙ sym rule.entries in
+    let size : k ^ (1 + (r.width - 1)) ≡ n = ap (λ i. k ^ i) (omega arith) ∙ sym rule.entries in
     let places : count_below (λ v. is (slice_index r.table v)) (k ^ (1 + (r.width - 1))) ≡ node_count r =
     count_below-image rule every (a ∷ []) (All-cons (λ b. b < k) a [] letter (All-nil (λ b. b < k))) (λ v. is (slice_index r.table v)) (λ x word long.
     let given : image r x ≡ slice_index r.table (value k x) ∷ [] = image-window rule x long in (

@@ -12,8 +12,8 @@ image-between {r} rule p x s long =
     let d : ℕ = r.width - 1 in
     let n : ℕ = length x - d in
     let whole : length x ≡ n + d = omega arith in
-    let front : take (length p + d) (p ++ (x ++ s)) ≡ p ++ take d x = take-append-add p (x ++ s) d ∙ ap (λ z. p ++ z) (take-append-le d x s long) in
-    let middle : take (n + d) (x ++ s) ≡ x = take_at x s (n + d) whole in
+    let front = take-append-add p (x ++ s) d ∙ ap (λ z. p ++ z) (take-append-le d x s long) in
+    let middle = take_at x s (n + d) whole in
     let back : drop n (x ++ s) ≡ drop n x ++ s = drop-append-le n x s (omega arith) in
     image-cut rule (length p) (p ++ (x ++ s))
     ∙ ap₂ (λ (u v : List ℕ). image r u ++ image r v) front (drop-append_seam p (x ++ s))
@@ -21,20 +21,11 @@ image-between {r} rule p x s long =
 
 -- an erasable word has more than m - 1 letters
 pub IsErasable-long : {r : LocalRule} {x y : List ℕ} → IsErasable r x y → r.width - 1 < length x
-IsErasable-long {r} {x} {y} h =
-    ⊎_elim (λ long. long)
-    (λ short. absurd (h.different (sym (take_all (r.width - 1) x (omega arith)) ∙ h.same_front ∙ take_all (r.width - 1) y (omega arith))))
-    (cases_lt (r.width - 1) (length x))
+IsErasable-long {r} {x} {y} h = grind (arith, take_all, cases_lt)
 
 -- either word of an erasable pair may stand for the other within a word
 pub image-exchange : {r : LocalRule} {x y : List ℕ} → IsRule r → IsErasable r x y → (p s : List ℕ) → image r (p ++ (x ++ s)) ≡ image r (p ++ (y ++ s))
-image-exchange {r} {x} {y} rule h p s =
-    let long : r.width - 1 < length x = IsErasable-long h in
-    let front : image r (p ++ take (r.width - 1) x) ≡ image r (p ++ take (r.width - 1) y) = ap (λ z. image r (p ++ z)) h.same_front in
-    let back : image r (drop (length x - (r.width - 1)) x ++ s) ≡ image r (drop (length y - (r.width - 1)) y ++ s) = ap (λ z. image r (z ++ s)) h.same_back in
-    image-between rule p x s (omega arith)
-    ∙ ap₂ (λ (u v : List ℕ). u ++ v) front (ap₂ (λ (u v : List ℕ). u ++ v) h.one_image back)
-    ∙ sym (image-between rule p y s (omega arith))
+image-exchange {r} {x} {y} rule h p s = grind (arith, IsErasable-long, image-between)
 
 -- two configurations that have the words of an erasable pair at one place, and equal letters elsewhere, share an image
 pub image_of-exchange : {r : LocalRule} {x y : List ℕ} {f g : Config} → IsRule r → IsErasable r x y → (s : ℤ) → run f s (length x) ≡ x → run g s (length x) ≡ y
@@ -50,13 +41,11 @@ image_of-exchange {r} {x} {y} {f} {g} rule h s at_f at_g before after j =
     let whole : n + (r.width - 1) ≡ a + (l + b) = omega arith in
     let cut : (z : Config) → run z i (n + (r.width - 1)) ≡ run z i a ++ (run z s l ++ run z e b) = λ z.
     ap (run z i) whole ∙ run-append z i s a (l + b) (omega (arith, ints)) ∙ ap (λ w. run z i a ++ w) (run-append z s e l b refl) in
-    let same : image r (run f i (n + (r.width - 1))) ≡ image r (run g i (n + (r.width - 1))) =
-    ap (image r) (cut f ∙ ap (λ w. run f i a ++ (w ++ run f e b)) at_f) ∙ image-exchange rule h (run f i a) (run f e b)
+    let same = ap (image r) (cut f ∙ ap (λ w. run f i a ++ (w ++ run f e b)) at_f) ∙ image-exchange rule h (run f i a) (run f e b)
     ∙ ap (image r) (ap₂ (λ (u v : List ℕ). u ++ v) (run-same f g i i a (λ c k. before (i +ℤ pos c) (omega (arith, ints))))
     (ap₂ (λ (u v : List ℕ). u ++ v) (sym at_g) (run-same f g e e b (λ c k. after (e +ℤ pos c) (omega (arith, ints))))) ∙ sym (cut g)) in
     let under : o +ℤ r.offset ≡ i = omega (arith, ints) in
-    let here : o +ℤ pos (unsigned_abs (j -ℤ o)) ≡ j = omega (arith, ints) in
-    subst (λ k. image_of r f k ≡ image_of r g k) here
+    subst (λ k. image_of r f k ≡ image_of r g k) (omega (arith, ints))
     (same-run (image_of r f) (image_of r g) o o n (sym (image-run rule f o i n under) ∙ same ∙ image-run rule g o i n under) (unsigned_abs (j -ℤ o)) (omega (arith, ints)))
 
 -- x may stand for every block y at once
@@ -68,7 +57,6 @@ image-replaced {r} {x} {y} rule h p (d ∷ ds) s =
     let l : ℕ = length x in
     let new : ℕ → ℕ = moved (value k y) (value k x) in
     let after : List ℕ = spread k l (map new ds) ++ s in
-    let word_x : word_of k l (value k x) ≡ x = word_of-value k x h.first in
     let word_y : word_of k l (value k y) ≡ y = ap (λ n. word_of k n (value k y)) h.one_length ∙ word_of-value k y h.second in
     let cut : (c : ℕ) (es : List ℕ) → p ++ (spread k l (c ∷ es) ++ s) ≡ p ++ (word_of k l c ++ (spread k l es ++ s)) = λ c es. ap (λ z. p ++ z) (append_assoc (word_of k l c) (spread k l es) s) in
     ap (image r) (cut d ds ∙ sym (append_assoc p (word_of k l d) (spread k l ds ++ s)))
@@ -76,7 +64,7 @@ image-replaced {r} {x} {y} rule h p (d ∷ ds) s =
     ∙ ap (image r) (append_assoc p (word_of k l d) after)
     ∙ ⊎_elim
     (λ at. ap (λ w. image r (p ++ (w ++ after))) (ap (word_of k l) at.0 ∙ word_y) ∙ sym (image-exchange rule h p after)
-    ∙ ap (λ w. image r (p ++ (w ++ after))) (sym (ap (word_of k l) at.1 ∙ word_x)))
+    ∙ ap (λ w. image r (p ++ (w ++ after))) (sym (ap (word_of k l) at.1 ∙ word_of-value k x h.first)))
     (λ at. ap (λ c. image r (p ++ (word_of k l c ++ after))) (sym at.1))
     (but_cases (λ c. c) (value k y) (value k x) d)
     ∙ ap (image r) (sym (cut (new d) (map new ds)))

@@ -1,8 +1,8 @@
 -- The Garden of Eden theorem: a rule is surjective exactly where no two words are an erasable pair (Moore 1962, Myhill 1963).
-use Rattle.std.proofs.Common.{◌≡◌, ℕ, suc, ◌+◌, ◌-◌, ◌*◌, ◌%◌, ◌^◌, ◌<◌, ◌≤◌, ◌⊎◌, inl, inr, ◌↔◌, List, [], ◌++◌, length, map, drop, sym, ap, ap₂, ◌∙◌, subst, ⊎_elim, arith, length-drop, mod-lt, mod-eq_of_lt}
-use Rattle.word_image.proofs.Common.{cases_eq, mul-add-lt, same_from_place, length-map, All-drop, LocalRule, IsRule, IsWord, value, word_of, node_count, image, IsPreimage, IsOrphan, IsSurjective, IsErasable, value-below, value-injective, value-word_of, word_of-value, length-word_of, IsWord-word_of, IsWord-image, length-image, some_below, twice_below, moved}
+use Rattle.std.proofs.Common.{◌≡◌, ℕ, ◌+◌, ◌-◌, ◌*◌, ◌^◌, ◌<◌, ◌≤◌, ◌⊎◌, inl, inr, ◌↔◌, List, [], ◌++◌, length, map, drop, sym, ap, ap₂, ◌∙◌, subst, ⊎_elim, arith, length-drop}
+use Rattle.word_image.proofs.Common.{cases_eq, mul-add-lt, same_from_place, length-map, All-drop, LocalRule, IsRule, IsWord, value, word_of, node_count, image, IsPreimage, IsOrphan, IsSurjective, IsErasable, value-below, value-injective, word_of-value, length-word_of, IsWord-word_of, IsWord-image, length-image, some_below, moved}
 use Rattle.garden_laws.proofs.Powers.{fewer_blocks}
-use Rattle.garden_laws.proofs.Blocks.{blocks, length-blocks, IsWord-blocks, spread, spread-blocks, HasBlocks, last-below, IsWithout, IsWithout-moved, block_code, block_code-below, block_code-injective}
+use Rattle.garden_laws.proofs.Blocks.{blocks, length-blocks, IsWord-blocks, spread, spread-blocks, HasBlocks, last-below, IsWithout, IsWithout-moved, block_code, block_code-below, block_code-injective, two_words}
 use Rattle.garden_laws.proofs.Exchange.{IsErasable-long, image-replaced}
 use Rattle.garden_laws.proofs.Orphans.{IsErasable-orphan}
 
@@ -17,8 +17,8 @@ preimage_or_orphan {r} rule w word =
     let n : ℕ = length w + (r.width - 1) in
     ⊎_elim
     (λ found.
-    let x : List ℕ = word_of k n found.0 in
-    let long : length x ≡ n = length-word_of k n found.0 in
+    let x = word_of k n found.0 in
+    let long = length-word_of k n found.0 in
     inl (
       x,
       record {
@@ -55,11 +55,10 @@ IsWithout-kept {r} {x} {y} h j z word long =
     let k : ℕ = r.states in
     let l : ℕ = length x in
     let old : value k y < k ^ l = subst (λ n. value k y < k ^ n) (sym h.one_length) (value-below k y h.second) in
-    let new : value k x < k ^ l = value-below k x h.first in
-    let next : k ^ l ≡ suc (k ^ l - 1) = omega arith in
+    let new = value-below k x h.first in
     IsWithout-moved (k ^ l - 1) (value k y) (value k x) (blocks k l j z) (omega arith) (omega arith)
     (λ e. h.different (value-injective k x y h.first h.second h.one_length e))
-    (subst (λ n. IsWord n (blocks k l j z)) next
+    (subst (λ n. IsWord n (blocks k l j z)) (omega arith)
     (IsWord-blocks k l j z word long))
 
 -- the kept words have the image of the word, with the letters behind them
@@ -104,23 +103,13 @@ none_erasable-surjective {r} rule every x y h =
     let nodes : ℕ = node_count r in
     let q : ℕ = k ^ l - 1 in
     let j : ℕ = q * nodes in
-    let n : ℕ = j * l in
-    let few : q ^ j * nodes < k ^ n = fewer_blocks k l nodes rule.shape.least_states (omega (arith, IsErasable-long h)) in
-    let some : 0 < k ^ n = omega arith in
-    let w : ℕ → List ℕ = λ v. word_of k n (v % k ^ n) in
-    let preimage : (v : ℕ) → (z : List ℕ) × IsPreimage r (w v) z = λ v. every (w v) (IsWord-word_of k n (v % k ^ n) (mod-lt v some)) in
-    let z : ℕ → List ℕ = λ v. (preimage v).0 in
-    let is : (v : ℕ) → HasBlocks r l j (z v) = λ v. record {
-      word = (preimage v).1.word;
-      long = (preimage v).1.long ∙ ap (λ i. i + (r.width - 1)) (length-word_of k n (v % k ^ n));
-    } in
-    let found = twice_below (nodes * q ^ j) (λ v. kept_number r x y j (z v)) (λ v b. kept_number-below h j (z v) (is v)) in
-    let back : (v : ℕ) → v ≤ nodes * q ^ j → value k (w v) ≡ v = λ v b.
-    let below : v < k ^ n = omega arith in
-    ap (λ i. value k (word_of k n i)) (mod-eq_of_lt {n = v} below) ∙ value-word_of k n v below in
-    let same : w found.0 ≡ w found.1 =
-    sym (preimage found.0).1.maps ∙ image-number rule h j (z found.0) (z found.1) (is found.0) (is found.1) found.4 ∙ (preimage found.1).1.maps in
-    absurd (omega (arith, found.2, found.3, sym (back found.0 (omega (arith, found.2, found.3))) ∙ ap (value k) same ∙ back found.1 found.3))
+    let few : q ^ j * nodes < k ^ (j * l) = fewer_blocks k l nodes rule.shape.least_states (omega (arith, IsErasable-long h)) in
+    let preimage : (w : List ℕ) → IsWord k w × (length w ≡ j * l) → (z : List ℕ) × IsPreimage r w z = λ w is. every w is.0 in
+    let parts : (w : List ℕ) (is : IsWord k w × (length w ≡ j * l)) → HasBlocks r l j (preimage w is).0 = λ w is.
+    let p = (preimage w is).1 in record { word = p.word; long = p.long ∙ ap (λ i. i + (r.width - 1)) is.1 } in
+    let (u, v, first, second, other, same) = two_words k (j * l) (nodes * q ^ j) (λ w is. kept_number r x y j (preimage w is).0) (omega arith) (λ w is.
+    kept_number-below h j (preimage w is).0 (parts w is)) in
+    other (sym (preimage u first).1.maps ∙ image-number rule h j (preimage u first).0 (preimage v second).0 (parts u first) (parts v second) same ∙ (preimage v second).1.maps)
 
 -- a rule is surjective exactly where no two words are an erasable pair
 pub garden_of_eden : {r : LocalRule} → IsRule r → (IsSurjective r ↔ NoneErasable r)

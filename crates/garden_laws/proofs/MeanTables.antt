@@ -1,5 +1,5 @@
 -- The mean of the letters of a table. Under a conserving rule it is that of all letters: what all windows gain is what the numbers of a flux give at their first nodes, less what they give at their last ones, and these are the same numbers. It is so too where each letter stands equally often.
-use Rattle.std.proofs.Common.{◌≡◌, ℕ, zero, suc, ◌+◌, ◌-◌, ◌*◌, ◌/◌, ◌%◌, ◌^◌, ◌<◌, ◌≤◌, List, [], ◌∷◌, length, take, slice_index, get_or, sum, count_by, cond, ⊎_elim, ℤ, pos, ◌+ℤ◌, ◌-ℤ◌, refl, sym, ap, ap₂, ◌∙◌, arith, mod-eq_of_lt, ◌==◌, mul-add, add-mul, suc-mul, mul-suc, mul-zero, zero-mul, mul-one, mul_assoc, mul_comm, eq-eqb, ne_eqb, take_all}
+use Rattle.std.proofs.Common.{◌≡◌, ℕ, zero, suc, ◌+◌, ◌-◌, ◌*◌, ◌/◌, ◌%◌, ◌^◌, ◌<◌, ◌≤◌, List, [], ◌∷◌, length, take, slice_index, get_or, sum, count_by, cond, ⊎_elim, ℤ, pos, ◌+ℤ◌, ◌-ℤ◌, refl, sym, ap, ap₂, ◌∙◌, arith, mod-eq_of_lt, ◌==◌, mul-add, add-mul, suc-mul, mul-suc, mul-zero, zero-mul, mul_assoc, mul_comm, eq-eqb, ne_eqb, take_all}
 use Rattle.word_image.proofs.Common.{mul-div_cancel_left, zero-div, one-le-pow, cases_eq, cond-true, cond-false, All-head, All-tail, ints, div-mul-add, mod-mul-add, sum_by_more, sum_by-cons, LocalRule, IsRule, IsWord, node_count, IsConserving, IsFlux, node_count_pos, windows-nodes}
 use Rattle.ring_laws.proofs.FluxWindows.{window_gain, FlowsAt-flux}
 use Rattle.ring_laws.proofs.FluxWalks.{walk_gains}
@@ -71,11 +71,7 @@ total-rem f d (suc n) =
 total-div : (f : ℕ → ℤ) (d n : ℕ) → total (λ v. f (v / d)) (n * d) ≡ times d (total f n)
 unfolding total
 total-div f d zero = ap (total (λ v. f (v / d))) (zero-mul d) ∙ sym (times-zero d)
-total-div f d (suc n) =
-    ap (total (λ v. f (v / d))) (suc-mul n d)
-    ∙ total-add (λ v. f (v / d)) (n * d) d
-    ∙ ap₂ (λ (i j : ℤ). i +ℤ j) (total-div f d n) (total-same (λ i. f ((n * d + i) / d)) (f n) d (λ i l. ap f (div-mul-add n d i l)))
-    ∙ sym (times-add d (total f n) (f n))
+total-div f d (suc n) = grind (arith, total, suc-mul, total-add, total-same, div-mul-add, times-add, total-div f d n)
 
 -- the total of the first letters of a table is their sum
 total-table : (table : List ℕ) (n : ℕ) → n ≤ length table → total (λ v. pos (slice_index table v)) n ≡ pos (sum (take n table))
@@ -83,7 +79,7 @@ unfolding total
 total-table table zero few = refl
 total-table table (suc n) few =
     let less : n < length table = omega arith in
-    let more : sum (take (n + 1) table) ≡ sum (take n table) + slice_index table n = sum_by_more (λ a. a) table n 0 less in
+    let more = sum_by_more (λ a. a) table n 0 less in
     let same : suc n ≡ n + 1 = omega arith in
     omega (arith, ints, total-table table n (omega arith), more, ap (λ i. sum (take i table)) same)
 
@@ -108,12 +104,11 @@ all_gain : {r : LocalRule} → IsRule r → IsConserving (λ a. a) r → total (
 all_gain {r} rule keep =
     let k : ℕ = r.states in
     let n : ℕ = node_count r in
-    let phi : List ℤ = walk_gains (λ a. a) r in
+    let phi = walk_gains (λ a. a) r in
     let flux : IsFlux (λ a. a) r phi = (IsConserving-walk_gains rule (λ a. a)).0 keep in
     let at : ℕ → ℤ = λ u. get_or phi u (pos 0) in
     let firsts : total (λ v. at (v / k)) (k ^ r.width) ≡ times k (total at n) = ap (total (λ v. at (v / k))) (windows-nodes rule) ∙ total-div at k n in
-    let lasts : total (λ v. at (v % n)) (k ^ r.width) ≡ times k (total at n) =
-    ap (total (λ v. at (v % n))) (windows-nodes rule ∙ mul_comm n k) ∙ total-rem at n k in
+    let lasts = ap (total (λ v. at (v % n))) (windows-nodes rule ∙ mul_comm n k) ∙ total-rem at n k in
     total-agree (window_gain (λ a. a) r) (λ v. at (v / k) -ℤ at (v % n)) (k ^ r.width) (λ v l. FlowsAt-flux rule flux v l)
     ∙ total-sub (λ v. at (v / k)) (λ v. at (v % n)) (k ^ r.width)
     ∙ omega (arith, ints, firsts, lasts)
@@ -128,15 +123,13 @@ HasMean-conserving {r} rule keep =
     total-table r.table size (omega (arith, rule.entries)) ∙ ap (λ xs. pos (sum xs)) (take_all size r.table (omega (arith, rule.entries))) in
     let old : total (λ v. pos (v / n)) size ≡ pos (n * triangle k) =
     ap (total (λ v. pos (v / n))) (windows-nodes rule ∙ mul_comm n k) ∙ total-div (λ a. pos a) n k ∙ ap (times n) (total-letters k) ∙ times-pos n (triangle k) in
-    let both : total (window_gain (λ a. a) r) size ≡ total (λ v. pos (slice_index r.table v)) size -ℤ total (λ v. pos (v / n)) size =
-    total-sub (λ v. pos (slice_index r.table v)) (λ v. pos (v / n)) size in
+    let both = total-sub (λ v. pos (slice_index r.table v)) (λ v. pos (v / n)) size in
     let all : sum r.table ≡ n * triangle k = omega (arith, ints, new, old, both, all_gain rule keep) in
     let long : length r.table ≡ n * k = rule.entries ∙ windows-nodes rule in
     let square : n * (2 * triangle k + k) ≡ n * (k * k) = ap (λ x. n * x) (triangle-twice k) in
-    let length_twice : k * (n * k) ≡ n * (k * k) = mul_comm k (n * k) ∙ mul_assoc n k k in
     let sum_twice : n * (2 * triangle k) ≡ 2 * (n * triangle k) = sym (mul_assoc n 2 (triangle k)) ∙ ap (λ x. x * triangle k) (mul_comm n 2) ∙ mul_assoc 2 n (triangle k) in
-    let parts : n * (2 * triangle k + k) ≡ n * (2 * triangle k) + n * k = mul-add n (2 * triangle k) k in
-    omega (arith, all, square, sum_twice, parts, length_twice, long, ap (λ x. k * x) long)
+    let parts = mul-add n (2 * triangle k) k in
+    omega (arith, all, square, sum_twice, parts, mul_comm k (n * k) ∙ mul_assoc n k k, long, ap (λ x. k * x) long)
 
 -- the sum of those letters of a list that are below n
 weighed : ℕ → List ℕ → ℕ
@@ -167,9 +160,7 @@ weighed-one (suc n) x xs l =
     (λ last.
     let more : count_by (λ b. b == n) (x ∷ xs) ≡ count_by (λ b. b == n) xs + 1 =
     omega (arith, sum_by-cons (λ b. cond (b == n) 1 0) x xs, cond-true {A = ℕ} (x == n) 1 0 (eq-eqb x n last)) in
-    let one : n * 1 ≡ n = mul-one n in
-    let product : n * (count_by (λ b. b == n) xs + 1) ≡ n * count_by (λ b. b == n) xs + n * 1 = mul-add n (count_by (λ b. b == n) xs) 1 in
-    omega (arith, weighed-other n x xs (omega arith), ap (λ i. n * i) more, product))
+    omega (arith, weighed-other n x xs (omega arith), ap (λ i. n * i) more, mul-add n (count_by (λ b. b == n) xs) 1))
     (λ other.
     let same : count_by (λ b. b == n) (x ∷ xs) ≡ count_by (λ b. b == n) xs =
     omega (arith, sum_by-cons (λ b. cond (b == n) 1 0) x xs, cond-false {A = ℕ} (x == n) 1 0 (ne_eqb x n other)) in
@@ -187,7 +178,7 @@ weighed-even : (q n : ℕ) (xs : List ℕ) → ((a : ℕ) → a < n → count_by
 unfolding weighed triangle
 weighed-even q zero xs each = sym (zero-mul q)
 weighed-even q (suc n) xs each =
-    let parts : (triangle n + n) * q ≡ triangle n * q + n * q = add-mul (triangle n) n q in
+    let parts = add-mul (triangle n) n q in
     omega (arith, weighed-even q n xs (λ a l. each a (omega arith)), parts, ap (λ i. n * i) (each n (omega arith)))
 
 -- a table in which each letter stands equally often has the mean of all letters
@@ -203,32 +194,20 @@ HasMean-even {r} rule even =
     ∙ mul-div_cancel_left q some in
     let all : sum r.table ≡ triangle k * q = sym (weighed-word k r.table rule.letters) ∙ weighed-even q k r.table each in
     let square : (2 * triangle k + k) * q ≡ k * k * q = ap (λ n. n * q) (triangle-twice k) in
-    let parts : (2 * triangle k + k) * q ≡ 2 * triangle k * q + k * q = add-mul (2 * triangle k) k q in
-    let twice : 2 * triangle k * q ≡ 2 * (triangle k * q) = mul_assoc 2 (triangle k) q in
     let length_times : k * length r.table ≡ k * k * q = ap (λ n. k * n) (long ∙ mul_comm q k) ∙ sym (mul_assoc k k q) in
-    let turned : k * q ≡ q * k = mul_comm k q in
-    omega (arith, all, square, parts, twice, length_times, turned, long)
+    let turned = mul_comm k q in
+    omega (arith, all, square, add-mul (2 * triangle k) k q, mul_assoc 2 (triangle k) q, length_times, turned, long)
 
 -- under a conserving rule a window that leads from a node to itself keeps its first letter
 keeps-loop : {r : LocalRule} → IsRule r → IsConserving (λ a. a) r → (v : ℕ) → v < r.states ^ r.width → v / r.states ≡ v % node_count r → slice_index r.table v ≡ v / node_count r
 keeps-loop {r} rule keep v within loop =
-    let phi : List ℤ = walk_gains (λ a. a) r in
+    let phi = walk_gains (λ a. a) r in
     let flux : IsFlux (λ a. a) r phi = (IsConserving-walk_gains rule (λ a. a)).0 keep in
-    let gain : window_gain (λ a. a) r v ≡ get_or phi (v / r.states) (pos 0) -ℤ get_or phi (v % node_count r) (pos 0) = FlowsAt-flux rule flux v within in
-    let same : get_or phi (v / r.states) (pos 0) ≡ get_or phi (v % node_count r) (pos 0) = ap (λ u. get_or phi u (pos 0)) loop in
-    omega (arith, ints, gain, same)
+    omega (arith, ints, FlowsAt-flux rule flux v within, ap (λ u. get_or phi u (pos 0)) loop)
 
 -- under a conserving rule the window of letters 0 has the letter 0
 pub keeps-zeros : {r : LocalRule} → IsRule r → IsConserving (λ a. a) r → slice_index r.table 0 ≡ 0
-keeps-zeros {r} rule keep =
-    let k : ℕ = r.states in
-    let n : ℕ = node_count r in
-    let some : 0 < k = let two : 2 ≤ k = rule.shape.least_states in omega arith in
-    let nodes : 0 < n = node_count_pos rule in
-    let all : 0 < k ^ r.width = one-le-pow r.width k some in
-    let first : 0 / k ≡ 0 = zero-div k in
-    let last : 0 % n ≡ 0 = mod-eq_of_lt {n = 0} nodes in
-    keeps-loop rule keep 0 all (first ∙ sym last) ∙ zero-div n
+keeps-zeros {r} rule keep = grind (arith, node_count_pos, one-le-pow, zero-div, mod-eq_of_lt, keeps-loop)
 
 -- under a conserving rule the window of the greatest letters has the greatest letter
 pub keeps-greatest : {r : LocalRule} → IsRule r → IsConserving (λ a. a) r → slice_index r.table (length r.table - 1) ≡ r.states - 1
@@ -236,13 +215,13 @@ keeps-greatest {r} rule keep =
     let k : ℕ = r.states in
     let n : ℕ = node_count r in
     let some : 0 < k = let two : 2 ≤ k = rule.shape.least_states in omega arith in
-    let nodes : 0 < n = node_count_pos rule in
+    let nodes = node_count_pos rule in
     let long : length r.table ≡ n * k = rule.entries ∙ windows-nodes rule in
     let v : ℕ = length r.table - 1 in
     let one_less : suc (n - 1) ≡ n = omega arith in
     let rows : n * k ≡ (n - 1) * k + k = ap (λ i. i * k) (sym one_less) ∙ suc-mul (n - 1) k in
     let one_less_letter : suc (k - 1) ≡ k = omega arith in
-    let columns : n * k ≡ (k - 1) * n + n = mul_comm n k ∙ ap (λ i. i * n) (sym one_less_letter) ∙ suc-mul (k - 1) n in
+    let columns = mul_comm n k ∙ ap (λ i. i * n) (sym one_less_letter) ∙ suc-mul (k - 1) n in
     let by_node : v ≡ (n - 1) * k + (k - 1) = omega (arith, long, rows) in
     let by_letter : v ≡ (k - 1) * n + (n - 1) = omega (arith, long, columns) in
     let first : v / k ≡ n - 1 = ap (λ i. i / k) by_node ∙ div-mul-add (n - 1) k (k - 1) (omega arith) in

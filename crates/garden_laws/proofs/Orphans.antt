@@ -1,8 +1,8 @@
 -- An orphan gives an erasable pair: too many words have images without the orphan (Moore 1962).
 use Rattle.std.proofs.Common.{◌≡◌, ◌≢◌, ℕ, zero, suc, ◌+◌, ◌-◌, ◌*◌, ◌^◌, ◌<◌, ◌≤◌, List, [], ◌∷◌, ◌++◌, length, take, drop, All, sym, ap, ◌∙◌, subst, arith, length-drop, mul-lt-mul_of_pos_right, pow-add, length-take-le}
-use Rattle.word_image.proofs.Common.{mul-add-lt, same_from_place, nil_from_length, All-nil, All-cons, All-take, All-drop, LocalRule, IsRule, IsWord, value, word_of, node_count, image, IsOrphan, IsErasable, value-below, value-injective, value-word_of, length-word_of, IsWord-word_of, IsWord-image, length-image, IsPreimage-empty, image-take, image-drop, node_count_pos, value-node, twice_below}
+use Rattle.word_image.proofs.Common.{mul-add-lt, same_from_place, nil_from_length, All-nil, All-cons, All-take, All-drop, LocalRule, IsRule, IsWord, value, word_of, node_count, image, IsOrphan, IsErasable, value-below, value-injective, length-word_of, IsWord-word_of, IsWord-image, length-image, IsPreimage-empty, image-take, image-drop, node_count_pos, value-node}
 use Rattle.garden_laws.proofs.Powers.{fewer_blocks}
-use Rattle.garden_laws.proofs.Blocks.{blocks, length-blocks, IsWord-blocks, spread, spread-blocks, HasBlocks, last-below, IsWithout, block_code, block_code-below, block_code-injective}
+use Rattle.garden_laws.proofs.Blocks.{blocks, length-blocks, IsWord-blocks, spread, spread-blocks, HasBlocks, last-below, IsWithout, block_code, block_code-below, block_code-injective, two_words}
 
 -- an orphan has a letter
 IsOrphan-some : {r : LocalRule} {w : List ℕ} → IsRule r → IsOrphan r w → 1 ≤ length w
@@ -40,7 +40,7 @@ IsWithout-image : {r : LocalRule} {w : List ℕ} → IsRule r → IsOrphan r w �
 IsWithout-image {r} {w} rule orphan j z h =
     let k : ℕ = r.states in
     let l : ℕ = length w in
-    let left_out : value k w < k ^ l = value-below k w orphan.word in
+    let left_out = value-below k w orphan.word in
     let next : k ^ l ≡ suc (k ^ l - 1) = omega arith in
     record {
       left_out = omega arith;
@@ -64,10 +64,7 @@ ends-below {r} {l} {j} {z} h = (
 -- the blocks are a number below q ^ j
 blocks-below : {r : LocalRule} {w : List ℕ} → IsRule r → IsOrphan r w → (j : ℕ) (z : List ℕ) → HasBlocks r (length w) j z
     → block_code (r.states ^ length w - 1) (value r.states w) (blocks r.states (length w) j (image r z)) < (r.states ^ length w - 1) ^ j
-blocks-below {r} {w} rule orphan j z h =
-    let q : ℕ = r.states ^ length w - 1 in
-    let ds : List ℕ = blocks r.states (length w) j (image r z) in
-    subst (λ n. block_code q (value r.states w) ds < q ^ n) (length-blocks r.states (length w) j (image r z)) (block_code-below (IsWithout-image rule orphan j z h))
+blocks-below {r} {w} rule orphan j z h = grind (arith, block_code, length-blocks, block_code-below, IsWithout-image)
 
 -- two different words with one number are an erasable pair
 IsErasable-number : {r : LocalRule} {w : List ℕ} → IsRule r → IsOrphan r w → (j : ℕ) (x y : List ℕ) → HasBlocks r (length w) j x → HasBlocks r (length w) j y
@@ -108,20 +105,10 @@ IsErasable-orphan {r} {w} rule orphan =
     let nodes : ℕ = node_count r in
     let q : ℕ = k ^ l - 1 in
     let j : ℕ = q * nodes in
-    let n : ℕ = j * l + m in
-    let z : ℕ → List ℕ = word_of k n in
-    let is : (v : ℕ) → v < k ^ n → HasBlocks r l j (z v) = λ v h. record { word = IsWord-word_of k n v h; long = length-word_of k n v } in
-    let few : q ^ j * nodes < k ^ (j * l) = fewer_blocks k l nodes rule.shape.least_states (IsOrphan-some rule orphan) in
-    let more : q ^ j * nodes * nodes < k ^ (j * l) * nodes = mul-lt-mul_of_pos_right few (node_count_pos rule) in
-    let many : k ^ n ≡ k ^ (j * l) * nodes = pow-add k (j * l) m in
-    let below : (v : ℕ) → v < k ^ n → ends_number r w j (z v) < q ^ j * (nodes * nodes) = λ v h.
-    mul-add-lt _ (q ^ j) _ (nodes * nodes) (mul-add-lt _ nodes _ nodes (ends-below (is v h)).0 (ends-below (is v h)).1) (blocks-below rule orphan j (z v) (is v h)) in
-    let within : (v : ℕ) → v ≤ q ^ j * (nodes * nodes) → v < k ^ n = λ v l. omega arith in
-    let found = twice_below (q ^ j * (nodes * nodes)) (λ v. ends_number r w j (z v)) (λ v l. below v (within v l)) in
-    let first : found.0 < k ^ n = within found.0 (omega (arith, found.2, found.3)) in
-    let second : found.1 < k ^ n = within found.1 found.3 in (
-      z found.0,
-      z found.1,
-      IsErasable-number rule orphan j (z found.0) (z found.1) (is found.0 first) (is found.1 second)
-          (λ e. absurd (omega (arith, found.2, sym (value-word_of k n found.0 first) ∙ ap (value k) e ∙ value-word_of k n found.1 second))) found.4,
-    )
+    let is : (z : List ℕ) → IsWord k z × (length z ≡ j * l + m) → HasBlocks r l j z = λ z h. record { word = h.0; long = h.1 } in
+    let few = fewer_blocks k l nodes rule.shape.least_states (IsOrphan-some rule orphan) in
+    let more = mul-lt-mul_of_pos_right few (node_count_pos rule) in
+    let many = pow-add k (j * l) m in
+    let (x, y, first, second, other, same) = two_words k (j * l + m) (q ^ j * (nodes * nodes)) (λ z h. ends_number r w j z) (omega arith) (λ z h.
+    mul-add-lt _ (q ^ j) _ (nodes * nodes) (mul-add-lt _ nodes _ nodes (ends-below (is z h)).0 (ends-below (is z h)).1) (blocks-below rule orphan j z (is z h))) in
+    (x, y, IsErasable-number rule orphan j x y (is x first) (is y second) other same)

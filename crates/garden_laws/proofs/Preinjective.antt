@@ -1,7 +1,7 @@
 -- The Garden of Eden theorem over configurations: a rule is surjective exactly where it is preinjective (Moore 1962, Myhill 1963).
 use Rattle.std.proofs.Common.{◌≡◌, ◌≢◌, ℕ, ◌+◌, ◌-◌, ◌<◌, ◌↔◌, List, length, ℤ, pos, ◌+ℤ◌, ◌-ℤ◌, unsigned_abs, refl, sym, ap, ◌∙◌, subst, ⊎_elim, arith, ◌≤ℤ◌}
 use Rattle.word_image.proofs.Common.{ints, LocalRule, IsRule, IsSurjective, IsErasable}
-use Rattle.tail_config.proofs.Common.{Config, IsConfig, run, image_of, AgreeFarLeft, AgreeFarRight, TailConfig, IsInjective, IsRightClosing, IsLeftClosing, cell, cells, length-run, run-same, same-run, take-run, last-run, HaveOneImage-run, cell-below, cell-right, cells-middle, same_left_part, inside_zeros, IsTail-inside_zeros, same_or_differ, DifferAt-different}
+use Rattle.tail_config.proofs.Common.{Config, IsConfig, run, image_of, AgreeFarLeft, AgreeFarRight, IsInjective, IsRightClosing, IsLeftClosing, cell, cells, length-run, run-same, same-run, take-run, last-run, HaveOneImage-run, cell-below, cell-right, cells-middle, same_left_part, inside_zeros, IsTail-inside_zeros, same_or_differ, DifferAt-different}
 use Rattle.garden_laws.specs.Preinjective.{IsPreinjective}
 use Rattle.garden_laws.proofs.Exchange.{image_of-exchange}
 use Rattle.garden_laws.proofs.GardenOfEden.{NoneErasable, garden_of_eden}
@@ -43,18 +43,14 @@ agree_between {r} {x} {y} rule none hx hy share (p, left) (q, right) i =
 
 -- right of two words of one length inside zeros there are zeros
 zeros-right : (x y : List ℕ) → length x ≡ length y → (j : ℤ) → pos (length x) ≤ℤ j → cell (inside_zeros x) j ≡ cell (inside_zeros y) j
-zeros-right x y e j l =
-    let i : ℕ = unsigned_abs (j -ℤ pos (length x)) in
-    let first : pos (length x + i) ≡ j = omega (arith, ints) in
-    let second : pos (length y + i) ≡ j = omega (arith, ints) in
-    sym (ap (cell (inside_zeros x)) first) ∙ cell-right (inside_zeros x) i ∙ sym (cell-right (inside_zeros y) i) ∙ ap (cell (inside_zeros y)) second
+zeros-right x y e j l = grind (arith, ints, unsigned_abs, inside_zeros, cell-right)
 
 -- a preinjective rule has no erasable pair: its words inside zeros would share an image
 none_erasable-preinjective : {r : LocalRule} → IsRule r → IsPreinjective r → NoneErasable r
 none_erasable-preinjective {r} rule preinjective x y h =
     let some : 0 < r.states = omega (arith, rule.shape.least_states) in
-    let tx : TailConfig = inside_zeros x in
-    let ty : TailConfig = inside_zeros y in
+    let tx = inside_zeros x in
+    let ty = inside_zeros y in
     let left = same_left_part tx ty refl in
     let right = zeros-right x y h.one_length in
     let word : cells ty (pos 0) (length x) ≡ y = ap (cells ty (pos 0)) h.one_length ∙ cells-middle ty in

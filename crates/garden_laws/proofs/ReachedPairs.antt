@@ -1,13 +1,13 @@
 -- The pairs that are reached from the first pairs of the right: none of them has two equal nodes exactly where the rule is surjective. So a pair list proves surjectivity.
 use Rattle.std.proofs.Common.{◌≡◌, ◌≢◌, ℕ, zero, suc, ◌+◌, ◌-◌, ◌<◌, ◌⊎◌, inl, inr, ◌↔◌, List, [], ◌∷◌, ◌++◌, length, take, drop, Contains, Some, refl, sym, ap, ap₂, ◌∙◌, subst, ⊎_elim, arith, length-drop, take_all}
-use Rattle.word_image.proofs.Common.{cases_eq, take-append-le, same_from_push, All-drop, LocalRule, IsRule, IsWord, value, word_of, node_count, IsSurjective, HaveOneImage, next, label, follow, pair_of, first_of, second_of, pair_count, IsErasable, IsPairList, IsFirstOfRight, value-injective, length-word_of, IsWord-word_of, value-word_of}
+use Rattle.word_image.proofs.Common.{cases_eq, take-append-le, same_from_push, All-drop, LocalRule, IsRule, value, word_of, IsSurjective, HaveOneImage, next, label, follow, pair_of, first_of, second_of, pair_count, IsErasable, IsPairList, IsFirstOfRight, value-injective, length-word_of, IsWord-word_of, value-word_of}
 use Rattle.pair_laws.proofs.Common.{HaveOneImage-none, follow-pair_of, follow-below, IsFirstOfRight-below}
 use Rattle.garden_laws.specs.ReachedPairs.{IsReached}
 use Rattle.garden_laws.specs.ReachedPairs.IsReached.{First, On}
 use Rattle.garden_laws.proofs.Blocks.{last-below}
 use Rattle.garden_laws.proofs.Exchange.{IsErasable-long}
 use Rattle.garden_laws.proofs.GardenOfEden.{IsSurjective-none_erasable, none_erasable-surjective}
-use Rattle.garden_laws.proofs.PairEnds.{pair_behind, first_of-behind, second_of-behind, HaveOneImage-follow, IsPush, IsPush-some}
+use Rattle.garden_laws.proofs.PairEnds.{pair_behind, first_of-behind, second_of-behind, HaveOneImage-follow, IsPush-some}
 
 -- with one letter more at the end, two words begin alike exactly where they did
 take-push : {r : LocalRule} {n : ℕ} {x y : List ℕ} (a b : ℕ) → HaveOneImage r n x y → take (r.width - 1) (x ++ a ∷ []) ≡ take (r.width - 1) (y ++ b ∷ []) ↔ (take (r.width - 1) x ≡ take (r.width - 1) y)
@@ -21,11 +21,11 @@ pub same_or_reached : {r : LocalRule} → IsRule r → (n : ℕ) (x y : List ℕ
 same_or_reached {r} rule zero x y h front = inl (sym (take_all (r.width - 1) x (omega (arith, h.first_long))) ∙ front ∙ take_all (r.width - 1) y (omega (arith, h.second_long)))
 same_or_reached {r} rule (suc n) x y h front =
     let more : suc n ≡ n + 1 = omega arith in
-    let p : IsPush r n x y = IsPush-some rule (subst (λ i. HaveOneImage r i x y) more h) in
+    let p = IsPush-some rule (subst (λ i. HaveOneImage r i x y) more h) in
     let before : take (r.width - 1) p.before_x ≡ take (r.width - 1) p.before_y = (take-push p.a p.b p.one_image).0 (ap (take (r.width - 1)) (sym p.x_is) ∙ front ∙ ap (take (r.width - 1)) p.y_is) in
     let u : ℕ = value r.states (drop n p.before_x) in
     let v : ℕ = value r.states (drop n p.before_y) in
-    let below : v < node_count r = last-below r n p.before_y p.one_image.second p.one_image.second_long in
+    let below = last-below r n p.before_y p.one_image.second p.one_image.second_long in
     ⊎_elim
     (λ same. ⊎_elim
     (λ letter. inl (p.x_is ∙ ap₂ (λ (z : List ℕ) (c : ℕ). z ++ c ∷ []) same letter ∙ sym p.y_is))
@@ -75,10 +75,10 @@ ReachingWords-push {r} {n} {p} {q} {x} {y} rule h front e a b ha hb f other =
 -- each reached pair has two different words with one image and one beginning that end with it
 pub words-reached : {r : LocalRule} {p : ℕ} → IsRule r → IsReached r p → ReachingWords r p
 words-reached {r} rule (First p h) =
-    let z : List ℕ = word_of r.states (r.width - 1) h.node in
-    let word : IsWord r.states z = IsWord-word_of r.states (r.width - 1) h.node h.in_nodes in
-    let long : length z ≡ r.width - 1 = length-word_of r.states (r.width - 1) h.node in
-    let node : value r.states (drop 0 z) ≡ h.node = value-word_of r.states (r.width - 1) h.node h.in_nodes in
+    let z = word_of r.states (r.width - 1) h.node in
+    let word = IsWord-word_of r.states (r.width - 1) h.node h.in_nodes in
+    let long = length-word_of r.states (r.width - 1) h.node in
+    let node = value-word_of r.states (r.width - 1) h.node h.in_nodes in
     ReachingWords-push rule (HaveOneImage-none r z z word word long long) refl (ap₂ (pair_of r) node node) h.a h.b h.a_letter h.b_letter
     (follow-pair_of r h.node h.node h.a h.b h.in_nodes h.one_label ∙ ap (λ q. Some q) (sym h.pair)) (λ same. h.different)
 words-reached rule (On p a b q reached ha hb f) =
@@ -92,8 +92,7 @@ IsErasable-words {r} {p} w same =
     let Below : ℕ → Type 0 = λ a. a < r.states in
     let first : value r.states (drop w.n w.x) ≡ first_of r p = sym (first_of-behind h) ∙ ap (first_of r) w.pair in
     let second : value r.states (drop w.n w.y) ≡ second_of r p = sym (second_of-behind h) ∙ ap (second_of r) w.pair in
-    let back : drop w.n w.x ≡ drop w.n w.y =
-    value-injective r.states (drop w.n w.x) (drop w.n w.y) (All-drop Below w.n w.x h.first) (All-drop Below w.n w.y h.second)
+    let back = value-injective r.states (drop w.n w.x) (drop w.n w.y) (All-drop Below w.n w.x h.first) (All-drop Below w.n w.y h.second)
     (omega (arith, length-drop w.n w.x, length-drop w.n w.y, h.first_long, h.second_long)) (first ∙ same ∙ sym second) in
     let place : (z : List ℕ) → length z ≡ w.n + (r.width - 1) → length z - (r.width - 1) ≡ w.n = λ z e. omega arith in
     record {

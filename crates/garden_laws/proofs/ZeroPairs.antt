@@ -51,9 +51,8 @@ pub gives_zeros-block : (k n : ℕ) (table : List ℕ) (b v a : ℕ) → length 
     → gives_zeros k table ((b * n + v) * k + a) ≡ ((slice_index table (b * n + v) == 0) && (slice_index table (v * k + a) == 0))
 gives_zeros-block k n table b v a long node letter =
     let w : ℕ = b * n + v in
-    let parts : w * k ≡ b * n * k + v * k = add-mul (b * n) v k in
-    let whole : w * k + a ≡ b * (n * k) + (v * k + a) = omega (arith, parts, mul_assoc b n k) in
-    let turned : k * n ≡ n * k = mul_comm k n in
+    let whole : w * k + a ≡ b * (n * k) + (v * k + a) = omega (arith, add-mul (b * n) v k, mul_assoc b n k) in
+    let turned = mul_comm k n in
     let within : v * k + a < n * k = omega (arith, mul-add-lt v k a n node letter, turned) in
     let rest : (w * k + a) % length table ≡ v * k + a = ap (λ i. (w * k + a) % i) long ∙ ap (λ i. i % (n * k)) whole ∙ mod-mul-add b (n * k) (v * k + a) within in
     ap₂ (λ (i j : ℕ). (slice_index table i == 0) && (slice_index table j == 0)) (div-mul-add w k a letter) rest

@@ -1,6 +1,6 @@
 -- Right look-aheads by pairs of nodes: no pair to which two different letters lead from one node begins together for the rest.
 use Rattle.std.proofs.Common.{◌≡◌, ◌≢◌, ℕ, ◌-◌, ◌<◌, ◌≤◌, ◌↔◌, List, [], ◌∷◌, ◌++◌, length, take, drop, get_or, refl, sym, ap, subst, subst₂, ◌∙◌, ⊎_elim, arith, append_assoc, length-take-le, take_at}
-use Rattle.word_image.proofs.Common.{cases_eq, get_or_at, All-take, LocalRule, IsRule, IsWord, value, word_of, node_count, HaveOneImage, IsRightAhead, next, label, pair_of, BeginTogether, PairGoes, IsFirstOfRight, length-word_of, IsWord-word_of, value-word_of, value-node, value-next, next-below}
+use Rattle.word_image.proofs.Common.{cases_eq, get_or_at, All-take, LocalRule, IsRule, value, word_of, node_count, HaveOneImage, IsRightAhead, next, label, pair_of, BeginTogether, PairGoes, IsFirstOfRight, length-word_of, IsWord-word_of, value-word_of, value-node, value-next, next-below}
 use Rattle.word_image.specs.declared.side.Side.TheVariants.{Right}
 use Rattle.pair_laws.proofs.Edges.{image-first, value-first, HaveOneImage-none, HaveOneImage-push}
 use Rattle.pair_laws.proofs.Joins.{HaveOneImage-take, HaveOneImage-join}
@@ -19,10 +19,10 @@ get_or-letter d z a rest e = ap (λ y. get_or y d 0) (append_assoc z (a ∷ []) 
 pub BeginTogether-ahead : {r : LocalRule} {n : ℕ} → IsRule r → IsRightAhead r n → (u a b : ℕ) → u < node_count r → a < r.states → b < r.states
     → a ≢ b → label r u a ≡ label r u b → ¬ BeginTogether r (next r u a) (next r u b) (n - 1)
 BeginTogether-ahead {r} {n} rule ahead u a b hu ha hb different l h =
-    let z : List ℕ = word_of r.states (r.width - 1) u in
-    let word : IsWord r.states z = IsWord-word_of r.states (r.width - 1) u hu in
-    let long : length z ≡ r.width - 1 = length-word_of r.states (r.width - 1) u in
-    let node : value r.states z ≡ u = value-word_of r.states (r.width - 1) u hu in
+    let z = word_of r.states (r.width - 1) u in
+    let word = IsWord-word_of r.states (r.width - 1) u hu in
+    let long = length-word_of r.states (r.width - 1) u in
+    let node = value-word_of r.states (r.width - 1) u hu in
     let edges : HaveOneImage r 1 (z ++ a ∷ []) (z ++ b ∷ []) =
     HaveOneImage-push {j = 0} rule (omega arith) (HaveOneImage-none r z z word word long long) a b ha hb (rw (node) l) in
     let first : value r.states (drop 1 (z ++ a ∷ [])) ≡ value r.states (take (r.width - 1) h.x) = value-next rule 0 z a word (omega arith) ha ∙ ap (λ c. next r c a) node ∙ sym h.first in

@@ -1,6 +1,6 @@
 -- When there is a determined window or a look-ahead at all: no two different nodes are endless both ways, and no first pair is endless.
-use Rattle.std.proofs.Common.{◌≡◌, ◌≢◌, ℕ, zero, suc, ◌+◌, ◌-◌, ◌<◌, ◌≤◌, ◌↔◌, Some, min, List, [], ◌∷◌, ◌++◌, length, take, drop, slice_index, refl, sym, ap, subst, ◌∙◌, ⊎_elim, arith, length-drop, ext_get_or, take_all}
-use Rattle.word_image.proofs.Common.{length_push, get_or_append_left, All-push, LocalRule, IsRule, IsWord, value, word_of, node_count, IsDetermined, IsRightAhead, next, follow, pair_of, first_of, second_of, pair_count, node_letter, PairGoes, seen_from, IsFirstOf, IsEndless, length-word_of, IsWord-word_of, value-word_of, value-next, next-below, pair_count_pos}
+use Rattle.std.proofs.Common.{◌≡◌, ◌≢◌, ℕ, zero, suc, ◌+◌, ◌-◌, ◌<◌, ◌≤◌, ◌↔◌, Some, min, [], ◌∷◌, ◌++◌, drop, slice_index, refl, sym, ap, subst, ◌∙◌, ⊎_elim, arith, length-drop, ext_get_or, take_all}
+use Rattle.word_image.proofs.Common.{length_push, get_or_append_left, All-push, LocalRule, IsRule, value, word_of, node_count, IsDetermined, IsRightAhead, next, follow, pair_of, first_of, second_of, pair_count, node_letter, PairGoes, seen_from, IsFirstOf, IsEndless, length-word_of, IsWord-word_of, value-word_of, value-next, next-below, pair_count_pos}
 use Rattle.word_image.specs.declared.side.Side.{Side}
 use Rattle.word_image.specs.declared.side.Side.TheVariants.{Right, Left}
 use Rattle.pair_laws.specs.FirstWindows.{HasEndlessFirst}
@@ -15,13 +15,12 @@ use Rattle.pair_laws.proofs.Endless.{Together-endless, PairGoes-endless_step}
 -- a letter of a node further on is a letter of the node to which it leads
 pub node_letter-next : {r : LocalRule} → IsRule r → (u a i : ℕ) → u < node_count r → a < r.states → i + 1 < r.width - 1 → node_letter r (next r u a) i ≡ node_letter r u (i + 1)
 node_letter-next {r} rule u a i hu ha l =
-    let z : List ℕ = word_of r.states (r.width - 1) u in
-    let word : IsWord r.states z = IsWord-word_of r.states (r.width - 1) u hu in
-    let long : length z ≡ r.width - 1 = length-word_of r.states (r.width - 1) u in
-    let more : length (z ++ a ∷ []) ≡ length z + 1 = length_push z a in
+    let z = word_of r.states (r.width - 1) u in
+    let word = IsWord-word_of r.states (r.width - 1) u hu in
+    let long = length-word_of r.states (r.width - 1) u in
+    let more = length_push z a in
     let place : 1 + i ≡ i + 1 = omega arith in
-    let at : value r.states (take (r.width - 1) (drop 1 (z ++ a ∷ []))) ≡ next r u a =
-    ap (value r.states) (take_all (r.width - 1) (drop 1 (z ++ a ∷ [])) (omega (arith, length-drop 1 (z ++ a ∷ []))))
+    let at = ap (value r.states) (take_all (r.width - 1) (drop 1 (z ++ a ∷ [])) (omega (arith, length-drop 1 (z ++ a ∷ []))))
     ∙ value-next rule 0 z a word (omega arith) ha ∙ ap (λ n. next r n a) (value-word_of r.states (r.width - 1) u hu) in
     node_letter-at r (next r u a) 1 i (z ++ a ∷ []) (All-push (λ c. c < r.states) z a word ha) (omega arith) at (omega arith)
     ∙ ap (slice_index (z ++ a ∷ [])) place ∙ get_or_append_left z (a ∷ []) 0 (i + 1) (omega arith)
@@ -99,7 +98,7 @@ pub IsDetermined-not_both_ways : {r : LocalRule} {n c : ℕ} → IsRule r → Is
 IsDetermined-not_both_ways {r} {n} {c} rule h p different endless =
     let nodes = Together-below Right _ _ _ _ (endless.begins 0) in
     let found = node_letter-different r (first_of r p) (second_of r p) nodes.0 nodes.1 different in
-    let first : DifferBothWays r 0 = differ_first rule found.0 found.1 (record { pair = p; endless = endless; different = found.2 }) in
+    let first = differ_first rule found.0 found.1 (record { pair = p; endless = endless; different = found.2 }) in
     let d : DifferBothWays r (c - min c n) = differ_each rule (c - min c n) (omega arith) first in
     ((IsDetermined-pairs rule n c).0 h).2 d.pair (pair-below rule d.pair (Together-below Right _ _ _ _ (d.endless.begins 0)).0) d.different (d.endless.ends (min c n)) (d.endless.begins (n - min c n))
 

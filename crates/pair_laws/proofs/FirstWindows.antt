@@ -1,47 +1,11 @@
 -- The first pairs of a side are the ends of two windows that differ in their last letter on that side alone and have one label.
 use Rattle.std.proofs.Common.{◌≡◌, ℕ, ◌+◌, ◌-◌, ◌*◌, ◌/◌, ◌%◌, ◌^◌, ◌<◌, drop, slice_index, sym, ap, ap₂, ◌∙◌, subst, arith, mul_comm, mod-lt, div-add-mod'}
-use Rattle.word_image.proofs.Common.{mul-add-lt, div_below, div-mul-add, mod-mul-add, LocalRule, IsRule, node_count, value, word_of, next, label, node_letter, pair_of, first_of, second_of, pair_count, IsFirstOfRight, IsFirstOfLeft, IsFirstOf, value-word_of, node_count_pos, windows-nodes, rest_count, node_count-rest, window_parts, node_parts, end_node}
+use Rattle.word_image.proofs.Common.{mul-add-lt, div_below, div-mul-add, mod-mul-add, LocalRule, IsRule, node_count, value, word_of, next, label, node_letter, pair_of, first_of, second_of, pair_count, IsFirstOfLeft, IsFirstOf, value-word_of, node_count_pos, windows-nodes, rest_count, node_count-rest, window_parts, node_parts, end_node}
 use Rattle.pair_laws.proofs.Edges.{rest_count_pos, next-digits}
 use Rattle.pair_laws.proofs.Pairs.{first_of-pair_of, second_of-pair_of, pair_of-below, pair_of-first_of, first_of-below, second_of-below}
 use Rattle.word_image.specs.declared.side.Side.{Side}
 use Rattle.word_image.specs.declared.side.Side.TheVariants.{Right, Left}
 use Rattle.pair_laws.specs.FirstWindows.{with_end, end_pair, AreFirst}
-
--- two windows that differ in their last letter alone lead to a first pair of the right
-right-first : {r : LocalRule} → IsRule r → (w a : ℕ) → AreFirst Right r w a → IsFirstOfRight r (end_pair Right r w a)
-right-first {r} rule w a h =
-    let k : ℕ = r.states in
-    let some : 0 < k = omega (arith, rule.shape.least_states) in
-    let split : w / k * k + w % k ≡ w = div-add-mod' w k in
-    record {
-      node = w / k;
-      a = w % k;
-      b = a;
-      in_nodes = div_below w k (node_count r) some (subst (λ n. w < n) (windows-nodes rule) h.window);
-      a_letter = mod-lt w some;
-      b_letter = h.letter;
-      different = λ e. h.different (sym split ∙ ap (λ b. w / k * k + b) e);
-      one_label = ap (slice_index r.table) split ∙ h.one_label;
-      pair = ap (λ v. pair_of r (v % node_count r) (next r (w / k) a)) (sym split);
-    }
-
--- each first pair of the right is led to by two windows that differ in their last letter alone
-first-right : {r : LocalRule} {p : ℕ} → IsRule r → IsFirstOfRight r p → (w : ℕ) × (a : ℕ) × AreFirst Right r w a × (p ≡ end_pair Right r w a)
-first-right {r} {p} rule f =
-    let k : ℕ = r.states in
-    let w : ℕ = f.node * k + f.a in
-    let node : w / k ≡ f.node = div-mul-add f.node k f.a f.a_letter in
-    let other : with_end Right r w f.b ≡ f.node * k + f.b = ap (λ u. u * k + f.b) node in (
-      w,
-      f.b,
-      record {
-        window = subst (λ n. w < n) (mul_comm k (node_count r) ∙ sym (windows-nodes rule)) (mul-add-lt f.node k f.a (node_count r) f.in_nodes f.a_letter);
-        letter = f.b_letter;
-        different = λ e. f.different (let same : f.node * k + f.a ≡ f.node * k + f.b = e ∙ other in omega arith);
-        one_label = f.one_label ∙ ap (slice_index r.table) (sym other);
-      },
-      f.pair ∙ ap (λ v. pair_of r (next r f.node f.a) (v % node_count r)) (sym other),
-    )
 
 -- the letter, the word of m - 2 letters and the letter of which a window is made
 record Parts (r : LocalRule) (w : ℕ) : Type 0 where
@@ -60,9 +24,9 @@ parts_of {r} rule w below =
     let k : ℕ = r.states in
     let some : 0 < k = omega (arith, rule.shape.least_states) in
     let x : ℕ = w % node_count r in
-    let inside : x < node_count r = mod-lt w (node_count_pos rule) in
-    let split : x / k * k + x % k ≡ x = div-add-mod' x k in
-    let whole : w / node_count r * node_count r + x ≡ w = div-add-mod' w (node_count r) in
+    let inside = mod-lt w (node_count_pos rule) in
+    let split = div-add-mod' x k in
+    let whole = div-add-mod' w (node_count r) in
     record {
       first = w / node_count r;
       rest = x / k;
@@ -74,12 +38,27 @@ parts_of {r} rule w below =
       back = sym split;
     }
 
--- the nodes of two windows that differ in their first letter alone are a first pair of the left
-left-first : {r : LocalRule} → IsRule r → (w a : ℕ) → AreFirst Left r w a → IsFirstOfLeft r (end_pair Left r w a)
-left-first {r} rule w a h =
+-- the ends of two first windows of a side are a first pair of the side
+pub IsFirst-ends : (side : Side) {r : LocalRule} → IsRule r → (w a : ℕ) → AreFirst side r w a → IsFirstOf side r (end_pair side r w a)
+IsFirst-ends Right {r} rule w a h =
+    let k : ℕ = r.states in
+    let some : 0 < k = omega (arith, rule.shape.least_states) in
+    let split = div-add-mod' w k in
+    record {
+      node = w / k;
+      a = w % k;
+      b = a;
+      in_nodes = div_below w k (node_count r) some (subst (λ n. w < n) (windows-nodes rule) h.window);
+      a_letter = mod-lt w some;
+      b_letter = h.letter;
+      different = λ e. h.different (sym split ∙ ap (λ b. w / k * k + b) e);
+      one_label = ap (slice_index r.table) split ∙ h.one_label;
+      pair = ap (λ v. pair_of r (v % node_count r) (next r (w / k) a)) (sym split);
+    }
+IsFirst-ends Left {r} rule w a h =
     let k : ℕ = r.states in
     let n : ℕ = node_count r in
-    let parts : Parts r w = parts_of rule w h.window in
+    let parts = parts_of rule w h.window in
     let u : ℕ = parts.first * rest_count r + parts.rest in
     let v : ℕ = a * rest_count r + parts.rest in
     let other : with_end Left r w a ≡ v * k + parts.last = ap (λ x. a * n + x) parts.back ∙ window_parts rule a parts.rest parts.last in
@@ -104,27 +83,40 @@ left-first {r} rule w a h =
     } in
     at (end_pair Left r w a) (ap₂ (pair_of r) first second)
 
--- each first pair of the left has the nodes of two windows that differ in their first letter alone
-first-left : {r : LocalRule} {p : ℕ} → IsRule r → IsFirstOfLeft r p → (w : ℕ) × (a : ℕ) × AreFirst Left r w a × (p ≡ end_pair Left r w a)
-first-left {r} {p} rule f =
+-- each first pair of a side has the ends of two windows that differ in one letter at the other side
+pub first_ends : (side : Side) {r : LocalRule} {p : ℕ} → IsRule r → IsFirstOf side r p → (w : ℕ) × (a : ℕ) × AreFirst side r w a × (p ≡ end_pair side r w a)
+first_ends Right {r} {p} rule f =
+    let k : ℕ = r.states in
+    let w : ℕ = f.node * k + f.a in
+    let node = div-mul-add f.node k f.a f.a_letter in
+    let other : with_end Right r w f.b ≡ f.node * k + f.b = ap (λ u. u * k + f.b) node in (
+      w,
+      f.b,
+      record {
+        window = subst (λ n. w < n) (mul_comm k (node_count r) ∙ sym (windows-nodes rule)) (mul-add-lt f.node k f.a (node_count r) f.in_nodes f.a_letter);
+        letter = f.b_letter;
+        different = λ e. f.different (let same : f.node * k + f.a ≡ f.node * k + f.b = e ∙ other in omega arith);
+        one_label = f.one_label ∙ ap (slice_index r.table) (sym other);
+      },
+      f.pair ∙ ap (λ v. pair_of r (next r f.node f.a) (v % node_count r)) (sym other),
+    )
+first_ends Left {r} {p} rule f =
     let k : ℕ = r.states in
     let n : ℕ = node_count r in
     let d : ℕ = rest_count r in
     let u : ℕ = first_of r p in
     let v : ℕ = second_of r p in
-    let some : 0 < d = rest_count_pos rule in
-    let hu : u < n = first_of-below rule p f.in_pairs in
-    let hv : v < n = second_of-below rule p in
+    let some = rest_count_pos rule in
+    let hu = first_of-below rule p f.in_pairs in
+    let hv = second_of-below rule p in
     let word : (c : ℕ) → c % d < d = λ c. mod-lt c some in
-    let one_rest : u % d ≡ v % d =
-    sym (value-word_of k (r.width - 2) (u % d) (word u))
+    let one_rest = sym (value-word_of k (r.width - 2) (u % d) (word u))
     ∙ ap (value k) (sym (node_parts rule u).1 ∙ f.same_rest ∙ (node_parts rule v).1)
     ∙ value-word_of k (r.width - 2) (v % d) (word v) in
-    let split_u : u / d * d + u % d ≡ u = div-add-mod' u d in
-    let split_v : v / d * d + v % d ≡ v = div-add-mod' v d in
+    let split_v = div-add-mod' v d in
     let w : ℕ = u * k + f.letter in
     let a : ℕ = v / d in
-    let back : w % n ≡ u % d * k + f.letter = next-digits rule u f.letter f.in_letters in
+    let back = next-digits rule u f.letter f.in_letters in
     let other : with_end Left r w a ≡ v * k + f.letter =
     ap (λ x. a * n + x) (back ∙ ap (λ c. c * k + f.letter) one_rest) ∙ window_parts rule a (v % d) f.letter ∙ ap (λ c. c * k + f.letter) split_v in (
       w,
@@ -141,13 +133,3 @@ first-left {r} {p} rule f =
       sym (pair_of-first_of r p)
           ∙ ap₂ (pair_of r) (sym (div-mul-add u k f.letter f.in_letters)) (sym (ap (λ c. c / k) other ∙ div-mul-add v k f.letter f.in_letters)),
     )
-
--- the ends of two first windows of a side are a first pair of the side
-pub IsFirst-ends : (side : Side) {r : LocalRule} → IsRule r → (w a : ℕ) → AreFirst side r w a → IsFirstOf side r (end_pair side r w a)
-IsFirst-ends Right rule w a h = right-first rule w a h
-IsFirst-ends Left rule w a h = left-first rule w a h
-
--- each first pair of a side has the ends of two windows that differ in one letter at the other side
-pub first_ends : (side : Side) {r : LocalRule} {p : ℕ} → IsRule r → IsFirstOf side r p → (w : ℕ) × (a : ℕ) × AreFirst side r w a × (p ≡ end_pair side r w a)
-first_ends Right rule f = first-right rule f
-first_ends Left rule f = first-left rule f

@@ -50,8 +50,7 @@ get_or_push_node {r} rule u j x c h e at =
 pub EndTogether-ahead : {r : LocalRule} {n u v : ℕ} → IsRule r → IsLeftAhead r n → IsLeftPair r u v → ¬ EndTogether r u v (n - 1)
 EndTogether-ahead {r} {n} {u} {v} rule ahead f h =
     let words = (IsLeftAhead-words rule n).0 ahead in
-    let labels : label r (value r.states (drop (n - 1) h.x)) f.letter ≡ label r (value r.states (drop (n - 1) h.y)) f.letter =
-    ap (λ s. label r s f.letter) h.first ∙ f.one_label ∙ ap (λ s. label r s f.letter) (sym h.second) in
+    let labels = ap (λ s. label r s f.letter) h.first ∙ f.one_label ∙ ap (λ s. label r s f.letter) (sym h.second) in
     let whole : HaveOneImage r n (h.x ++ f.letter ∷ []) (h.y ++ f.letter ∷ []) = HaveOneImage-push rule (omega arith) h.one_image f.letter f.letter f.in_letters f.in_letters labels in
     f.different (sym (get_or_push_node rule u (n - 1) h.x f.letter h.one_image.first h.one_image.first_long h.first)
     ∙ words.1 _ _ whole (drop_push rule u (n - 1) n h.x f.letter h.one_image.first h.one_image.first_long h.first (omega arith)
@@ -69,8 +68,7 @@ node_rest {r} rule j n x e h long =
 -- the last letter of a word
 last_letter : {r : LocalRule} → IsRule r → (j n : ℕ) (x : List ℕ) → j + 1 ≡ n → get_or (drop j x) (r.width - 1) 0 ≡ get_or (drop n x) (r.width - 1 - 1) 0
 last_letter {r} rule j n x e =
-    let place : j + (r.width - 1) ≡ n + (r.width - 1 - 1) = omega arith in
-    get_or-drop j x (r.width - 1) 0 ∙ ap (slice_index x) place ∙ sym (get_or-drop n x (r.width - 1 - 1) 0)
+    get_or-drop j x (r.width - 1) 0 ∙ ap (slice_index x) (omega arith) ∙ sym (get_or-drop n x (r.width - 1 - 1) 0)
 
 -- where no two nodes of a left pair end together for n - 1, a rule looks ahead to the left for n
 pub IsLeftAhead-apart : {r : LocalRule} {n : ℕ} → IsRule r → 1 ≤ n
@@ -82,9 +80,9 @@ IsLeftAhead-apart {r} {n} rule some apart = (IsLeftAhead-words rule n).1 (
       let place : n - 1 + 0 ≡ n - 1 = omega arith in
       let u : ℕ = value r.states (take (r.width - 1) (drop (n - 1) x)) in
       let v : ℕ = value r.states (take (r.width - 1) (drop (n - 1) y)) in
-      let ends : EndTogether r u v (n - 1) = HaveOneImage-end rule (n - 1) 1 n before h in
+      let ends = HaveOneImage-end rule (n - 1) 1 n before h in
       let nodes = Together-below Left _ _ _ _ ends in
-      let window : HaveOneImage r 1 (drop (n - 1) x) (drop (n - 1) y) = HaveOneImage-drop (n - 1) 1 n before h in
+      let window = HaveOneImage-drop (n - 1) 1 n before h in
       let letters : get_or (drop (n - 1) x) (r.width - 1) 0 ≡ get_or (drop (n - 1) y) (r.width - 1) 0 =
       last_letter rule (n - 1) n x before ∙ ap (λ z. get_or z (r.width - 1 - 1) 0) same ∙ sym (last_letter rule (n - 1) n y before) in
       let label_x = image-one rule (drop (n - 1) x) window.first_long in

@@ -28,14 +28,14 @@ value-reverse r z h e = ap (λ y. value r.states (reverse y)) (sym (word_of-valu
 -- a mirrored node is a node
 pub mirror_node-below : (r : LocalRule) (u : ℕ) → u < node_count r → mirror_node r u < node_count r
 mirror_node-below r u h =
-    let z : List ℕ = word_of r.states (r.width - 1) u in
+    let z = word_of r.states (r.width - 1) u in
     value-node r (reverse z) (IsWord-reverse r.states z (IsWord-word_of r.states (r.width - 1) u h)) (length-reverse z ∙ length-word_of r.states (r.width - 1) u)
 
 -- mirrored twice, a node is itself
 pub mirror_node-mirror_node : (r : LocalRule) (u : ℕ) → u < node_count r → mirror_node r (mirror_node r u) ≡ u
 mirror_node-mirror_node r u h =
-    let z : List ℕ = word_of r.states (r.width - 1) u in
-    let word : IsWord r.states (reverse z) = IsWord-reverse r.states z (IsWord-word_of r.states (r.width - 1) u h) in
+    let z = word_of r.states (r.width - 1) u in
+    let word = IsWord-reverse r.states z (IsWord-word_of r.states (r.width - 1) u h) in
     sym (value-reverse r (reverse z) word (length-reverse z ∙ length-word_of r.states (r.width - 1) u))
     ∙ ap (value r.states) (reverse-reverse z) ∙ value-word_of r.states (r.width - 1) u h
 
@@ -98,11 +98,9 @@ IsLeftAhead-words {r} rule n = (
     some = words.0;
     letter = λ x y h same.
         let back : HaveOneImage r n (reverse x) (reverse y) = subst (λ (s : LocalRule). HaveOneImage s n (reverse x) (reverse y)) (mirrored-mirrored rule) (HaveOneImage-reverse (IsRule-mirrored rule) h) in
-        let place : length x - 1 - (n - 1) ≡ r.width - 1 = omega arith in
-        let place_y : length y - 1 - (n - 1) ≡ r.width - 1 = omega arith in
-        ap (slice_index x) (sym place) ∙ sym (get_or-reverse x (n - 1) 0 (omega arith))
+        ap (slice_index x) (sym (omega arith)) ∙ sym (get_or-reverse x (n - 1) 0 (omega arith))
         ∙ words.1 (reverse x) (reverse y) back
         ((reverse-cut (r.width - 1) n x (omega arith)).1 ∙ ap reverse same ∙ sym (reverse-cut (r.width - 1) n y (omega arith)).1)
-        ∙ get_or-reverse y (n - 1) 0 (omega arith) ∙ ap (slice_index y) place_y;
+        ∙ get_or-reverse y (n - 1) 0 (omega arith) ∙ ap (slice_index y) (omega arith);
   }),
 )

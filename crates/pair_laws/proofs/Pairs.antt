@@ -52,11 +52,7 @@ follow-some r p a b q e = some_if_equal (label r (first_of r p) a) (label r (sec
 
 -- where the pair of two nodes leads
 pub follow-pair_of : (r : LocalRule) (u v a b : ℕ) → v < node_count r → label r u a ≡ label r v b → follow r (pair_of r u v) a b ≡ Some (pair_of r (next r u a) (next r v b))
-follow-pair_of r u v a b h e =
-    let first : first_of r (pair_of r u v) ≡ u = first_of-pair_of r u v h in
-    let second : second_of r (pair_of r u v) ≡ v = second_of-pair_of r u v h in
-    follow-edges r (pair_of r u v) a b (ap (λ s. label r s a) first ∙ e ∙ ap (λ t. label r t b) (sym second))
-    ∙ ap₂ (λ (s t : ℕ). Some (pair_of r (next r s a) (next r t b))) first second
+follow-pair_of r u v a b h e = grind (arith, first_of-pair_of, second_of-pair_of, follow-edges)
 
 -- where a pair of nodes leads is a pair of nodes
 pub follow-below : {r : LocalRule} → IsRule r → (p a b q : ℕ) → follow r p a b ≡ Some q → q < pair_count r

@@ -38,10 +38,7 @@ Together-less Left rule u v i n l h = LeadTogether-end (LeadTogether-cut rule (n
 
 -- what holds for less has one rank
 pub IsRank-one : (P : ℕ → Type 0) → ((i n : ℕ) → i ≤ n → P n → P i) → (m n : ℕ) → IsRank P m → IsRank P n → m ≡ n
-IsRank-one P less m n first second =
-    let below : ¬ (m < n) = λ l. first.no_more (less (m + 1) n (omega arith) second.holds) in
-    let above : ¬ (n < m) = λ l. second.no_more (less (n + 1) m (omega arith) first.holds) in
-    omega (arith, below, above)
+IsRank-one P less m n first second = grind (arith)
 
 -- two nodes that begin together for one more lead along edges with one label to two that begin together
 pub BeginTogether-step : {r : LocalRule} {u v n j : ℕ} → IsRule r → 1 + j ≡ n → BeginTogether r u v n

@@ -43,7 +43,7 @@ IsBitSet-apart a b i none first second = IsBitSet-zero i (subst (λ c. IsBitSet 
 -- what one set has and another doesn't
 pub IsBitSet-minus : (a b i : ℕ) → b < 2 ^ 16 → i < 16 → IsBitSet (bit_and a (65535 - b)) i ↔ (IsBitSet a i × ¬ IsBitSet b i)
 IsBitSet-minus a b i small inside =
-    let other : bit_at (65535 - b) i ≡ 1 - bit_at b i = bit_at_not w16 b i small inside in
+    let other = bit_at_not w16 b i small inside in
     let both = IsBitSet-and a (65535 - b) i in (
       (λ some. let (first, second) = both.0 some in (
         first,

@@ -86,12 +86,12 @@ LeadTogether-last {r} {n = n} h = (
 -- from two nodes a walk of no step leads to them
 pub LeadTogether-none : (r : LocalRule) (u v : ℕ) → u < node_count r → v < node_count r → LeadTogether r u v 0 u v
 LeadTogether-none r u v hu hv =
-    let z : List ℕ = word_of r.states (r.width - 1) u in
-    let w : List ℕ = word_of r.states (r.width - 1) v in
-    let z_long : length z ≡ r.width - 1 = length-word_of r.states (r.width - 1) u in
-    let w_long : length w ≡ r.width - 1 = length-word_of r.states (r.width - 1) v in
-    let z_value : value r.states z ≡ u = value-word_of r.states (r.width - 1) u hu in
-    let w_value : value r.states w ≡ v = value-word_of r.states (r.width - 1) v hv in
+    let z = word_of r.states (r.width - 1) u in
+    let w = word_of r.states (r.width - 1) v in
+    let z_long = length-word_of r.states (r.width - 1) u in
+    let w_long = length-word_of r.states (r.width - 1) v in
+    let z_value = value-word_of r.states (r.width - 1) u hu in
+    let w_value = value-word_of r.states (r.width - 1) v hv in
     record {
       x = z;
       y = w;
@@ -127,7 +127,7 @@ pub LeadTogether-one : {r : LocalRule} {u v s t : ℕ} → IsRule r → LeadToge
 LeadTogether-one {r} {u} {v} {s} {t} rule h =
     let a : ℕ = get_or h.x (r.width - 1) 0 in
     let b : ℕ = get_or h.y (r.width - 1) 0 in
-    let first : image r h.x ≡ label r u a ∷ [] = image-one rule h.x h.one_image.first_long ∙ ap (λ n. label r n a ∷ []) h.first in
+    let first = image-one rule h.x h.one_image.first_long ∙ ap (λ n. label r n a ∷ []) h.first in
     let second : image r h.y ≡ label r v b ∷ [] = image-one rule h.y h.one_image.second_long ∙ ap (λ n. label r n b ∷ []) h.second in (
       a,
       b,

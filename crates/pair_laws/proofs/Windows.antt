@@ -13,7 +13,7 @@ pub node_letter-at : (r : LocalRule) (u j i : ℕ) (x : List ℕ) → IsWord r.s
 node_letter-at r u j i x h long at l =
     let z : List ℕ = take (r.width - 1) (drop j x) in
     let z_long : length z ≡ r.width - 1 = length-take-le (r.width - 1) (drop j x) (omega (arith, length-drop j x)) in
-    let word : word_of r.states (length z) (value r.states z) ≡ z = word_of-value r.states z (All-take (λ a. a < r.states) (r.width - 1) (drop j x) (All-drop (λ a. a < r.states) j x h)) in
+    let word = word_of-value r.states z (All-take (λ a. a < r.states) (r.width - 1) (drop j x) (All-drop (λ a. a < r.states) j x h)) in
     ap₂ (λ (d v : ℕ). get_or (word_of r.states d v) i 0) (sym z_long) (sym at) ∙ ap (λ y. get_or y i 0) word
     ∙ get_or-take (r.width - 1) (drop j x) i 0 l ∙ get_or-drop j x i 0
 

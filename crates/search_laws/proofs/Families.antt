@@ -46,7 +46,7 @@ family_with : {r : LocalRule} {tree : List (Place ℕ)} {e : ℕ} → IsRule r �
     → ((i : ℕ) (x : Place ℕ) → i + 1 < length tree → slice_get tree i ≡ Some x → x.state ≢ 0) → HasAllSets r (states_of tree) → IsFamily r (states_of tree)
 family_with {r} {tree} rule q some all =
     let words = chosen tree (TreeSpells tree) (TreeSpells-some q.fills) in
-    let long : length (states_of tree) ≡ length words.0 = length-map tree (λ x. x.state) ∙ words.1 in
+    let long = length-map tree (λ x. x.state) ∙ words.1 in
     record {
       words = words.0;
       each = AllZip-places (IsLeastWordOf r) (states_of tree) words.0 long (λ i set w at also.

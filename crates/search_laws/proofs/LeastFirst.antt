@@ -1,5 +1,5 @@
 -- Breadth first finds least words: the word that is spelled to a place is the first of all words that lead to its state.
-use Rattle.std.proofs.Common.{◌≡◌, ◌≢◌, ℕ, suc, ◌+◌, ◌*◌, ◌<◌, ◌≤◌, ◌⊎◌, inl, inr, List, [], ◌∷◌, ◌++◌, length, Some, sym, ap, subst, arith, ⊎_elim, slice_get, mul-le-mul_left, mul-le-mul_right, suc-mul, mul-one, Less, Greater}
+use Rattle.std.proofs.Common.{◌≡◌, ◌≢◌, ℕ, ◌+◌, ◌*◌, ◌<◌, ◌≤◌, ◌⊎◌, inl, inr, List, [], ◌∷◌, ◌++◌, length, Some, sym, ap, subst, arith, ⊎_elim, slice_get, mul-le-mul_left, mul-le-mul_right, suc-mul, mul-one, Less, Greater}
 use Rattle.word_image.proofs.Common.{cases_lt, slice_get_within, word_cmp}
 use Rattle.search_laws.specs.SearchQueues.{Place, TreeSpells, IsQueue}
 use Rattle.search_laws.specs.SearchQueues.TreeSpells.{Root}
@@ -34,7 +34,7 @@ pub record IsLate (k : ℕ) (tree : List (Place ℕ)) (e : ℕ) (v : List ℕ) :
 reached_next : {Step : ℕ → ℕ → ℕ → Type 0} {k start : ℕ} {tree : List (Place ℕ)} {e : ℕ} → IsQueue Step k start tree e
     → (v : List ℕ) (a s t : ℕ) → a < k → Step s a t → IsReachedNoLater k tree v s → IsReachedNoLater k tree (v ++ a ∷ []) t ⊎ IsLate k tree e (v ++ a ∷ [])
 reached_next {Step} {k} {start} {tree} {e} q v a s t letter step h =
-    let no_later : word_number k h.word * k ≤ word_number k v * k = mul-le-mul_right k h.no_later in
+    let no_later = mul-le-mul_right k h.no_later in
     let longer = word_number-snoc k v a in
     ⊎_elim
     (λ followed.
@@ -88,7 +88,7 @@ IsLeastTo-spelled {k = k} {tree = tree} {w = w} q s x at =
       least = λ v other. word_cmp-not_greater k w v leads.word other.word (⊎_elim
           (λ reached.
           let same = q.apart reached.at _ reached.place x reached.stands at reached.of_state in
-          let one : reached.word ≡ w = TreeSpells-unique (subst (λ n. TreeSpells tree n reached.word) same reached.spells) s in
+          let one = TreeSpells-unique (subst (λ n. TreeSpells tree n reached.word) same reached.spells) s in
           let number : word_number k reached.word ≡ word_number k w = ap (word_number k) one in
           omega (arith, reached.no_later))
           (λ late. omega (arith, late_after q s x at late))
@@ -102,7 +102,7 @@ reached_all {k = k} {tree = tree} q all v t leads =
     ⊎_elim
     (λ reached. reached)
     (λ late.
-    let next : suc late.at * k ≤ length tree * k = mul-le-mul_right k (slice_get_within tree late.at late.place late.stands) in
+    let next = mul-le-mul_right k (slice_get_within tree late.at late.place late.stands) in
     absurd (omega (arith, suc-mul late.at k, late.below, late.not_yet)))
     (reached_or_late q v t leads)
 

@@ -1,5 +1,5 @@
 -- The first edge of a breadth first queue that leads to a state, and the first word of at least one letter that does.
-use Rattle.std.proofs.Common.{◌≡◌, ◌≢◌, ℕ, suc, ◌+◌, ◌*◌, ◌<◌, ◌≤◌, List, [], ◌∷◌, ◌++◌, length, Some, refl, sym, ap, subst, arith, ⊎_elim, slice_get, mul-le-mul_left, mul-le-mul_right, suc-mul, mul-one, Greater}
+use Rattle.std.proofs.Common.{◌≡◌, ◌≢◌, ℕ, ◌+◌, ◌*◌, ◌<◌, ◌≤◌, List, [], ◌∷◌, ◌++◌, length, Some, refl, sym, ap, subst, arith, ⊎_elim, slice_get, mul-le-mul_left, mul-le-mul_right, suc-mul, mul-one, Greater}
 use Rattle.word_image.proofs.Common.{cases_lt, slice_get_within, length_push, word_cmp}
 use Rattle.search_laws.specs.SearchQueues.{Place, TreeSpells, IsQueue, filled, NoEdgeBefore}
 use Rattle.search_laws.specs.Walks.{Leads}
@@ -12,27 +12,17 @@ use Rattle.search_laws.proofs.LeastFirst.{reached_or_late, reached_all}
 -- no edge to a state comes before the one that first led to it
 pub filled-least : {Step : ℕ → ℕ → ℕ → Type 0} {k start : ℕ} {tree : List (Place ℕ)} {e : ℕ} → IsQueue Step k start tree e
     → (i j b : ℕ) (x y : Place ℕ) → slice_get tree i ≡ Some x → slice_get tree j ≡ Some y → b < k → Step y.state b x.state → filled k i x ≤ j * k + b + 1
-filled-least {k = k} {tree = tree} {e = e} q i j b x y at from letter step =
-    ⊎_elim
-    (λ followed.
-    let found = q.fills.done j b x.state y from letter followed step in
-    let same : found.0 ≡ i = q.apart found.0 i found.1 x found.2 at found.3 in
-    let alike : found.1 ≡ x = let there = subst (λ n. slice_get tree n ≡ Some found.1) same found.2 in cc in
-    let early : filled k i x ≤ j * k + b + 1 = subst (λ z. filled k i z ≤ j * k + b + 1) alike (subst (λ n. filled k n found.1 ≤ j * k + b + 1) same found.4) in
-    early)
-    (λ yet. omega (arith, q.fills.so_far i x at))
-    (cases_lt (j * k + b) e)
+filled-least {k = k} {tree = tree} {e = e} q i j b x y at from letter step = grind (arith, cases_lt)
 
 -- a state's parent is the first place from which a step leads to it, and its letter the first on which one does from there
 pub parent-least : {Step : ℕ → ℕ → ℕ → Type 0} {k start : ℕ} {tree : List (Place ℕ)} {e : ℕ} → IsQueue Step k start tree e
     → (i j b : ℕ) (x y : Place ℕ) → 0 < i → slice_get tree i ≡ Some x → slice_get tree j ≡ Some y → b < k → Step y.state b x.state
     → (x.parent ≤ j) × (x.parent ≡ j → x.letter ≤ b)
 parent-least {k = k} q i j b x y positive at from letter step =
-    let branch = q.fills.branches i x positive at in
     let least : x.parent * k + x.letter ≤ j * k + b = omega (arith, filled-least q i j b x y at from letter step, filled-later k i x positive) in (
       ⊎_elim
           (λ past.
-          let next : suc j * k ≤ x.parent * k = mul-le-mul_right k past in
+          let next = mul-le-mul_right k past in
           absurd (omega (arith, suc-mul j k)))
           (λ l. l)
           (cases_lt j x.parent),
@@ -57,7 +47,7 @@ first_edge {Step} {k} {e = e} {w = w} q s x at n letter edge goal none v some le
     (λ reached.
     let later : ¬ (reached.at * k + a < e) = λ early. none reached.at a t reached.place reached.stands below early (subst (λ z. Step z a t) (sym reached.of_state) step) is in
     let order = edges-ascending q.fills s reached.spells x at n a letter below (⊎_elim (λ early. absurd (later early)) (λ l. omega arith) (cases_lt (reached.at * k + a) e)) in
-    let more : word_number k reached.word * k ≤ word_number k u * k = mul-le-mul_right k reached.no_later in
+    let more = mul-le-mul_right k reached.no_later in
     omega arith)
     (λ late.
     let order = edges-ascending q.fills s late.spells x at n late.letter letter late.below (omega (arith, late.not_yet)) in
@@ -70,7 +60,7 @@ pub IsLeastStepsTo-edge : {Step : ℕ → ℕ → ℕ → Type 0} {k start : ℕ
     → TreeSpells tree h w → (x : Place ℕ) → slice_get tree h ≡ Some x → (n : ℕ) → n < k → e ≡ h * k + n → (t : ℕ) → NoEdgeBefore Step k tree e t → Step x.state n t
     → IsLeastStepsTo Step k start t (w ++ n ∷ [])
 IsLeastStepsTo-edge {Step} {k} {start} {w = w} q s x at n letter edge t none step =
-    let leads : Leads Step k start (w ++ n ∷ []) t = Leads-push (Leads-spelled q.fills s x at) letter step in
+    let leads = Leads-push (Leads-spelled q.fills s x at) letter step in
     record {
       some = omega (arith, length_push w n);
       leads = leads;
@@ -85,6 +75,6 @@ no_steps_to {Step} {k} {tree = tree} q all goal none v some leads =
     Leads-induct (λ u t. 0 < length u → t ≢ goal) (λ some _. omega arith)
     (λ u a from t before below step _ _ is.
     let reached = reached_all q all u from before in
-    let next : suc reached.at * k ≤ length tree * k = mul-le-mul_right k (slice_get_within tree reached.at reached.place reached.stands) in
+    let next = mul-le-mul_right k (slice_get_within tree reached.at reached.place reached.stands) in
     none reached.at a t reached.place reached.stands below (omega (arith, suc-mul reached.at k)) (subst (λ z. Step z a t) (sym reached.of_state) step) is)
     v goal leads some refl

@@ -1,5 +1,5 @@
 -- Walks by letter pairs, the first of them found breadth first: a pair of letters is followed as one letter of a code.
-use Rattle.std.proofs.Common.{◌≡◌, ℕ, ◌+◌, ◌*◌, ◌/◌, ◌%◌, ◌^◌, ◌<◌, ◌≤◌, List, [], ◌∷◌, length, map, get_or, Option, Some, refl, sym, ap, ap₂, ◌∙◌, arith, ⊎_elim, pow-suc, one-mul, mul-one, mul_comm, nat_cmp, Ordering, Less, Equal, Greater, div-add-mod'}
+use Rattle.std.proofs.Common.{◌≡◌, ℕ, ◌+◌, ◌*◌, ◌/◌, ◌%◌, ◌<◌, ◌≤◌, List, [], ◌∷◌, length, map, get_or, Option, Some, refl, sym, ap, ap₂, ◌∙◌, arith, ⊎_elim, pow-suc, one-mul, mul-one, mul_comm, nat_cmp, Ordering, Less, Equal, Greater, div-add-mod'}
 use Rattle.word_image.proofs.Common.{ordering_then, nat_cmp_is, slice_cmp, pow-zero, mul-add-lt, div-mul-add, mod-mul-add, length-map, All-nil, All-cons, All-head, All-tail, All-map, IsWord, value, word_cmp, pair_cmp, pairs_cmp, slice_cmp-value}
 use Rattle.search_laws.specs.Walks.{Leads}
 use Rattle.search_laws.specs.PairWalks.{LetterPairStep, ArePairs, PairWalk, IsLeastWalk, uncode, CodeStep}
@@ -18,12 +18,7 @@ then_nothing Greater = refl
 
 -- the value of two letters
 value-pair : (n a b : ℕ) → value n (a ∷ b ∷ []) ≡ a * n + b
-value-pair n a b =
-    let one : n ^ 1 ≡ n = pow-suc n 0 ∙ ap (λ m. m * n) (pow-zero n) ∙ one-mul n in
-    let first : a * n ^ 1 ≡ a * n = ap (λ m. a * m) one in
-    let second : b * n ^ 0 ≡ b = ap (λ m. b * m) (pow-zero n) ∙ mul-one b in
-    let goal : a * n ^ 1 + (b * n ^ 0 + 0) ≡ a * n + b = omega arith in
-    goal
+value-pair n a b = grind (arith, pow-suc, pow-zero, one-mul, mul-one)
 
 -- letter pairs are compared as their numbers are
 pair_cmp-code : (n : ℕ) (p q : ℕ × ℕ) → (p.0 < n) × (p.1 < n) → (q.0 < n) × (q.1 < n) → pair_cmp p q ≡ nat_cmp (code n p) (code n q)

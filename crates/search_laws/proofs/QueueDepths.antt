@@ -13,12 +13,7 @@ pub record AreDepths (tree : List (Place ℕ)) (depth : ℕ → ℕ) : Type 0 wh
 
 -- of two rows of a table that begin one after the other the first is no later one
 row-le : (a b k m n : ℕ) → b < k → a * k + m ≤ n * k + b → a ≤ n
-row-le a b k m n inside before = ⊎_elim
-    (λ past.
-    let row : suc n * k ≤ a * k = mul-le-mul_right k past in
-    absurd (omega (arith, row, suc-mul n k, inside, before)))
-    (λ le. le)
-    (cases_lt n a)
+row-le a b k m n inside before = grind (arith, mul-le-mul_right, suc-mul, cases_lt)
 
 -- what was filled no later has no later parent
 parents-ascending : {Step : ℕ → ℕ → ℕ → Type 0} {k start : ℕ} {tree : List (Place ℕ)} {e : ℕ} → IsQueue Step k start tree e
@@ -61,7 +56,7 @@ reached_in_time {Step} {k} {tree = tree} {e = e} {depth = depth} {h = h} {most =
     let long = length_push v a in
     let (i, x, at, state, near) = reach (omega (arith, short, long)) in
     let inside : i < h = ⊎_elim (λ l. l) (λ past. absurd (omega (arith, b.deep i x past at, near, short, long))) (cases_lt i h) in
-    let row : suc i * k ≤ h * k = mul-le-mul_right k inside in
+    let row = mul-le-mul_right k inside in
     let edge : i * k + a < e = omega (arith, row, suc-mul i k, letter, b.followed) in
     let (j, y, there, reached, early) = q.fills.done i a t x at letter edge (subst (λ z. Step z a t) (sym state) step) in (
       j,
@@ -88,6 +83,6 @@ no_word_within {Step} {k} {e = e} {h = h} {most = most} {goal = goal} q d b none
     let long = length_push v a in
     let (i, x, at, state, near) = reached_in_time q d b v u before (omega (arith, short, long)) in
     let inside : i < h = ⊎_elim (λ l. l) (λ past. absurd (omega (arith, b.deep i x past at, near, short, long))) (cases_lt i h) in
-    let row : suc i * k ≤ h * k = mul-le-mul_right k inside in
+    let row = mul-le-mul_right k inside in
     none i a t x at letter (omega (arith, row, suc-mul i k, letter, b.followed)) (subst (λ z. Step z a t) (sym state) step) is)
     w goal leads some short refl

@@ -23,7 +23,7 @@ unmapped_at f (x ∷ xs) (suc i) y at = unmapped_at f xs i y at
 -- the state of a place is listed
 pub Contains-state : (tree : List (Place ℕ)) (i : ℕ) (x : Place ℕ) (set : ℕ) → slice_get tree i ≡ Some x → x.state ≡ set → Contains (states_of tree) set
 Contains-state tree i x set at same =
-    let there : slice_get (states_of tree) i ≡ Some set = mapped_at (λ y. y.state) tree i x at ∙ ap Some same in
+    let there = mapped_at (λ y. y.state) tree i x at ∙ ap Some same in
     (i, slice_get_within (states_of tree) i set there, get_or_from_slice_get (states_of tree) i set set there)
 
 -- a listed state has a place
@@ -38,8 +38,6 @@ pub state-all : {S : Type 0} {Step : S → ℕ → S → Type 0} {Met : S → �
 state-all {tree = tree} q P first steps i x at =
     ⊎_elim
     (λ none.
-    let root = q.root in
-    let here : slice_get tree 0 ≡ Some x = subst (λ j. slice_get tree j ≡ Some x) none at in
     let same : q.first ≡ x = cc in
     subst P (sym q.starts ∙ ap (λ z. z.state) same) first)
     (λ some. let b = q.branches i x (omega (arith, some)) at in steps b.parent.state x.letter x.state b.step)

@@ -13,7 +13,7 @@ pub HaveMet-next : {S : Type 0} (Step : S → ℕ → S → Type 0) (Met : S →
     → e ≡ h * k + n → n < k → slice_get tree h ≡ Some x → ((t : S) → Step x.state n t → Met t (e + 1)) → HaveMet Step Met k tree (e + 1)
 HaveMet-next Step Met k tree e h n x met edge below head next i a t y at letter less step = ⊎_elim
     (λ same.
-    let parts : (i ≡ h) × (a ≡ n) = same_from_place i a h n k letter below (same ∙ edge) in
+    let parts = same_from_place i a h n k letter below (same ∙ edge) in
     let alike : y ≡ x = let there = subst (λ j. slice_get tree j ≡ Some y) parts.0 at in cc in
     subst (λ f. Met t (f + 1)) (sym same) (next t (subst (λ b. Step x.state b t) parts.1 (subst (λ z. Step z.state a t) alike step))))
     (λ other. met i a t y at letter (omega (arith, other)) step)
@@ -31,7 +31,7 @@ HaveMet-push Step Met k tree e y met all i a t z at letter less step =
 -- an edge from a place of the list comes before all edges from places past its end
 pub edge-within : {S : Type 0} (k : ℕ) (tree : List (Place S)) (h n : ℕ) (x : Place S) → slice_get tree h ≡ Some x → n ≤ k → h * k + n ≤ length tree * k
 edge-within k tree h n x at most =
-    let next : suc h * k ≤ length tree * k = mul-le-mul_right k (slice_get_within tree h x at) in
+    let next = mul-le-mul_right k (slice_get_within tree h x at) in
     omega (arith, suc-mul h k)
 
 -- at the beginning the start stands alone
@@ -80,10 +80,10 @@ pub IsFilled-new : {S : Type 0} {Step : S → ℕ → S → Type 0} {Met More : 
     → (h n : ℕ) (x y : Place S) → e ≡ h * k + n → n < k → slice_get tree h ≡ Some x → y.parent ≡ h → y.letter ≡ n → Step x.state n y.state
     → ((t : S) (f : ℕ) → Met t f → More t f) → ((t : S) → Step x.state n t → filled k (length tree) y ≡ e + 1 → More t (e + 1)) → IsFilled Step More k start (tree ++ y ∷ []) (e + 1)
 IsFilled-new {Step = Step} {More = More} {k = k} {tree = tree} {e = e} q h n x y edge below head parent letter step stays met =
-    let within : h < length tree = slice_get_within tree h x head in
+    let within = slice_get_within tree h x head in
     let late : (i : ℕ) → i ≡ length tree → filled k i y ≡ e + 1 = λ i last.
     filled-later k i y (omega (arith, last)) ∙ ap₂ (λ (p l : ℕ). p * k + l + 1) parent letter ∙ ap (λ j. j + 1) (sym edge) in
-    let longer : (i : ℕ) (z : Place _) → slice_get tree i ≡ Some z → slice_get (tree ++ y ∷ []) i ≡ Some z = slice_get-append tree (y ∷ []) in
+    let longer = slice_get-append tree (y ∷ []) in
     record {
       first = q.first;
       root = longer 0 q.first q.root;

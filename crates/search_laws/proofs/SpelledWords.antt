@@ -35,7 +35,7 @@ TreeSpells-unique {tree = tree} (Branch i x v positive at before) s =
     (λ same. absurd (omega (arith, same.0)))
     (λ longer.
     let alike : longer.place ≡ x = let there = longer.stands in cc in
-    let fronts : v ≡ longer.front = TreeSpells-unique before (subst (λ z. TreeSpells tree z.parent longer.front) alike longer.before) in
+    let fronts = TreeSpells-unique before (subst (λ z. TreeSpells tree z.parent longer.front) alike longer.before) in
     ap₂ (λ (u : List ℕ) (z : Place _). u ++ z.letter ∷ []) fronts (sym alike) ∙ sym longer.splits)
     (TreeSpells-cases s)
 
@@ -77,7 +77,7 @@ digits-ascend : (p q l m k f g : ℕ) → m < k → p * k + l ≤ q * k + m → 
 digits-ascend p q l m k f g small most ascends same first =
     ⊎_elim
     (λ below.
-    let next : suc f * k ≤ g * k = mul-le-mul_right k (ascends below) in
+    let next = mul-le-mul_right k (ascends below) in
     omega (arith, suc-mul f k))
     (λ above. ⊎_elim
     (λ one.
@@ -102,11 +102,9 @@ before_edge {k = k} {tree = tree} {i = i} {w = w} q s lesser a letter j y v at s
     let b = q.branches j y longer.positive at in
     let alike : longer.place ≡ y = let there = longer.stands in cc in
     let front : TreeSpells tree y.parent longer.front = subst (λ z. TreeSpells tree z.parent longer.front) alike longer.before in
-    let splits : word_number k v ≡ word_number k longer.front * k + y.letter + 1 =
-    ap (word_number k) (longer.splits ∙ ap (λ z. longer.front ++ z.letter ∷ []) alike) ∙ word_number-snoc k longer.front y.letter in
+    let splits = ap (word_number k) (longer.splits ∙ ap (λ z. longer.front ++ z.letter ∷ []) alike) ∙ word_number-snoc k longer.front y.letter in
     let earlier : y.parent * k + (y.letter + 1) ≤ i * k + a = omega (arith, filled-later k j y longer.positive) in
-    let step : word_number k longer.front * k + (y.letter + 1) ≤ word_number k w * k + a =
-    digits-ascend y.parent i (y.letter + 1) a k (word_number k longer.front) (word_number k w) letter earlier
+    let step = digits-ascend y.parent i (y.letter + 1) a k (word_number k longer.front) (word_number k w) letter earlier
     (lesser y.parent b.parent longer.front b.stands front)
     (λ same. ap (word_number k) (TreeSpells-unique (subst (λ n. TreeSpells tree n longer.front) same front) s))
     (omega (arith, b.letter)) in

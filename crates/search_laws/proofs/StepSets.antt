@@ -74,7 +74,7 @@ LeadsToSet-last {r} {w} {set} rule last =
 pub IsLastSet-orphan : {r : LocalRule} {w : List ℕ} → IsRule r → IsOrphan r w → IsLastSet r w 0
 IsLastSet-orphan {r} {w} rule orphan =
     let found = LeadsToSet-some r w orphan.word in
-    let last : IsLastSet r w found.0 = IsLastSet-leads rule found.1 in
+    let last = IsLastSet-leads rule found.1 in
     ⊎_elim
     (λ empty. subst (IsLastSet r w) empty last)
     (λ some. let preimage = IsPreimage-nonempty_set last some in absurd (orphan.none preimage.0 preimage.1))

@@ -106,13 +106,11 @@ has_twins-both_ways {r} {u} {v} rule other back on =
     let lefts : length before.a ≡ length before.b = before.a_long ∙ sym before.b_long in
     let ins : length way.a ≡ length way.b = way.a_long ∙ sym way.b_long in
     let middles : length (way.a ++ out.a) ≡ length (way.b ++ out.b) = omega (arith, length-append way.a out.a, length-append way.b out.b, out.a_long, out.b_long) in
-    let reach : PairLeads r (pair_of r from.s from.t) (zip (way.a ++ out.a) (way.b ++ out.b)) (pair_of r to.s to.t) =
-    subst (λ ab. PairLeads r (pair_of r from.s from.t) ab (pair_of r to.s to.t)) (sym (zip-append way.a out.a way.b out.b ins))
+    let reach = subst (λ ab. PairLeads r (pair_of r from.s from.t) ab (pair_of r to.s to.t)) (sym (zip-append way.a out.a way.b out.b ins))
     (Walk-join (LetterPairStep (follow r)) (zip way.a way.b) (zip out.a out.b) (pair_of r from.s from.t) (pair_of r u v) (pair_of r to.s to.t) way.leads out.leads) in
     let prefix : (t : TailConfig) (a c : List ℕ) → t.middle ≡ a ++ c → length a ≡ from.k → cells t (pos 0) from.k ≡ a = λ t a c e long.
     sym (take-run (cell t) (pos 0) (length t.middle) from.k (omega (arith, ap length e, length-append a c))) ∙ ap (take from.k) (cells-middle t ∙ e) ∙ take_at a c from.k long in
-    let inside : PairLeads r (pair_at r x y (pos 0)) (zip (cells x (pos 0) from.k) (cells y (pos 0) from.k)) (pair_of r u v) =
-    subst₂ (λ p ab. PairLeads r p ab (pair_of r u v)) (sym (pair_at-loop rule hx hy lefts from.s from.t start.0 start.1 before.leads))
+    let inside = subst₂ (λ p ab. PairLeads r p ab (pair_of r u v)) (sym (pair_at-loop rule hx hy lefts from.s from.t start.0 start.1 before.leads))
     (sym (ap₂ (λ (a b : List ℕ). zip a b) (prefix x way.a out.a refl way.a_long) (prefix y way.b out.b refl way.b_long))) way.leads in
     let there = cells-PairLeads rule hx hy from.k (pos 0) (pos from.k) (pair_of r u v) (omega (arith, ints)) inside in
     has_twins-loops rule hx hy lefts middles (after.a_long ∙ sym after.b_long) from.s from.t (pair_of r to.s to.t) start.0 start.1 before.leads reach after.leads

@@ -13,12 +13,12 @@ pub PairLeads-diagonal : {r : LocalRule} → IsRule r → (u v : ℕ) → u < no
     → PairLeads r (pair_of r u u) (zip (word_of r.states (r.width - 1) v) (word_of r.states (r.width - 1) v)) (pair_of r v v)
 PairLeads-diagonal {r} rule u v hu hv =
     let m : ℕ = r.width - 1 in
-    let a : List ℕ = word_of r.states m u in
-    let b : List ℕ = word_of r.states m v in
-    let long_a : length a ≡ m = length-word_of r.states m u in
-    let long_b : length b ≡ m = length-word_of r.states m v in
-    let word : IsWord r.states (a ++ b) = All-append (λ c. c < r.states) a b (IsWord-word_of r.states m u hu) (IsWord-word_of r.states m v hv) in
-    let long : length (a ++ b) ≡ m + m = length-append a b ∙ ap₂ (λ c d. c + d) long_a long_b in
+    let a = word_of r.states m u in
+    let b = word_of r.states m v in
+    let long_a = length-word_of r.states m u in
+    let long_b = length-word_of r.states m v in
+    let word = All-append (λ c. c < r.states) a b (IsWord-word_of r.states m u hu) (IsWord-word_of r.states m v hv) in
+    let long = length-append a b ∙ ap₂ (λ c d. c + d) long_a long_b in
     let whole : HaveOneImage r m (a ++ b) (a ++ b) = record { first = word; second = word; first_long = long; second_long = long; one_image = refl } in
     let front : value r.states (take m (a ++ b)) ≡ u = ap (value r.states) (take_at a b m long_a) ∙ value-word_of r.states m u hu in
     let back : value r.states (drop m (a ++ b)) ≡ v = ap (value r.states) (drop_at a b m long_a) ∙ value-word_of r.states m v hv in
@@ -64,13 +64,13 @@ pub normal_split-loop : {r : LocalRule} {p : ℕ} → IsRule r → (f : IsFirstO
     → IsNormalRightSplit r (looped_tail r f.node f.a w.first w.first_turn) (looped_tail r f.node f.b w.second w.second_turn)
 normal_split-loop {r} {p} rule f w =
     let m : ℕ = r.width - 1 in
-    let z : List ℕ = word_of r.states m f.node in
-    let long : length z ≡ m = length-word_of r.states m f.node in
+    let z = word_of r.states m f.node in
+    let long = length-word_of r.states m f.node in
     let twice : ℕ = pair_of r f.node f.node in
     let none : pair_of r 0 0 ≡ 0 = omega arith in
     let there : PairLeads r 0 (zip z z) twice = subst (λ q. PairLeads r q (zip z z) twice) none (PairLeads-diagonal rule 0 f.node (node_count_pos rule) f.in_nodes) in
-    let step : follow r twice f.a f.b ≡ Some p = follow-pair_of r f.node f.node f.a f.b f.in_nodes f.one_label ∙ ap (λ q. Some q) (sym f.pair) in
-    let whole : PairLeads r 0 (zip z z ++ (f.a, f.b) ∷ zip w.first w.second) w.pair = Walk-join (LetterPairStep (follow r)) (zip z z) ((f.a, f.b) ∷ zip w.first w.second) 0 twice w.pair there (p, step, w.reach) in
+    let step = follow-pair_of r f.node f.node f.a f.b f.in_nodes f.one_label ∙ ap (λ q. Some q) (sym f.pair) in
+    let whole = Walk-join (LetterPairStep (follow r)) (zip z z) ((f.a, f.b) ∷ zip w.first w.second) 0 twice w.pair there (p, step, w.reach) in
     let letter : (a : ℕ) (walk : List ℕ) → get_or (z ++ a ∷ walk) m 0 ≡ a = λ a walk. get_or_at z a walk 0 m long in
     IsNormalRightSplit-walk rule (record {
       first = IsTail-looped_tail rule f.node f.a w.first w.first_turn f.in_nodes f.a_letter w.first_word w.first_ring;

@@ -1,5 +1,5 @@
 -- The least normal right split: the least of at most one candidate for each state of the marked graph, made of two least walks.
-use Rattle.std.proofs.Common.{◌≡◌, ◌≢◌, ℕ, ◌+◌, ◌≤◌, List, [], ◌∷◌, length, map, sym, ap, ap₂, ◌∙◌, subst, ⊎_elim, arith, zip, nat_cmp, Ordering, Equal, Greater}
+use Rattle.std.proofs.Common.{◌≡◌, ◌≢◌, ℕ, ◌+◌, ◌≤◌, List, [], ◌∷◌, length, sym, ap, ap₂, ◌∙◌, subst, ⊎_elim, arith, zip, nat_cmp, Ordering, Equal, Greater}
 use Rattle.std.proofs.lemmas.Cmp.{then_total, on_total, lists_total, nat_cmp_total}
 use Rattle.std.proofs.lemmas.Slice.Zip.{firsts-zip, seconds-zip}
 use Rattle.word_image.proofs.Common.{ordering_then, IsTotalOrder, nat_cmp_is, slice_cmp, cases_lt, length-map, LocalRule, IsRule, pair_count, marked, pair_cmp, pairs_cmp, then_not_greater, nat_cmp-le, nat_cmp-equal, no_later, pair_cmp_total}
@@ -26,12 +26,7 @@ walks_cmp w v w' v' =
 
 -- both orders are one
 pub splits_cmp-walks : (w v w' v' : List (ℕ × ℕ)) → splits_cmp (split_of w v) (split_of w' v') ≡ walks_cmp w v w' v'
-splits_cmp-walks w v w' v' =
-    let long : (u : List (ℕ × ℕ)) → length (map (λ p. p.0) u) ≡ length u = λ u. length-map u (λ p. p.0) in
-    ap₂ ordering_then (ap₂ nat_cmp (ap₂ (λ a b. a + b) (long w) (long v)) (ap₂ (λ a b. a + b) (long w') (long v')))
-    (ap₂ ordering_then (ap₂ nat_cmp (long w) (long w'))
-    (ap₂ ordering_then (ap₂ (slice_cmp pair_cmp) (zip-sides w) (zip-sides w'))
-    (ap₂ (slice_cmp pair_cmp) (zip-sides v) (zip-sides v'))))
+splits_cmp-walks w v w' v' = grind (arith, length-map, zip-sides)
 
 -- letter pairs that come no later than others are no more, and where they are as many come no later in dictionary order
 pairs_cmp-parts : (w v : List (ℕ × ℕ)) → pairs_cmp w v ≢ Greater → (length w ≤ length v) × (length w ≡ length v → slice_cmp pair_cmp w v ≢ Greater)
@@ -43,13 +38,7 @@ pairs_cmp-parts w v h =
 
 -- walks of which neither comes later make a split that comes no later
 walks_cmp-not_greater : (w v w' v' : List (ℕ × ℕ)) → pairs_cmp w w' ≢ Greater → pairs_cmp v v' ≢ Greater → walks_cmp w v w' v' ≢ Greater
-walks_cmp-not_greater w v w' v' h g =
-    let first = pairs_cmp-parts w w' h in
-    let second = pairs_cmp-parts v v' g in
-    then_not_greater _ _ (nat_cmp-le (length w + length v) (length w' + length v') (omega (arith, first.0, second.0)))
-    (λ tie. let sums : length w + length v ≡ length w' + length v' = nat_cmp-equal _ _ tie in
-    then_not_greater _ _ (nat_cmp-le (length w) (length w') first.0)
-    (λ _. then_not_greater _ _ (first.1 (omega (arith, first.0, second.0))) (λ _. second.1 (omega (arith, first.0, second.0)))))
+walks_cmp-not_greater w v w' v' h g = grind (arith, pairs_cmp-parts, then_not_greater, nat_cmp-le, nat_cmp-equal)
 
 -- Candidates
 
@@ -80,8 +69,7 @@ IsLeastRightSplit-below {r} {w} {v} rule h =
       split = h.split;
       least = λ x y n.
           let found = normal_split-at rule n in
-          let first : first_tail (zip x.middle y.middle) (zip x.right y.right) ≡ x =
-          tail_of-parts x _ _ n.first.left (firsts-zip x.middle y.middle (sym n.middles)) (firsts-zip x.right y.right (sym n.rights)) in
+          let first = tail_of-parts x _ _ n.first.left (firsts-zip x.middle y.middle (sym n.middles)) (firsts-zip x.right y.right (sym n.rights)) in
           let second : second_tail (zip x.middle y.middle) (zip x.right y.right) ≡ y =
           tail_of-parts y _ _ n.second.left (seconds-zip x.middle y.middle (sym n.middles)) (seconds-zip x.right y.right (sym n.rights)) in
           let same : split_of (zip x.middle y.middle) (zip x.right y.right) ≡ (x, y) = ap₂ (λ (a b : TailConfig). (a, b)) first second in

@@ -16,7 +16,7 @@ IsLeastTurn r p w = IsLeastWalk (marked r) r.states p (p + pair_count r) w
 -- a walk from the pair p to p with the mark has a step
 pub turn-some : {r : LocalRule} → IsRule r → (p : ℕ) (w : List (ℕ × ℕ)) → IsTurn r p w → 0 < length w
 turn-some {r} rule p [] turn =
-    let pairs : 0 < pair_count r = pair_count_pos rule in
+    let pairs = pair_count_pos rule in
     absurd (omega arith)
 turn-some rule p (ab ∷ w) turn = omega arith
 

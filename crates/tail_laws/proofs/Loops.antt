@@ -17,8 +17,7 @@ looped-cells r {t} h loop i l =
     let later : ℤ = pos (m + n) -ℤ pos (r.width - 1) in
     let same = same-run (cell t) (cell t) start later (r.width - 1) (same_nodes r h h (pos m) (pos (m + n)) loop) in
     let turn : (a : ℕ) → a < r.width - 1 → cell t (start +ℤ pos a) ≡ cell t (start +ℤ pos a +ℤ pos n) = λ a k.
-    let place : later +ℤ pos a ≡ start +ℤ pos a +ℤ pos n = omega (arith, ints) in
-    same a k ∙ ap (cell t) place in
+    same a k ∙ ap (cell t) (omega (arith, ints)) in
     by_lt_z i (pos m) (λ k. sym (at_run (cell t) (λ j. cell t (j +ℤ pos n)) start (r.width - 1) turn i l (omega (arith, ints)))) (cell-right_period t i)
 
 -- where the cells of the node repeat, the right period leads back to the node
@@ -29,8 +28,7 @@ IsLooped-cells r t repeats =
     let start : ℤ = pos m -ℤ pos (r.width - 1) in
     let later : ℤ = pos (m + n) -ℤ pos (r.width - 1) in
     ap (value r.states) (run-same (cell t) (cell t) start later (r.width - 1) (λ a l.
-    let place : start +ℤ pos a +ℤ pos n ≡ later +ℤ pos a = omega (arith, ints) in
-    sym (repeats (start +ℤ pos a) (omega (arith, ints))) ∙ ap (cell t) place))
+    sym (repeats (start +ℤ pos a) (omega (arith, ints))) ∙ ap (cell t) (omega (arith, ints))))
 
 -- the labels repeat from the place at which the period begins
 pub looped-labels : {r : LocalRule} {t : TailConfig} → IsRule r → IsTail r.states t → IsLooped r t → RepeatsRight (length t.right) (label_over r t) (pos (length t.middle))
@@ -38,8 +36,7 @@ looped-labels {r} {t} rule h loop i l =
     let n : ℕ = length t.right in
     let m : ℕ = r.width - 1 in
     ap (local_map r) (run-same (cell t) (cell t) (i +ℤ pos n -ℤ pos m) (i -ℤ pos m) r.width (λ a k.
-    let place : i +ℤ pos n -ℤ pos m +ℤ pos a ≡ i -ℤ pos m +ℤ pos a +ℤ pos n = omega (arith, ints) in
-    ap (cell t) place ∙ looped-cells r h loop (i -ℤ pos m +ℤ pos a) (omega (arith, ints))))
+    ap (cell t) (omega (arith, ints)) ∙ looped-cells r h loop (i -ℤ pos m +ℤ pos a) (omega (arith, ints))))
 
 -- two configurations go in step: the labels are equal through the middles and once through the right periods, which lead back
 pub record IsInStep (r : LocalRule) (x y : TailConfig) : Type 0 where
@@ -58,7 +55,7 @@ pub ShareImage-in_step : {r : LocalRule} {x y : TailConfig} → IsRule r → IsT
 ShareImage-in_step {r} {x} {y} rule hx hy left middles rights steps =
     let m : ℕ = length x.middle in
     let n : ℕ = length x.right in
-    let first : RepeatsRight n (label_over r x) (pos m) = looped-labels rule hx steps.first in
+    let first = looped-labels rule hx steps.first in
     let second : RepeatsRight n (label_over r y) (pos m) =
     subst (λ p. RepeatsRight p (label_over r y) (pos m)) (sym rights) (subst (λ a. RepeatsRight (length y.right) (label_over r y) (pos a)) (sym middles) (looped-labels rule hy steps.second)) in
     ShareImage-labels r x y (λ i.

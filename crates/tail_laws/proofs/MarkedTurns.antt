@@ -16,7 +16,7 @@ IsWord-zip k [] (b ∷ y) e h = absurd (omega arith)
 IsWord-zip k (a ∷ x) [] e h = absurd (omega arith)
 IsWord-zip k (a ∷ x) (b ∷ y) e h =
     let Small : ℕ × ℕ → Type 0 = λ p. (p.0 < k) × (p.1 < k) in
-    let head : Small (a, b) = All-head Small (a, b) (zip x y) h in
+    let head = All-head Small (a, b) (zip x y) h in
     let rest = IsWord-zip k x y (omega arith) (All-tail Small (a, b) (zip x y) h) in
     (All-cons (λ c. c < k) a x head.0 rest.0, All-cons (λ c. c < k) b y head.1 rest.1)
 
@@ -32,8 +32,8 @@ twins-turn {r} {x} {y} rule twins =
     let n : ℕ = pair_count r in
     let t : IsTwinWalk r x y = (IsTwins-walk rule).0 twins in
     let p : ℕ = pair_of r t.u t.v in
-    let below : p < n = pair_of-below r t.u t.v t.in_nodes.0 t.in_nodes.1 in
-    let start : p % n ≡ p = mod-eq_of_lt {n = p} below in
+    let below = pair_of-below r t.u t.v t.in_nodes.0 t.in_nodes.1 in
+    let start = mod-eq_of_lt {n = p} below in
     let walk = leads-marked rule (zip x y) p p (subst (λ q. PairLeads r q (zip x y) p) (sym start) t.loop) in
     let s : ℕ = walk.0 in
     let has_mark : n ≤ s = (IsMarkedWalk-leads rule (zip x y) p s walk.1).mark.1 (inr (HasOther-zip x y t.one_length t.different)) in
@@ -52,8 +52,7 @@ turn-twins {r} rule x y p long below turn =
     let other : HasOther (zip x y) = ⊎_elim (λ l. absurd (omega arith)) (λ h. h) (w.mark.0 (omega arith)) in
     let words = IsWord-zip r.states x y long turn.letters in
     let some = HasOther-some x y other in
-    let start : p % n ≡ p = mod-eq_of_lt {n = p} below in
-    let same : pair_of r (first_of r p) (second_of r p) ≡ p = pair_of-first_of r p in
+    let start = mod-eq_of_lt {n = p} below in
     let loop : PairLeads r p (zip x y) p = subst (λ q. PairLeads r p (zip x y) q) (add-mod_right p n ∙ start) (subst (λ q. PairLeads r q (zip x y) ((p + n) % n)) start w.pairs) in
     (IsTwins-walk rule).1 (record {
       first = record { word = words.0; some = some.0 };
@@ -63,5 +62,5 @@ turn-twins {r} rule x y p long below turn =
       u = first_of r p;
       v = second_of r p;
       in_nodes = (first_of-below rule p below, second_of-below rule p);
-      loop = subst (λ q. PairLeads r q (zip x y) q) (sym same) loop;
+      loop = subst (λ q. PairLeads r q (zip x y) q) (sym (pair_of-first_of r p)) loop;
     })

@@ -100,7 +100,7 @@ IsMarkedWalk-leads {r} rule (ab ∷ rest) t s h =
     let p : ℕ = pair_count r in
     let step = follow-marked rule t ab.0 ab.1 h.0 h.1 in
     let m : IsStepMarked r t ab.0 ab.1 h.0 step.0 = subst (λ n. IsStepMarked r t ab.0 ab.1 n step.0) (sym step.3) (marked_step r t ab.0 ab.1 step.0 step.2) in
-    let w : IsMarkedWalk r h.0 rest s = IsMarkedWalk-leads rule rest h.0 s h.2 in
+    let w = IsMarkedWalk-leads rule rest h.0 s h.2 in
     record {
       pairs = (step.0, step.1, subst (λ n. PairLeads r n rest (s % p)) m.pair w.pairs);
       mark = (
@@ -116,7 +116,7 @@ leads-marked {r} rule (ab ∷ rest) t q h =
     let next : ℕ = h.0 + mark r t ab.0 ab.1 in
     let step = marked-follow r t ab.0 ab.1 h.0 h.1 in
     let back = follow-marked rule t ab.0 ab.1 next step in
-    let same : h.0 ≡ back.0 = same_Some h.0 back.0 (sym h.1 ∙ back.1) in
+    let same = same_Some h.0 back.0 (sym h.1 ∙ back.1) in
     let below : h.0 < pair_count r = rw same back.2 in
     let pair : next % pair_count r ≡ h.0 = (marked_step r t ab.0 ab.1 h.0 below).pair in
     let on = leads-marked rule rest next q (subst (λ n. PairLeads r n rest q) (sym pair) h.2) in

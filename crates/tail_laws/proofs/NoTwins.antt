@@ -19,7 +19,7 @@ twins_of_runs : {r : LocalRule} {x y : TailConfig} → IsTail r.states x → IsT
     → Different (round (cells x i n)) (round (cells y i n)) → (start : ℤ)
     → ((d : ℕ) → d < n → image_cell r (round (cells x i n)) (start +ℤ pos d) ≡ image_cell r (round (cells y i n)) (start +ℤ pos d)) → HasTwins r
 twins_of_runs {r} {x} {y} hx hy i n some differ start turn =
-    let first : length (cells x i n) ≡ n = length-run (cell x) i n in
+    let first = length-run (cell x) i n in
     let long : length (cells x i n) ≡ length (cells y i n) = first ∙ sym (length-run (cell y) i n) in (
       cells x i n,
       cells y i n,
@@ -50,11 +50,9 @@ cell-run_left : (t : TailConfig) (n : ℕ) → 1 ≤ n → RepeatsLeft n (cell t
 cell-run_left t n some repeats (pos j) l = absurd (omega (arith, ints))
 cell-run_left t n some repeats (negsuc j) l =
     let i : ℤ = neg_ℤ (pos n) in
-    let within : j % n < n = mod-lt j some in
-    let first : i +ℤ pos (n - 1 - j % n) ≡ pos 0 +ℤ negsuc (j % n) = omega (arith, ints) in
     let last : pos 0 +ℤ negsuc j ≡ negsuc j = omega (arith, ints) in
     ap (λ m. slice_index (cells t i n) (m - 1 - j % m)) (length-run (cell t) i n)
-    ∙ get_or-run (cell t) i (pos 0 +ℤ negsuc (j % n)) n (n - 1 - j % n) (omega arith) first
+    ∙ get_or-run (cell t) i (pos 0 +ℤ negsuc (j % n)) n (n - 1 - j % n) (omega arith) (omega (arith, ints))
     ∙ repeats-mod (λ d. cell t (pos 0 +ℤ negsuc d)) n some (left_from n (cell t) (pos 0) repeats) j ∙ ap (cell t) last
 
 -- rings that are cut from runs differ, if they aren't the same
@@ -66,9 +64,9 @@ twins_right : {r : LocalRule} {x y : TailConfig} → IsTail r.states x → IsTai
 twins_right {r} {x} {y} hx hy share apart =
     let i : ℤ = pos (most_middle x y) in
     let n : ℕ = right_turn x y in
-    let some : 1 ≤ n = right_turn-some hx hy in
-    let at_x : (j : ℤ) → pos 0 ≤ℤ j → cell (round (cells x i n)) j ≡ cell x (i +ℤ j) = cell-run_right x i n some (right_turns x y).0 in
-    let at_y : (j : ℤ) → pos 0 ≤ℤ j → cell (round (cells y i n)) j ≡ cell y (i +ℤ j) = cell-run_right y i n some (right_turns x y).1 in
+    let some = right_turn-some hx hy in
+    let at_x = cell-run_right x i n some (right_turns x y).0 in
+    let at_y = cell-run_right y i n some (right_turns x y).1 in
     let window : (t : TailConfig) → ((j : ℤ) → pos 0 ≤ℤ j → cell (round (cells t i n)) j ≡ cell t (i +ℤ j)) → (j : ℤ) → neg_ℤ r.offset ≤ℤ j → image_cell r (round (cells t i n)) j ≡ image_cell r t (i +ℤ j) =
     λ t at j l. image_of-window r (cell (round (cells t i n))) (cell t) j (i +ℤ j) (λ a h.
     let place : i +ℤ (j +ℤ r.offset +ℤ pos a) ≡ i +ℤ j +ℤ r.offset +ℤ pos a = omega (arith, ints) in
@@ -88,9 +86,9 @@ twins_left : {r : LocalRule} {x y : TailConfig} → IsTail r.states x → IsTail
 twins_left {r} {x} {y} hx hy share apart =
     let n : ℕ = left_turn x y in
     let i : ℤ = neg_ℤ (pos n) in
-    let some : 1 ≤ n = left_turn-some hx hy in
-    let at_x : (j : ℤ) → j <ℤ pos 0 → cell (round (cells x i n)) j ≡ cell x j = cell-run_left x n some (left_turns x y).0 in
-    let at_y : (j : ℤ) → j <ℤ pos 0 → cell (round (cells y i n)) j ≡ cell y j = cell-run_left y n some (left_turns x y).1 in
+    let some = left_turn-some hx hy in
+    let at_x = cell-run_left x n some (left_turns x y).0 in
+    let at_y = cell-run_left y n some (left_turns x y).1 in
     let start : ℤ = neg_ℤ (r.offset +ℤ pos (r.width + n)) in
     let window : (t : TailConfig) → ((j : ℤ) → j <ℤ pos 0 → cell (round (cells t i n)) j ≡ cell t j) → (d : ℕ) → d < n → image_cell r (round (cells t i n)) (start +ℤ pos d) ≡ image_cell r t (start +ℤ pos d) =
     λ t at d l. image_of-window r (cell (round (cells t i n))) (cell t) (start +ℤ pos d) (start +ℤ pos d) (λ a h. at (start +ℤ pos d +ℤ r.offset +ℤ pos a) (omega (arith, ints))) in
@@ -109,16 +107,13 @@ record HaveEqualEnds (x y : TailConfig) (i : ℤ) (n d : ℕ) : Type 0 where
 cell-seam : (t : TailConfig) (i : ℤ) (n a : ℕ) → n ≤ a → a < n + n → cell (round (cells t i n)) (pos a) ≡ cell t (i +ℤ pos (a - n))
 cell-seam t i n a low high =
     let w : List ℕ = cells t i n in
-    let long : length w ≡ n = length-run (cell t) i n in
+    let long = length-run (cell t) i n in
     let place : pos a ≡ pos (a - n) +ℤ pos (length w) = omega (arith, ints) in
     ap (cell (round w)) place ∙ cell-round_period w (omega arith) (pos (a - n)) ∙ cell-run t i n (a - n) (omega arith)
 
 -- the rings of runs with equal ends are equal on the d places before and the d places after the seam
 seam_cells : (x y : TailConfig) (i : ℤ) (n d : ℕ) → HaveEqualEnds x y i n d → (a : ℕ) → n ≤ a + d → a < n + d → cell (round (cells x i n)) (pos a) ≡ cell (round (cells y i n)) (pos a)
-seam_cells x y i n d ends a low high =
-    ⊎_elim (λ l. cell-run x i n a l ∙ ends.last a l low ∙ sym (cell-run y i n a l))
-    (λ l. cell-seam x i n a l (omega arith) ∙ ends.first (a - n) (omega arith) ∙ sym (cell-seam y i n a l (omega arith)))
-    (cases_lt a n)
+seam_cells x y i n d ends a low high = grind (arith, cell-run, cell-seam, cases_lt)
 
 -- the rings of runs with equal ends have equal image cells on a turn if the configurations share an image
 turn-ends : {r : LocalRule} → IsRule r → (x y : TailConfig) (i : ℤ) (n : ℕ) → HaveEqualEnds x y i n (r.width - 1) → ShareImage r x y
@@ -129,8 +124,7 @@ turn-ends {r} rule x y i n ends share k within =
     let inside : (t : TailConfig) → k + d < n → image_cell r (round (cells t i n)) (start +ℤ pos k) ≡ image_cell r t (i +ℤ (start +ℤ pos k)) = λ t l.
     image_of-window r (cell (round (cells t i n))) (cell t) (start +ℤ pos k) (i +ℤ (start +ℤ pos k)) (λ a h.
     let new : start +ℤ pos k +ℤ r.offset +ℤ pos a ≡ pos (k + a) = omega (arith, ints) in
-    let old : i +ℤ pos (k + a) ≡ i +ℤ (start +ℤ pos k) +ℤ r.offset +ℤ pos a = omega (arith, ints) in
-    ap (cell (round (cells t i n))) new ∙ cell-run t i n (k + a) (omega arith) ∙ ap (cell t) old) in
+    ap (cell (round (cells t i n))) new ∙ cell-run t i n (k + a) (omega arith) ∙ ap (cell t) (omega (arith, ints))) in
     ⊎_elim (λ h. inside x h ∙ share (i +ℤ (start +ℤ pos k)) ∙ sym (inside y h))
     (λ h. image_of-window r (cell (round (cells x i n))) (cell (round (cells y i n))) (start +ℤ pos k) (start +ℤ pos k) (λ a b.
     let new : start +ℤ pos k +ℤ r.offset +ℤ pos a ≡ pos (k + a) = omega (arith, ints) in

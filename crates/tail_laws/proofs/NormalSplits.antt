@@ -28,8 +28,8 @@ cell-zeroed d n p t turn repeats i j l e =
 IsLooped-zeroed : (r : LocalRule) (n p : ℕ) (t : TailConfig) → 1 ≤ p → RepeatsRight p (cell t) (pos n) → IsLooped r (zeroed (r.width - 1) n p t)
 IsLooped-zeroed r n p t turn repeats =
     let d : ℕ = r.width - 1 in
-    let long : length (zeroed d n p t).middle ≡ d + n + d = length-run (cell t) (neg_ℤ (pos d)) (d + n + d) in
-    let round : length (zeroed d n p t).right ≡ p = length-run (cell t) (neg_ℤ (pos d) +ℤ pos (d + n + d)) p in
+    let long = length-run (cell t) (neg_ℤ (pos d)) (d + n + d) in
+    let round = length-run (cell t) (neg_ℤ (pos d) +ℤ pos (d + n + d)) p in
     IsLooped-cells r (zeroed d n p t) (λ i l.
     let above : pos (d + n) ≤ℤ i = omega (arith, ints) in
     cell-zeroed d n p t turn repeats (i +ℤ pos (length (zeroed d n p t).right)) (i -ℤ pos d +ℤ pos p) (omega (arith, ints)) (omega (arith, ints))
@@ -78,13 +78,13 @@ normal_split {r} {x} {y} rule s =
     let d : ℕ = r.width - 1 in
     let n : ℕ = most_middle x y in
     let p : ℕ = right_turn x y in
-    let turn : 1 ≤ p = right_turn-some s.first s.second in
+    let turn = right_turn-some s.first s.second in
     let fx : RepeatsRight p (cell x) (pos n) = (right_turns x y).0 in
     let fy : RepeatsRight p (cell y) (pos n) = (right_turns x y).1 in
-    let left : (i : ℤ) → i <ℤ pos 0 → cell x i ≡ cell y i = agree_left_of_0 s.first s.second s.agree in
+    let left = agree_left_of_0 s.first s.second s.agree in
     let some : 0 < r.states = omega (arith, rule.shape.least_states) in
-    let first : IsTail r.states (zeroed d n p x) = IsTail-zeroed some s.first d n p turn in
-    let second : IsTail r.states (zeroed d n p y) = IsTail-zeroed some s.second d n p turn in
+    let first = IsTail-zeroed some s.first d n p turn in
+    let second = IsTail-zeroed some s.second d n p turn in
     let start : ℤ = neg_ℤ (pos d) in (
       zeroed d n p x,
       zeroed d n p y,

@@ -43,10 +43,8 @@ pub PairLeads-cells : {r : LocalRule} {x y : TailConfig} → IsRule r → IsTail
 PairLeads-cells {r} {x} {y} rule hx hy zero i j e h = ap (pair_at r x y) (let place : i ≡ j = omega (arith, ints) in place)
 PairLeads-cells {r} {x} {y} rule hx hy (suc n) i j e h =
     let here : i +ℤ pos 0 ≡ i = omega (arith, ints) in
-    let after : i +ℤ pos 1 +ℤ pos n ≡ j = omega (arith, ints) in
-    let rest = PairLeads-cells rule hx hy n (i +ℤ pos 1) j after (λ d l.
-    let place : i +ℤ pos (suc d) ≡ i +ℤ pos 1 +ℤ pos d = omega (arith, ints) in
-    subst (λ p. label_over r x p ≡ label_over r y p) place (h (suc d) (omega arith))) in
+    let rest = PairLeads-cells rule hx hy n (i +ℤ pos 1) j (omega (arith, ints)) (λ d l.
+    subst (λ p. label_over r x p ≡ label_over r y p) (omega (arith, ints)) (h (suc d) (omega arith))) in
     subst (λ abs. PairLeads r (pair_at r x y i) abs (pair_at r x y j)) (sym (zip-cells x y i n))
     (pair_at r x y (i +ℤ pos 1), step_over rule hx hy i (subst (λ p. label_over r x p ≡ label_over r y p) here (h 0 (omega arith))), rest)
 
@@ -106,8 +104,7 @@ walk-ShareImage {r} {x} {y} rule hx hy middles rights loop_x loop_y share =
     let labels = labels-ShareImage r x y share in
     let through = PairLeads-cells rule hx hy m (pos 0) (pos m) (omega (arith, ints)) (λ d l. labels (pos 0 +ℤ pos d)) in
     let round = PairLeads-cells rule hx hy n (pos m) (pos (m + n)) (omega (arith, ints)) (λ d l. labels (pos m +ℤ pos d)) in
-    let back_y : node_at r y (pos m) ≡ node_at r y (pos (m + n)) =
-    ap (λ a. node_at r y (pos a)) middles ∙ loop_y ∙ ap₂ (λ a b. node_at r y (pos (a + b))) (sym middles) (sym rights) in
+    let back_y = ap (λ a. node_at r y (pos a)) middles ∙ loop_y ∙ ap₂ (λ a b. node_at r y (pos (a + b))) (sym middles) (sym rights) in
     let back : pair_at r x y (pos (m + n)) ≡ pair_at r x y (pos m) = ap₂ (pair_of r) (sym loop_x) (sym back_y) in (
       pair_at r x y (pos m),
       subst₂ (λ (u v : List ℕ). PairLeads r (pair_at r x y (pos 0)) (zip u v) (pair_at r x y (pos m))) (cells-middle x) (ap (cells y (pos 0)) middles ∙ cells-middle y) through,

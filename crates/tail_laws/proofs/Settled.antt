@@ -3,7 +3,7 @@ use Rattle.std.proofs.Common.{◌≡◌, ℕ, ◌+◌, ◌-◌, ◌%◌, List, [
 use Rattle.word_image.proofs.Common.{ints, length-replicate, get_or-replicate, LocalRule, IsRule, value, pair_of, value-zeros}
 use Rattle.tail_config.proofs.Common.{TailConfig, IsTail, Same, cell, cells, last_letters, IsSettled, IsNormalRightSplit, run-by_letters, run-same, last-run, run-append, cells-middle, cells-right, same_left_part, Different-from_not_same}
 use Rattle.tail_laws.proofs.Nodes.{node_at, same_nodes}
-use Rattle.tail_laws.proofs.Loops.{IsLooped, IsInStep}
+use Rattle.tail_laws.proofs.Loops.{IsLooped}
 use Rattle.tail_laws.proofs.PairLeads.{PairLeads, pair_at, IsInStep-walk, ShareImage-walk, walk-ShareImage}
 
 -- where the left period is the letter 0 the cells left of place 0 are zeros
@@ -33,15 +33,13 @@ zeros-right t n e =
 -- the last n letters of the one are the cells left of the right period
 last-middle : (t : TailConfig) (n : ℕ) → t.left ≡ 0 ∷ [] → last_letters n (replicate n 0 ++ t.middle) ≡ cells t (pos (length t.middle) -ℤ pos n) n
 last-middle t n e =
-    let order : n + length t.middle ≡ length t.middle + n = omega arith in
-    ap (last_letters n) (zeros-middle t n e ∙ ap (cells t (neg_ℤ (pos n))) order)
+    ap (last_letters n) (zeros-middle t n e ∙ ap (cells t (neg_ℤ (pos n))) (omega arith))
     ∙ last-run (cell t) (neg_ℤ (pos n)) (pos (length t.middle) -ℤ pos n) (length t.middle) n (omega (arith, ints))
 
 -- the last n letters of the word with the right period are the cells left of the second turn of that period
 last-right : {k : ℕ} {t : TailConfig} → IsTail k t → (n : ℕ) → t.left ≡ 0 ∷ [] → last_letters n (replicate n 0 ++ t.middle ++ t.right) ≡ cells t (pos (length t.middle + length t.right) -ℤ pos n) n
 last-right {k} {t} h n e =
-    let order : n + length t.middle + length t.right ≡ length t.middle + length t.right + n = omega arith in
-    ap (last_letters n) (zeros-right t n e ∙ ap (cells t (neg_ℤ (pos n))) order)
+    ap (last_letters n) (zeros-right t n e ∙ ap (cells t (neg_ℤ (pos n))) (omega arith))
     ∙ last-run (cell t) (neg_ℤ (pos n)) (pos (length t.middle + length t.right) -ℤ pos n) (length t.middle + length t.right) n (omega (arith, ints))
 
 -- the right period of a settled configuration leads back to the node at which it begins
@@ -99,7 +97,7 @@ pub IsNormalRightSplit-walk : {r : LocalRule} {x y : TailConfig} → IsRule r �
 IsNormalRightSplit-walk {r} {x} {y} rule w =
     let left : x.left ≡ y.left = w.first_left ∙ sym w.second_left in
     let reach = subst (λ p. PairLeads r p (zip x.middle y.middle) w.pair) (sym (pair_at-zeros r x y w.first_left w.second_left)) w.reach in
-    let steps : IsInStep r x y = IsInStep-walk rule w.first w.second w.middles w.rights w.pair reach w.loop in
+    let steps = IsInStep-walk rule w.first w.second w.middles w.rights w.pair reach w.loop in
     record {
       split = record {
         first = w.first;

@@ -61,10 +61,10 @@ IsTail-tail_of {r} {t} {w} {v} rule h side small =
 pub IsNormalRightSplit-walks : {r : LocalRule} {t : ℕ} {w v : List (ℕ × ℕ)} → IsRule r → IsSplitAt r t w v → IsNormalRightSplit r (first_tail w v) (second_tail w v)
 IsNormalRightSplit-walks {r} {t} {w} {v} rule h =
     let p : ℕ = pair_count r in
-    let some : 0 < p = pair_count_pos rule in
+    let some = pair_count_pos rule in
     let reach = IsMarkedWalk-leads rule w 0 t h.reach.steps in
     let round = IsMarkedWalk-leads rule v t (with_mark r t) h.round.steps in
-    let back : with_mark r t % p ≡ t % p = add-mod_right (t % p) p ∙ mod-mod t p in
+    let back = add-mod_right (t % p) p ∙ mod-mod t p in
     let sides : (u : List (ℕ × ℕ)) → HasOther u → map (λ a. a.0) u ≢ map (λ a. a.1) u = λ u other. HasOther-different _ _ (subst HasOther (sym (zip-sides u)) other) in
     IsNormalRightSplit-walk rule (record {
       first = IsTail-tail_of rule h (λ a. a.0) (λ a l. l.0);
@@ -87,7 +87,7 @@ pub normal_split-at : {r : LocalRule} {x y : TailConfig} → IsRule r → IsNorm
     → (t : ℕ) × (t < pair_count r + pair_count r) × IsSplitAt r t (zip x.middle y.middle) (zip x.right y.right)
 normal_split-at {r} {x} {y} rule n =
     let p : ℕ = pair_count r in
-    let some : 0 < p = pair_count_pos rule in
+    let some = pair_count_pos rule in
     let walk = IsSplitWalk-normal rule n in
     let middles : List (ℕ × ℕ) = zip x.middle y.middle in
     let rights : List (ℕ × ℕ) = zip x.right y.right in
@@ -103,7 +103,7 @@ normal_split-at {r} {x} {y} rule n =
     (λ same. ⊎_elim (λ rest. absurd (walk.different (same, rest))) (λ other. after.1 (inr other)) (HasOther-some x.right y.right walk.rights))
     (λ other. after.1 (inl (on.1 (inr other))))
     (HasOther-some x.middle y.middle walk.middles) in
-    let there : s ≡ with_mark r t = with_mark-marked rule s walk.pair (MarkedLeads-below rule rights t s within round.1) marked_end round.2 ∙ ap (λ q. q + p) (sym reach.2) in
+    let there = with_mark-marked rule s walk.pair (MarkedLeads-below rule rights t s within round.1) marked_end round.2 ∙ ap (λ q. q + p) (sym reach.2) in
     let long : 0 < length x.right = walk.first.right_some in (
       t,
       within,

@@ -24,13 +24,7 @@ IsTail-from_node {r} {p} rule u h ring =
 
 -- the node at place 0 of the configuration from a node is this node
 node_at-from_node : (r : LocalRule) (u : ℕ) (p : List ℕ) → u < node_count r → node_at r (from_node r u p) (pos 0) ≡ u
-node_at-from_node r u p h =
-    let m : ℕ = r.width - 1 in
-    let long : length (word_of r.states m u) ≡ m = length-word_of r.states m u in
-    let place : pos 0 -ℤ pos m ≡ neg_ℤ (pos m) = omega (arith, ints) in
-    ap (λ i. value r.states (cells (from_node r u p) i m)) place
-    ∙ ap (λ n. value r.states (cells (from_node r u p) (neg_ℤ (pos n)) n)) (sym long)
-    ∙ ap (value r.states) (cells-left (from_node r u p)) ∙ value-word_of r.states m u h
+node_at-from_node r u p h = grind (arith, ints, neg_ℤ, length-word_of, cells-left, value-word_of)
 
 -- right of place 0 the configuration from a node has the cells of the ring
 cell-from_node : (r : LocalRule) (u : ℕ) (p : List ℕ) (i : ℤ) → pos 0 ≤ℤ i → cell (round p) i ≡ cell (from_node r u p) i
@@ -58,9 +52,9 @@ pub ShareImage-loop : {r : LocalRule} {x y : List ℕ} → IsRule r → IsRing r
     → PairLeads r (pair_of r u v) (zip x y) (pair_of r u v) → ShareImage r (round x) (round y)
 ShareImage-loop {r} {x} {y} rule hx hy long u v hu hv loop =
     let n : ℕ = length x in
-    let tx : TailConfig = from_node r u x in
-    let ty : TailConfig = from_node r v y in
-    let steps : IsInStep r tx ty = loop_steps rule hx hy long u v hu hv loop in
+    let tx = from_node r u x in
+    let ty = from_node r v y in
+    let steps = loop_steps rule hx hy long u v hu hv loop in
     let again : RepeatsRight n (label_over r ty) (pos 0) = subst (λ p. RepeatsRight p (label_over r ty) (pos 0)) (sym long) (looped-labels rule (IsTail-from_node rule v hv hy) steps.second) in
     let labels : (i : ℤ) → pos 0 ≤ℤ i → label_over r tx i ≡ label_over r ty i =
     same_right-period (label_over r tx) (label_over r ty) n (pos 0) hx.some (looped-labels rule (IsTail-from_node rule u hu hx) steps.first) again (λ d l.
@@ -74,11 +68,11 @@ looped_node : {r : LocalRule} {p : List ℕ} → IsRule r → IsRing r.states p 
 looped_node {r} {p} rule ring u h loop =
     let m : ℕ = r.width - 1 in
     let n : ℕ = length p in
-    let t : TailConfig = from_node r u p in
+    let t = from_node r u p in
     let start : ℤ = pos 0 -ℤ pos m in
     let long : m * 1 ≤ m * n = mul-le m 1 m n (omega arith) ring.some in
-    let again : RepeatsRight (m * n) (cell t) start = RepeatsRight-times m n (cell t) start (looped-cells r (IsTail-from_node rule u h ring) loop) in
-    let round_again : RepeatsRight (m * n) (cell (round p)) start = RepeatsRight-times m n (cell (round p)) start (λ i l. cell-round_period p ring.some i) in
+    let again = RepeatsRight-times m n (cell t) start (looped-cells r (IsTail-from_node rule u h ring) loop) in
+    let round_again = RepeatsRight-times m n (cell (round p)) start (λ i l. cell-round_period p ring.some i) in
     ap (value r.states) (run-same (cell (round p)) (cell t) start start m (λ a l.
     let place : ℤ = start +ℤ pos a in
     sym (round_again place (omega (arith, ints))) ∙ cell-from_node r u p (place +ℤ pos (m * n)) (omega (arith, ints)) ∙ again place (omega (arith, ints))))
@@ -103,12 +97,11 @@ node_at-round r p some =
 loop-ShareImage : {r : LocalRule} {x y : List ℕ} → IsRule r → IsRing r.states x → IsRing r.states y → length x ≡ length y → ShareImage r (round x) (round y)
     → PairLeads r (pair_at r (round x) (round y) (pos 0)) (zip x y) (pair_at r (round x) (round y) (pos 0))
 loop-ShareImage {r} {x} {y} rule hx hy long share =
-    let first : IsTail r.states (round x) = IsTail-round hx in
-    let second : IsTail r.states (round y) = IsTail-round hy in
+    let first = IsTail-round hx in
+    let second = IsTail-round hy in
     let n : ℕ = length x in
     let turn = PairLeads-cells rule first second n (pos 0) (pos n) (omega (arith, ints)) (λ d l. labels-ShareImage r (round x) (round y) share (pos 0 +ℤ pos d)) in
-    let back : pair_at r (round x) (round y) (pos n) ≡ pair_at r (round x) (round y) (pos 0) =
-    ap₂ (pair_of r) (node_at-round r x hx.some) (ap (λ m. node_at r (round y) (pos m)) long ∙ node_at-round r y hy.some) in
+    let back = ap₂ (pair_of r) (node_at-round r x hx.some) (ap (λ m. node_at r (round y) (pos m)) long ∙ node_at-round r y hy.some) in
     subst (PairLeads r (pair_at r (round x) (round y) (pos 0)) (zip x y)) back
     (subst (λ ab. PairLeads r (pair_at r (round x) (round y) (pos 0)) ab (pair_at r (round x) (round y) (pos n)))
     (ap₂ (λ (a b : List ℕ). zip a b) (cells-right (round x)) (ap (cells (round y) (pos 0)) long ∙ cells-right (round y))) turn)

@@ -1,7 +1,7 @@
 -- A walk of pairs out of a loop and into a loop is two configurations that share an image.
 use Rattle.std.proofs.Common.{◌≡◌, ℕ, ◌-◌, ◌<◌, length, ℤ, pos, ◌+ℤ◌, ◌-ℤ◌, refl, sym, ap, ap₂, ◌∙◌, subst, arith, ◌<ℤ◌, zip}
 use Rattle.word_image.proofs.Common.{ints, LocalRule, IsRule, value, node_count, IsRing, pair_of}
-use Rattle.tail_config.proofs.Common.{TailConfig, IsTail, ShareImage, Different, cell, run-same, same_left_part}
+use Rattle.tail_config.proofs.Common.{TailConfig, IsTail, Different, cell, run-same, same_left_part}
 use Rattle.tail_laws.proofs.TwinTails.{round}
 use Rattle.tail_laws.proofs.Nodes.{node_at, label_over, labels-ShareImage}
 use Rattle.tail_laws.proofs.Loops.{labels-left, ShareImage-in_step}
@@ -30,8 +30,8 @@ pub has_twins-loops : {r : LocalRule} {x y : TailConfig} → IsRule r → IsTail
     → length x.left ≡ length y.left → length x.middle ≡ length y.middle → length x.right ≡ length y.right → (u v q : ℕ) → u < node_count r → v < node_count r
     → PairLeads r (pair_of r u v) (zip x.left y.left) (pair_of r u v) → PairLeads r (pair_of r u v) (zip x.middle y.middle) q → PairLeads r q (zip x.right y.right) q → Different x y → HasTwins r
 has_twins-loops {r} {x} {y} rule hx hy lefts middles rights u v q hu hv before reach after =
-    let nodes : pair_at r x y (pos 0) ≡ pair_of r u v = pair_at-loop rule hx hy lefts u v hu hv before in
-    let share : ShareImage r (round x.left) (round y.left) = ShareImage-loop rule (IsRing-left hx) (IsRing-left hy) lefts u v hu hv before in
+    let nodes = pair_at-loop rule hx hy lefts u v hu hv before in
+    let share = ShareImage-loop rule (IsRing-left hx) (IsRing-left hy) lefts u v hu hv before in
     let left : (i : ℤ) → i <ℤ pos 0 → label_over r x i ≡ label_over r y i = λ i l.
     labels-left r x (round x.left) (same_left_part x (round x.left) refl) i l
     ∙ labels-ShareImage r (round x.left) (round y.left) share i

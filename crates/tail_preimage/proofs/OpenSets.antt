@@ -34,8 +34,7 @@ IsNodeSet-back rule a w goal rel h = IsSetOf-same (λ u l. (
 pub AreOpen-more : {r : LocalRule} {w sets edges : List ℕ} {goal n before : ℕ} → IsRule r → AreOpen r w goal n sets → n < length w → IsRelation r (IsEdge Right r (slice_index w (length w - 1 - n))) edges
     → IsNodeSet r (λ u. (v : ℕ) × HasBit edges u v × IsBitSet (slice_index sets n) v) before → AreOpen r w goal (n + 1) (sets ++ before ∷ [])
 AreOpen-more {r} {w} {sets} {edges} {goal} {n} {before} rule h inside rel step =
-    let last : IsNodeSet r (Reaches r (drop (length w - (n + 1)) w) goal) before =
-    subst (λ z. IsNodeSet r (Reaches r z goal) before) (sym (drop-more w n inside))
+    let last = subst (λ z. IsNodeSet r (Reaches r z goal) before) (sym (drop-more w n inside))
     (IsNodeSet-back rule (slice_index w (length w - 1 - n)) (drop (length w - n) w) goal rel (h.each n (omega arith)) step) in
     let long : length sets ≡ n + 1 = h.long in
     record {

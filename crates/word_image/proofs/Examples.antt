@@ -19,8 +19,7 @@ use Rattle.word_image.proofs.laws.Words.{word_by_test}
 each_of_four : (P : List ℕ → Type 0) → P (0 ∷ 0 ∷ []) → P (0 ∷ 1 ∷ []) → P (1 ∷ 0 ∷ []) → P (1 ∷ 1 ∷ []) → (x : List ℕ) → IsWord 2 x → length x ≡ 2 → P x
 each_of_four P p q s t x word long =
     let below : value 2 x < 2 ^ 2 = subst (λ n. value 2 x < 2 ^ n) long (value-below 2 x word) in
-    let whole : word_of 2 2 (value 2 x) ≡ x = ap (λ n. word_of 2 n (value 2 x)) (sym long) ∙ word_of-value 2 x word in
-    subst P whole (at (value 2 x) below)
+    subst P (ap (λ n. word_of 2 n (value 2 x)) (sym long) ∙ word_of-value 2 x word) (at (value 2 x) below)
   where
     at : (v : ℕ) → v < 4 → P (word_of 2 2 v)
     at zero h = p

@@ -17,8 +17,7 @@ drop-in_row size n numbers long =
 pub in_row-more : (size : ℕ) (f : ℕ → ℕ) (i y : ℕ) → i < size → y ≡ f i
     → set (in_row size (map f (range_with_len 0 i))) i y ≡ in_row size (map f (range_with_len 0 (i + 1)))
 in_row-more size f i y h e =
-    let long : length (map f (range_with_len 0 i)) ≡ i = length-map-range_with_len f 0 i in
-    let longer : length (map f (range_with_len 0 (i + 1))) ≡ i + 1 = length-map-range_with_len f 0 (i + 1) in
-    ap (λ n. set (map f (range_with_len 0 i) ++ replicate (size - n) 0) i y) long
+    let longer = length-map-range_with_len f 0 (i + 1) in
+    ap (λ n. set (map f (range_with_len 0 i) ++ replicate (size - n) 0) i y) (length-map-range_with_len f 0 i)
     ∙ filled_more f 0 size i y h e
     ∙ ap (λ n. map f (range_with_len 0 (i + 1)) ++ replicate (size - n) 0) (sym longer)

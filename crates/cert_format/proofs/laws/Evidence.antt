@@ -1,5 +1,5 @@
 -- Where a JSON value is no evidence.
-use Rattle.std.proofs.Common.{◌≡◌, ◌≢◌, sym, ap, ◌∙◌, subst, List, [], ◌∷◌, length, ℕ, ◌+◌, ◌<◌, ◌≤◌, ℤ, Option, arith, codes, All}
+use Rattle.std.proofs.Common.{◌≡◌, ◌≢◌, ◌↔◌, sym, ap, ◌∙◌, subst, List, [], ◌∷◌, length, ℕ, ◌+◌, ◌<◌, ◌≤◌, ℤ, Option, arith, codes, All}
 use Rattle.word_image.proofs.Common.{AllZip, All-nil, All-cons, All-head, All-tail, All-weaker, LocalRule, node_count, full_set, pair_count}
 use Rattle.serde_json.specs.Data.{Data}
 use Rattle.cert_values.specs.declared.cert_version.CertVersion.{CertVersion}
@@ -49,37 +49,25 @@ no_ring r d only none (Ring p) h = none p (at_key d (λ v. IsDigits v p) only h.
 
 -- Arrays whose elements have a limit
 
-both_zip : {A : Type 0} (R : Data → A → Type 0) (P : A → Type 0) (ds : List Data) (xs : List A) → AllZip R ds xs → All P xs → AllZip (λ d x. R d x × P x) ds xs
-both_zip R P [] [] h all = tt
-both_zip R P [] (x ∷ xs) h all = absurd h
-both_zip R P (d ∷ ds) [] h all = absurd h
-both_zip R P (d ∷ ds) (x ∷ xs) h all = ((h.0, All-head P x xs all), both_zip R P ds xs h.1 (All-tail P x xs all))
-
-first_zip : {A : Type 0} (R : Data → A → Type 0) (P : A → Type 0) (ds : List Data) (xs : List A) → AllZip (λ d x. R d x × P x) ds xs → AllZip R ds xs
-first_zip R P [] [] h = tt
-first_zip R P [] (x ∷ xs) h = absurd h
-first_zip R P (d ∷ ds) [] h = absurd h
-first_zip R P (d ∷ ds) (x ∷ xs) h = (h.0.0, first_zip R P ds xs h.1)
-
-second_zip : {A : Type 0} (R : Data → A → Type 0) (P : A → Type 0) (ds : List Data) (xs : List A) → AllZip (λ d x. R d x × P x) ds xs → All P xs
-second_zip R P [] [] h = All-nil P
-second_zip R P [] (x ∷ xs) h = absurd h
-second_zip R P (d ∷ ds) [] h = absurd h
-second_zip R P (d ∷ ds) (x ∷ xs) h = All-cons P x xs h.0.1 (second_zip R P ds xs h.1)
+zip_both : {A : Type 0} (R : Data → A → Type 0) (P : A → Type 0) (ds : List Data) (xs : List A) → AllZip (λ d x. R d x × P x) ds xs ↔ (AllZip R ds xs × All P xs)
+zip_both R P [] [] = ((λ h. (tt, All-nil P)), (λ both. tt))
+zip_both R P [] (x ∷ xs) = ((λ h. absurd h), (λ both. absurd both.0))
+zip_both R P (d ∷ ds) [] = ((λ h. absurd h), (λ both. absurd both.0))
+zip_both R P (d ∷ ds) (x ∷ xs) =
+    let rest = zip_both R P ds xs in (
+      (λ h. ((h.0.0, (rest.0 h.1).0), All-cons P x xs h.0.1 (rest.0 h.1).1)),
+      (λ both. ((both.0.0, All-head P x xs both.1), rest.1 (both.0.1, All-tail P x xs both.1))),
+    )
 
 -- an array within the limit
 pub IsArrayOf-within : {A : Type 0} (R : Data → A → Type 0) (P : A → Type 0) (d : Data) (xs : List A) → IsArrayOf R d xs → All P xs → IsArrayOf (λ d x. R d x × P x) d xs
-IsArrayOf-within R P d xs h all = (h.0, h.1, both_zip R P (list_of h.0) xs h.2 all)
+IsArrayOf-within R P d xs h all = (h.0, h.1, (zip_both R P (list_of h.0) xs).1 (h.2, all))
 
 -- an array of elements within a limit is an array, and its elements are within the limit
 pub within-IsArrayOf : {A : Type 0} (R : Data → A → Type 0) (P : A → Type 0) (d : Data) (xs : List A) → IsArrayOf (λ d x. R d x × P x) d xs → IsArrayOf R d xs × All P xs
-within-IsArrayOf R P d xs h = ((h.0, h.1, first_zip R P (list_of h.0) xs h.2), second_zip R P (list_of h.0) xs h.2)
+within-IsArrayOf R P d xs h = let both = (zip_both R P (list_of h.0) xs).0 h.2 in ((h.0, h.1, both.0), both.1)
 
 -- Arrays of numbers whose limits the machine's numbers keep
-
--- numbers are those of an array of short ones, up to a short one
-pub AreNumbers-array : (d : Data) (most : ℕ) (xs : List ℕ) → IsArrayOf IsShort d xs → All (λ n. n ≤ most) xs → AreNumbers most d xs
-AreNumbers-array d most xs array all = ((within-IsArrayOf IsWhole (λ n. n ≤ 65535) d xs array).0, all)
 
 pub no_numbers_array : (d : Data) (most : ℕ) → most ≤ 65535 → ((xs : List ℕ) → ¬ IsArrayOf IsShort d xs) → (ns : List ℕ) → ¬ AreNumbers most d ns
 no_numbers_array d most short none ns h =

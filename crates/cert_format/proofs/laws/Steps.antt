@@ -1,5 +1,5 @@
 -- Which step of reading a certificate fails.
-use Rattle.std.proofs.Common.{◌≡◌, refl, sym, ◌∙◌, subst, List, ◌∷◌, ◌++◌, ℕ, inl, inr, Result, Ok, Err, Option, Some, None, true, false, is_some, codes, alloc_error, IsUtf8, IfOk, IfErr}
+use Rattle.std.proofs.Common.{◌≡◌, refl, sym, ◌∙◌, subst, List, ◌∷◌, ◌++◌, take, drop, ◌+◌, ℕ, inl, inr, Result, Ok, Err, Option, Some, None, true, false, is_some, codes, alloc_error, IsUtf8, IfOk, IfErr}
 use Rattle.word_image.proofs.Common.{AllByRecursion, All-from_recursion, none-some, LocalRule}
 use Rattle.serde_json.specs.Data.{Data, object, Members}
 use Rattle.serde_json.specs.Read.{read}
@@ -38,12 +38,12 @@ pub IsStepFault-at : (m : Misread) (k : Key) (f : CertFault) (P : Type 0) → (m
 IsStepFault-at misread.Shape k f P shape memory fails = inr (shape refl, fails refl)
 IsStepFault-at (misread.Memory e) k f P shape memory fails = inl (memory refl)
 
--- where the steps before pass, it is the fault of the parts
-pub IsPartFault-step : (v : CertVersion) (r : LocalRule) (ms : Members) (before after : List Key) (k : Key) (f : CertFault) → part_steps ≡ before ++ k ∷ after → AllByRecursion (Passes v r ms) before
-    → IsStepFault k (Passes v r ms k) f → IsPartFault v r ms f
-IsPartFault-step v r ms before after k f list earlier (inl memory) = inl memory
-IsPartFault-step v r ms before after k f list earlier (inr (is, fails)) =
-    inr (k, is, record { before = before; after = after; list = list; earlier = All-from_recursion (Passes v r ms) before earlier; fails = fails })
+-- where the n steps before pass, it is the fault of the parts
+pub IsPartFault-step : (v : CertVersion) (r : LocalRule) (ms : Members) (n : ℕ) (k : Key) (f : CertFault) → part_steps ≡ take n part_steps ++ k ∷ drop (n + 1) part_steps
+    → AllByRecursion (Passes v r ms) (take n part_steps) → IsStepFault k (Passes v r ms k) f → IsPartFault v r ms f
+IsPartFault-step v r ms n k f list earlier (inl memory) = inl memory
+IsPartFault-step v r ms n k f list earlier (inr (is, fails)) =
+    inr (k, is, record { before = take n part_steps; after = drop (n + 1) part_steps; list = list; earlier = All-from_recursion (Passes v r ms) (take n part_steps) earlier; fails = fails })
 
 -- the head and the parts make a certificate
 pub IsCertificateText-parts : (bytes : List ℕ) (ms : Members) (v : CertVersion) (r : LocalRule) (answer : Result Certificate CertFault) → IsObject bytes ms → HasVersion ms (number_of v) → (text : List ℕ) × HasRuleText ms text × IsRuleText text r

@@ -43,8 +43,7 @@ IsOffset-after minus digits z plain offset =
     elim (same_signed minus p.minus digits p.digits p.text) [
       | inl same ↦ (subst (IsDecimal 1 2) (sym same.1) p.decimal, ap₂ (λ (b : Bool) (x : List ℕ). signed b (decimal_value x)) same.0 same.1 ∙ sym p.value)
       | inr (inl other) ↦
-          let digit : IsDigit (get_or p.digits 0 0) = p.decimal.digits 0 0 (omega (arith, p.decimal.least)) in
-          absurd (omega (arith, digit.0, other.1))
+          absurd (omega (arith, (p.decimal.digits 0 0 (omega (arith, p.decimal.least))).0, other.1))
       | inr (inr other) ↦ absurd (plain other.0 other.1)
     ]
 

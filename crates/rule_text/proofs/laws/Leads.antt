@@ -150,9 +150,8 @@ pub TextLeads-head : {text : List ℕ} {from k m : ℕ} {z : ℤ} (kd : Kind) (o
     × ((n : ℕ) → IsFormFault (IsEntries kd) (drop from text) n → IsFormFault IsSaid text (from + n))
 TextLeads-head {text} {from} {k} {m} {z} kd o is leads within =
     let l = subst (λ (y : ℤ). TextLeads text from (Tells k m y kd)) (sym is) leads in
-    let long : length (take from text) ≡ from = length-take-le from text within in
     let says : (y : List ℕ) → IsEntries kd y → Says (take from text ++ y) (saying k m o (entries_of kd y) from) = λ y entries.
-    l.whole y _ (entries, ap (saying k m o (entries_of kd y)) (sym long)) in (
+    l.whole y _ (entries, ap (saying k m o (entries_of kd y)) (sym (length-take-le from text within))) in (
       λ entries. subst (λ x. Says x (saying k m o (entries_of kd (drop from text)) from)) (take-append-drop from text) (says (drop from text) entries),
       λ n f. IsFormFault-rest text from n within (λ y entries. (_, says y entries)) (λ y said. (l.only y said.0 said.1).0) f,
     )
@@ -198,7 +197,6 @@ IsFormFault-decimal digits n stop =
 pub IsFormFault-hex : (digits : List ℕ) (n : ℕ) → IsHexStop digits n → IsFormFault (All IsHexDigit) digits n
 IsFormFault-hex digits n stop =
     let x = take n digits in
-    let inside = stop.within in
     let long : length x ≡ n = length-take-le n digits (omega arith) in
     IsFormFault-next digits n (omega arith) (record { more = []; whole = All-append IsHexDigit x [] stop.before (All-nil IsHexDigit) }) (λ y same all.
     elim (cases_eq (length y) 0) [
@@ -210,7 +208,6 @@ IsFormFault-hex digits n stop =
 pub IsFormFault-bare : (text : List ℕ) (place n : ℕ) → place ≤ length text → LacksField text 0 place → IsFormFault (IsDecimal 1 39) text n → IsFormFault IsSaid text n
 IsFormFault-bare text place n inside h f =
     let first : take place text ≡ h.digits = h.over in
-    let few = h.decimal.most in
     let long : length h.digits ≡ place = sym (ap length first) ∙ length-take-le place text inside in
     let early : place ≤ n = elim (cases_lt n place) [
       | inl late ↦ absurd (f.longest place late inside (subst (Begins (IsDecimal 1 39)) (sym first) (row_with h.digits h.decimal.digits (omega arith))))

@@ -1,5 +1,5 @@
 -- The letters of a number in base k, from the least significant on: the table of a Wolfram number.
-use Rattle.std.proofs.Common.{◌≡◌, ℕ, suc, ◌+◌, ◌*◌, ◌/◌, ◌%◌, ◌^◌, ◌<◌, [], ◌∷◌, ◌++◌, reverse, sym, ap, ap₂, ◌∙◌, arith, add-one, add-mul, mul_assoc, mul_comm, pow-suc, mod-lt, mul-le-mul, div-add-mod'}
+use Rattle.std.proofs.Common.{◌≡◌, ℕ, suc, ◌+◌, ◌*◌, ◌/◌, ◌%◌, ◌^◌, ◌<◌, [], ◌∷◌, ◌++◌, reverse, sym, ap, ap₂, ◌∙◌, arith, add-one, mul_comm, pow-suc, mod-lt, mul-le-mul}
 use Rattle.word_image.proofs.Common.{div-div-eq-div-mul, one-le-pow, div_below, div-mul-add, mod-mul-add, reverse-append, word_of}
 
 -- the last places of a number, and the one before them, can be read from its last places and one more
@@ -10,10 +10,6 @@ digits_apart n p k some base =
     let s = r / p in
     let t = r % p in
     let positive : 0 < p * k = omega (arith, mul-le-mul some base) in
-    let whole : q * (p * k) + r ≡ n = div-add-mod' n (p * k) in
-    let inner : s * p + t ≡ r = div-add-mod' r p in
-    let swapped : q * (p * k) ≡ q * k * p = ap (λ j. q * j) (mul_comm p k) ∙ sym (mul_assoc q k p) in
-    let joined : (q * k + s) * p ≡ q * k * p + s * p = add-mul (q * k) s p in
     let n_is : n ≡ (q * k + s) * p + t = omega arith in
     let low : t < p = mod-lt r some in
     let below : r < k * p = omega (arith, mod-lt n positive, mul_comm p k) in

@@ -21,10 +21,7 @@ fits k m = nat_lt k 2 || (nat_lt m 2 || (nat_lt 16 (k ^ (m - 1)) || nat_le (k ^ 
 -- with at most 6 states every number of an accepted shape fits 128 bits
 pub number_limit : (k m : ℕ) (o : ℤ) → IsShape k m o → k ≤ 6 → k ^ (k ^ m) ≤ 2 ^ 128
 number_limit k m o shape few =
-    let all : all_below (λ k. all_below (fits k) 6) 7 ≡ true = refl in
-    let row : all_below (fits k) 6 ≡ true = all_below-is (λ k. all_below (fits k) 6) 7 all k (omega arith) in
-    let width = shape.most_width in
-    let here : fits k m ≡ true = all_below-is (fits k) 6 row m (omega arith) in
+    let row : all_below (fits k) 6 ≡ true = all_below-is (λ k. all_below (fits k) 6) 7 refl k (omega arith) in
     let states = shape.least_states in
     let least = shape.least_width in
     let nodes = shape.most_nodes in
@@ -84,15 +81,13 @@ sum_by-first k t (suc n) within =
     let term = λ (v : ℕ). get_or t v 0 * k ^ v in
     let first = reverse (take n t) in
     let a = get_or t n 0 in
-    let more : range_with_len 0 (n + 1) ≡ range_with_len 0 n ++ n ∷ [] =
-    sym (map-id (range_with_len 0 (n + 1))) ∙ map-range_with_len_more (λ (v : ℕ). v) 0 n n (zero-add n)
+    let more = sym (map-id (range_with_len 0 (n + 1))) ∙ map-range_with_len_more (λ (v : ℕ). v) 0 n n (zero-add n)
     ∙ ap (λ x. x ++ n ∷ []) (map-id (range_with_len 0 n)) in
     let long : length first ≡ n = length-reverse (take n t) ∙ length-take-le n t (omega arith) in
     let backwards : reverse (take (suc n) t) ≡ a ∷ first =
     ap (λ j. reverse (take j t)) (sym (add-one n)) ∙ ap reverse (take_more t n 0 (omega arith)) ∙ reverse-append (take n t) (a ∷ []) in
     let whole : value k (reverse (take (suc n) t)) ≡ a * k ^ n + value k first = ap (value k) backwards ∙ ap (λ j. a * k ^ j + value k first) long in
-    let sum : sum_by term (range_with_len 0 (suc n)) ≡ sum_by term (range_with_len 0 n) + term n =
-    ap (λ j. sum_by term (range_with_len 0 j)) (sym (add-one n)) ∙ ap (sum_by term) more ∙ sum_by_push term (range_with_len 0 n) n in
+    let sum = ap (λ j. sum_by term (range_with_len 0 j)) (sym (add-one n)) ∙ ap (sum_by term) more ∙ sum_by_push term (range_with_len 0 n) n in
     omega (arith, sum, whole, sum_by-first k t n (omega arith))
 
 -- the Wolfram number is the number whose digits are the table, the last letter the most significant

@@ -65,16 +65,13 @@ Field-lacks x y b next decimal longest no_colon f =
     let at : (i : ℕ) → get_or (x ++ y) i 0 ≡ get_or (d ++ colon ∷ f.rest) i 0 = λ i. ap (λ t. get_or t i 0) f.parts in
     let here : get_or (x ++ y) (length x + 0) 0 ≡ b = get_or-append-add x y 0 0 ∙ next in
     let there : get_or (d ++ colon ∷ f.rest) (length d) 0 ≡ colon = get_or-append_seam d colon f.rest 0 in
-    let least = f.decimal.least in
-    let most = f.decimal.most in
     elim (cases_order (length d) (length x)) [
       | inl same ↦
           let whole : length x + 0 ≡ length d = omega arith in
           no_colon (omega arith) (sym here ∙ at (length x + 0) ∙ ap (λ i. get_or (d ++ colon ∷ f.rest) i 0) whole ∙ there)
       | inr (inl less) ↦
-          let digit : IsDigit (get_or x (length d) 0) = decimal.digits (length d) 0 less in
           let byte = sym (get_or_append_left x y 0 (length d) less) ∙ at (length d) ∙ there in
-          omega (arith, digit.1)
+          omega (arith, (decimal.digits (length d) 0 less).1)
       | inr (inr more) ↦
           let whole : length x + 0 ≡ length x = omega arith in
           let byte : b ≡ get_or d (length x) 0 =
@@ -126,9 +123,8 @@ same_signed false false y z p = inl (refl, p)
 -- no digits begin with a minus sign
 no_sign : (d y : List ℕ) → IsDecimal 1 2 d → get_or (d ++ y) 0 0 ≢ 45
 no_sign d y decimal minus =
-    let first : IsDigit (get_or d 0 0) = decimal.digits 0 0 (omega (arith, decimal.least)) in
     let same = get_or_append_left d y 0 0 (omega (arith, decimal.least)) in
-    omega (arith, first.0)
+    omega (arith, (decimal.digits 0 0 (omega (arith, decimal.least))).0)
 
 -- after the digits of an offset and their colon comes what may come after it
 pub Signed-after : {After : ℤ → ℕ → List ℕ → Said → Type 0} {place : ℕ} {said : Said} (minus : Bool) (d y : List ℕ) → IsDecimal 1 2 d

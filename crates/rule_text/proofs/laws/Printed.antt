@@ -42,8 +42,7 @@ Writes-decimal n h =
       | inl one ↦ subst (λ (x : List ℕ). Writes x n) (sym (decimal_digit n one)) (Writes-one n one)
       | inr two ↦
           let high : n / 10 < 10 = div_below n 10 10 (omega arith) (omega arith) in
-          let text : decimal n ≡ (48 + n / 10) ∷ (48 + n % 10) ∷ [] =
-          decimal_step n two (omega arith) ∙ ap (λ x. x ++ (48 + n % 10) ∷ []) (decimal_digit (n / 10) high) in
+          let text = decimal_step n two (omega arith) ∙ ap (λ x. x ++ (48 + n % 10) ∷ []) (decimal_digit (n / 10) high) in
           subst (λ (x : List ℕ). Writes x n) (sym text)
           (subst (λ (j : ℕ). Writes ((48 + n / 10) ∷ (48 + n % 10) ∷ []) j) (div-add-mod' n 10) (Writes-two (n / 10) (n % 10) high (mod-lt n (omega arith))))
     ]
@@ -51,11 +50,9 @@ Writes-decimal n h =
 -- the text of an offset of an accepted shape
 IsOffset-offset_text : (k m : ℕ) (o : ℤ) → IsShape k m o → IsOffset (offset_text o) o
 IsOffset-offset_text k m (pos n) shape =
-    let most = shape.most_offset in
     let w = Writes-decimal n (grind (arith, ints)) in
     subst (λ (j : ℕ). IsOffset (decimal n) (pos j)) w.value (Plain (decimal n) w.decimal)
 IsOffset-offset_text k m (negsuc n) shape =
-    let least = shape.least_offset in
     let w = Writes-decimal (n + 1) (grind (arith, ints)) in
     let value : decimal_value (decimal (n + 1)) ≡ suc n = w.value ∙ add-one n in
     subst (λ (j : ℕ). IsOffset (codes "-" ++ decimal (n + 1)) (neg_ℤ (pos j))) value (Minus (decimal (n + 1)) w.decimal)
@@ -79,8 +76,6 @@ letters-lower_digits (a ∷ table) all =
 pub IsRuleText-printed_rule : (r : LocalRule) → IsRule r → IsRuleText (printed_rule r) r
 IsRuleText-printed_rule r rule =
     let shape = rule.shape in
-    let most = shape.most_states in
-    let width = shape.most_width in
     let k = Writes-decimal r.states (omega arith) in
     let m = Writes-decimal r.width (omega arith) in
     let small : All (λ a. a < 16) r.table = All-weaker (λ a. a < r.states) (λ a. a < 16) (λ a h. omega arith) r.table rule.letters in
@@ -88,8 +83,7 @@ IsRuleText-printed_rule r rule =
     let begin = head (decimal r.states) (decimal r.width) (offset_text r.offset) (codes "t") in
     let in_table = InTable (decimal r.states) (decimal r.width) (offset_text r.offset) (map lower_digit r.table) r.offset k.decimal m.decimal
     (IsOffset-offset_text r.states r.width r.offset shape) digits in
-    let says : Says (printed_rule r) (saying r.states r.width r.offset (Table (map letter_at (map lower_digit r.table))) (length begin)) =
-    Says-same in_table refl (sym k.value) (sym m.value) refl in
+    let says = Says-same in_table refl (sym k.value) (sym m.value) refl in
     record {
       said = saying r.states r.width r.offset (Table r.table) (length begin);
       says = subst (λ (t : List ℕ). Says (printed_rule r) (saying r.states r.width r.offset (Table t) (length begin))) (letters-lower_digits r.table small) says;

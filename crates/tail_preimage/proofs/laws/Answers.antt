@@ -12,7 +12,7 @@ use Rattle.tail_preimage.specs.declared.answer.Pre.TheVariants.{From, Gap}
 use Rattle.tail_preimage.specs.declared.shapes.PartRelations.{PartRelations}
 use Rattle.tail_preimage.proofs.laws.Walks.{IsWalk-first}
 use Rattle.tail_preimage.proofs.laws.Steps.{Open-rounds}
-use Rattle.tail_preimage.proofs.laws.PlacedWalks.{not_MapsTo-orphan}
+use Rattle.tail_preimage.proofs.laws.PlacedWalks.{IsPreimage-stretch}
 use Rattle.tail_preimage.proofs.laws.Parts.{SomeRounds-periods, walks-Starts, IsOrphan-PassesThrough, PassesThrough-IsOrphan}
 use Rattle.tail_preimage.proofs.laws.Shapes.{Through-map}
 use Rattle.tail_preimage.proofs.laws.LeastPreimages.{IsLeastPreimage-unique}
@@ -38,7 +38,7 @@ IsGap-first {r} {t} ht h b a gap =
       };
       before_few = gap.before_few;
       after_few = gap.after_few;
-      none = not_MapsTo-orphan h.rule ht b a orphan;
+      none = λ p maps. let found = IsPreimage-stretch h.rule ht maps b a in orphan.none found.0 found.1;
     }
 
 -- the least of the nodes from which walks of a shape lead

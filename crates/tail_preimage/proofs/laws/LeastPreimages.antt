@@ -55,11 +55,9 @@ whole-letters {r} {t} {s} {v} {w} {x} {y} {z} rule h =
     let bx : List ℕ = before_last r x in
     let by : List ℕ = before_last r y in
     let bz : List ℕ = before_last r z in
-    let rest : IsWalk r (stretch t s.before s.after ++ repeat s.on t.right) v w (by ++ z) = IsWalk-then rule h.middle h.right in
     let joined : by ++ z ≡ y ++ drop d z = sym (join-before_last h.middle h.right) in
-    let behind : drop d y ++ drop d z ≡ drop d (by ++ z) = sym (drop-append-le d y (drop d z) (omega arith)) ∙ ap (drop d) (sym joined) in
-    ap (λ a. x ++ a) behind
-    ∙ join-before_last h.left rest
+    ap (λ a. x ++ a) (sym (drop-append-le d y (drop d z) (omega arith)) ∙ ap (drop d) (sym joined))
+    ∙ join-before_last h.left (IsWalk-then rule h.middle h.right)
     ∙ ap (λ a. bx ++ (by ++ a)) (sym (take-append-drop (length z - d) z))
     ∙ sym (append_assoc (bx ++ by) bz (drop (length z - d) z) ∙ append_assoc bx by (bz ++ drop (length z - d) z))
 
@@ -69,9 +67,7 @@ whole-not_greater : {r : LocalRule} {t : TailConfig} {s : Shape} {v w v' w' : �
 whole-not_greater {r} {t} {s} {v} {w} {v'} {w'} {x} {y} {z} {x'} {y'} {z'} rule h g =
     let d : ℕ = r.width - 1 in
     let long : (a b : List ℕ) → length a ≡ length (repeat s.back t.left) + d → length b ≡ length (repeat s.back t.left) + d → length a ≡ length b = λ a b i j. omega arith in
-    let parts : slice_cmp nat_cmp (whole r x y z) (whole r x' y' z')
-    ≡ ordering_then (slice_cmp nat_cmp x x') (slice_cmp nat_cmp (drop d y ++ drop d z) (drop d y' ++ drop d z')) =
-    slice_cmp-append x (drop d y ++ drop d z) x' (drop d y' ++ drop d z') (long x x' h.left.walk.preimage.long g.left.preimage.long) in
+    let parts = slice_cmp-append x (drop d y ++ drop d z) x' (drop d y' ++ drop d z') (long x x' h.left.walk.preimage.long g.left.preimage.long) in
     let behind : slice_cmp nat_cmp (drop d y ++ drop d z) (drop d y' ++ drop d z') ≡ ordering_then (slice_cmp nat_cmp (drop d y) (drop d y')) (slice_cmp nat_cmp (drop d z) (drop d z')) =
     slice_cmp-append (drop d y) (drop d z) (drop d y') (drop d z') (omega (arith, length-drop d y, length-drop d y')) in
     let most : v ≤ v' = h.start v' w' x' y' z' g in
@@ -121,15 +117,7 @@ same_shape s u before back after on =
 
 -- shapes that compare equal are equal
 shape_cmp-equal : (s u : Shape) → shape_cmp s u ≡ Equal → s ≡ u
-shape_cmp-equal s u e =
-    let one = then_equal (nat_cmp (s.back + s.before) (u.back + u.before)) _ e in
-    let two = then_equal (nat_cmp (s.on + s.after) (u.on + u.after)) _ one.1 in
-    let three = then_equal (nat_cmp s.before u.before) (nat_cmp s.after u.after) two.1 in
-    let lefts : s.back + s.before ≡ u.back + u.before = nat_cmp-equal (s.back + s.before) (u.back + u.before) one.0 in
-    let rights : s.on + s.after ≡ u.on + u.after = nat_cmp-equal (s.on + s.after) (u.on + u.after) two.0 in
-    let before : s.before ≡ u.before = nat_cmp-equal s.before u.before three.0 in
-    let after : s.after ≡ u.after = nat_cmp-equal s.after u.after three.1 in
-    same_shape s u before (omega arith) after (omega arith)
+shape_cmp-equal s u e = grind (arith, then_equal, nat_cmp-equal, same_shape)
 
 -- first walks are loop walks
 AreFirstWalks-walks : {r : LocalRule} {t : TailConfig} {s : Shape} {v w : ℕ} {x y z : List ℕ} → AreFirstWalks r t s v w x y z → AreLoopWalks r t s v w x y z
@@ -167,21 +155,20 @@ IsFrom-first {r} {t} {s} {x = x} {y = y} {z = z} rule ht small least h =
       small = small;
     }
 
+-- two lists whose beginnings are of one length are equal part by part
+same_cut : (a b c d : List ℕ) → length a ≡ length c → a ++ b ≡ c ++ d → (a ≡ c) × (b ≡ d)
+same_cut a b c d long e = (
+  sym (take_at a b (length a) refl) ∙ ap₂ (λ (n : ℕ) (x : List ℕ). take n x) long e ∙ take_at c d (length c) refl,
+  sym (drop_at a b (length a) refl) ∙ ap₂ (λ (n : ℕ) (x : List ℕ). drop n x) long e ∙ drop_at c d (length c) refl,
+)
+
 -- placed configurations of one shape with the same letters are one
 same_placed : {r : LocalRule} {t : TailConfig} {s : Shape} {p q : PlacedConfig} → HasShape r t s p → HasShape r t s q → letters p ≡ letters q → p ≡ q
 same_placed {r} {t} {s} {p} {q} h g e =
     let left : length p.config.left ≡ length q.config.left = h.left ∙ sym g.left in
-    let middle : length p.config.middle ≡ length q.config.middle = h.middle ∙ sym g.middle in
-    let front = λ (c : TailConfig). c.left ++ c.middle in
-    let long : length (front p.config) ≡ length (front q.config) = omega (arith, length-append p.config.left p.config.middle, length-append q.config.left q.config.middle) in
-    let fronts : front p.config ≡ front q.config =
-    sym (take_at (front p.config) p.config.right (length (front p.config)) refl) ∙ ap₂ (λ (n : ℕ) (a : List ℕ). take n a) long e ∙ take_at (front q.config) q.config.right (length (front q.config)) refl in
-    let rights : p.config.right ≡ q.config.right =
-    sym (drop_at (front p.config) p.config.right (length (front p.config)) refl) ∙ ap₂ (λ (n : ℕ) (a : List ℕ). drop n a) long e ∙ drop_at (front q.config) q.config.right (length (front q.config)) refl in
-    let lefts : p.config.left ≡ q.config.left =
-    sym (take_at p.config.left p.config.middle (length p.config.left) refl) ∙ ap₂ (λ (n : ℕ) (a : List ℕ). take n a) left fronts ∙ take_at q.config.left q.config.middle (length q.config.left) refl in
-    let middles : p.config.middle ≡ q.config.middle =
-    sym (drop_at p.config.left p.config.middle (length p.config.left) refl) ∙ ap₂ (λ (n : ℕ) (a : List ℕ). drop n a) left fronts ∙ drop_at q.config.left q.config.middle (length q.config.left) refl in
+    let long : length (p.config.left ++ p.config.middle) ≡ length (q.config.left ++ q.config.middle) = omega (arith, length-append p.config.left p.config.middle, length-append q.config.left q.config.middle) in
+    let (fronts, rights) = same_cut (p.config.left ++ p.config.middle) p.config.right (q.config.left ++ q.config.middle) q.config.right long e in
+    let (lefts, middles) = same_cut p.config.left p.config.middle q.config.left q.config.middle left fronts in
     let parts : p.config ≡ q.config = ap₂ (λ (a b : List ℕ). config_of a b p.config.right) lefts middles ∙ ap (config_of q.config.left q.config.middle) rights in
     ap₂ (λ (i : ℤ) (c : TailConfig). record { at = i; config = c }) (h.at ∙ sym g.at) parts
 

@@ -1,6 +1,6 @@
 -- The first walk of a word from a node into a set of nodes is found edge by edge: at each place the least letter from whose edge the set can still be reached.
 use Rattle.std.proofs.Common.{◌≡◌, ◌≢◌, ◌↔◌, ℕ, ◌+◌, ◌-◌, ◌<◌, ◌≤◌, List, [], ◌∷◌, ◌++◌, length, take, drop, get_or, IsBitSet, sym, ap, ◌∙◌, subst, arith, length-drop, ⊎_elim, nat_cmp, Equal, Greater, take-append-drop, take_all, take-take, take_at, length-take-le}
-use Rattle.word_image.proofs.Common.{ordering_then, slice_cmp, cases_lt, take_more, nil_from_length, LocalRule, IsRule, value, node_count, next, label, IsEdge, then_not_greater, slice_cmp-same}
+use Rattle.word_image.proofs.Common.{slice_cmp, cases_lt, take_more, nil_from_length, LocalRule, IsRule, value, node_count, next, label, IsEdge, then_not_greater, slice_cmp-same}
 use Rattle.word_image.specs.declared.side.Side.TheVariants.{Right}
 use Rattle.tail_preimage.specs.Walks.{IsWalk, Reaches, IsLeastWalkInto}
 use Rattle.tail_preimage.proofs.laws.Walks.{HasLastEdge, IsWalk-none, IsWalk-stays, IsWalk-cut, IsWalk-push, IsWalk-snoc, HasWalk-cons, IsWalk-last, same_first}
@@ -69,9 +69,8 @@ IsOther-walk : {r : LocalRule} {w : List ℕ} {u s goal : ℕ} → IsRule r → 
 IsOther-walk {r} {w} {u} {s} {goal} rule n inside at y other =
     let d : ℕ = r.width - 1 in
     let a : ℕ = get_or w n 0 in
-    let next_long : length (take (n + 1) w) ≡ n + 1 = length-take-le (n + 1) w (omega arith) in
     let cut = IsWalk-cut rule (take (n + 1) w) (drop (n + 1) w) (subst (λ z. IsWalk r z u s y) (sym (take-append-drop (n + 1) w)) other) in
-    let long : length (take (n + 1) w) + d ≡ n + 1 + d = ap (λ i. i + d) next_long in
+    let long : length (take (n + 1) w) + d ≡ n + 1 + d = ap (λ i. i + d) (length-take-le (n + 1) w (omega arith)) in
     let begun : IsWalk r (take n w ++ a ∷ []) u cut.node (take (n + 1 + d) y) =
     subst (λ i. IsWalk r (take n w ++ a ∷ []) u cut.node (take i y)) long (subst (λ z. IsWalk r z u cut.node (take (length (take (n + 1) w) + d) y)) (take_more w n 0 inside) cut.before) in
     IsOther-edge goal n inside at (IsWalk-snoc rule (take n w) a begun) cut.after
@@ -81,11 +80,9 @@ push-not_greater : {r : LocalRule} {w : List ℕ} {u goal n v : ℕ} {x y : List
     → ((c : ℕ) → c < b → label r v c ≡ get_or w n 0 → ¬ Reaches r (drop (n + 1) w) goal (next r v c)) → slice_cmp nat_cmp x (take (n + (r.width - 1)) y) ≢ Greater → (o : IsOther r w u goal n y)
     → slice_cmp nat_cmp (x ++ b ∷ []) (take (n + 1 + (r.width - 1)) y) ≢ Greater
 push-not_greater {r} {w} {u} {goal} {n} {v} {x} {y} walk b none least o e =
-    let d : ℕ = r.width - 1 in
     let c : ℕ = o.letter in
     let first : slice_cmp nat_cmp x o.before ≢ Greater = subst (λ z. slice_cmp nat_cmp x z ≢ Greater) o.begins least in
-    let letters : slice_cmp nat_cmp (x ++ b ∷ []) (o.before ++ c ∷ []) ≡ ordering_then (slice_cmp nat_cmp x o.before) (slice_cmp nat_cmp (b ∷ []) (c ∷ [])) =
-    slice_cmp-append x (b ∷ []) o.before (c ∷ []) (omega arith) in
+    let letters = slice_cmp-append x (b ∷ []) o.before (c ∷ []) (omega arith) in
     let greater : slice_cmp nat_cmp (x ++ b ∷ []) (o.before ++ c ∷ []) ≡ Greater = subst (λ z. slice_cmp nat_cmp (x ++ b ∷ []) z ≡ Greater) o.splits e in
     let last : slice_cmp nat_cmp x o.before ≡ Equal → slice_cmp nat_cmp (b ∷ []) (c ∷ []) ≢ Greater = λ same.
     let node : v ≡ o.node = sym walk.last ∙ ap (λ z. value r.states (drop (length (take n w)) z)) (slice_cmp-equal x o.before same) ∙ o.walk.last in

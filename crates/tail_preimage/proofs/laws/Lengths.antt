@@ -24,10 +24,7 @@ length-stretch-most {t = t} short b a left right =
 
 -- the three parts of the least placed configuration have at most 33,792 letters together
 pub length-placed : {k : ℕ} {r : LocalRule} {t : TailConfig} {p : PlacedConfig} → IsShortTail k t → IsFrom r t p → length p.config.left + length p.config.middle + length p.config.right ≤ 33792
-length-placed {t = t} short h =
-    let s = h.least.shape in
-    let shape = h.least.preimage.shape in
-    omega (arith, shape.left, shape.middle, shape.right, short.middle, copies_most s.back s.before (length t.left) h.small.left short.left, copies_most s.on s.after (length t.right) h.small.right short.right)
+length-placed {t = t} short h = grind (arith, copies_most)
 
 -- a gap has at most 33,792 letters
 pub length-gap : {k b a : ℕ} {r : LocalRule} {t : TailConfig} {w : List ℕ} → IsShortTail k t → IsGap r t b a w → length w ≤ 33792

@@ -10,7 +10,7 @@ use Rattle.tail_preimage.specs.Parts.{ArePeriods, AreTailParts, PassesThrough, S
 use Rattle.tail_preimage.specs.FirstWalks.{AreLoopWalks}
 use Rattle.tail_preimage.specs.declared.periods.Periods.{Periods}
 use Rattle.tail_preimage.specs.declared.shapes.PartRelations.{PartRelations}
-use Rattle.tail_preimage.proofs.laws.Walks.{IsWalk-first, IsWalk-last, IsWalk-none, IsWalk-stays, HasWalk-join, HasWalk-cut, IsOrphan-none, IsOrphan-walk}
+use Rattle.tail_preimage.proofs.laws.Walks.{IsWalk-first, IsWalk-last, IsWalk-none, IsWalk-stays, HasWalk-join, HasWalk-cut, IsOrphan-none}
 use Rattle.tail_preimage.proofs.laws.Stretches.{repeat-more, IsWord-stretch}
 use Rattle.tail_preimage.proofs.laws.Steps.{Steps-none, Steps-stay, Steps-cons, Steps-first, Steps-end, SomeRounds-open}
 
@@ -57,37 +57,35 @@ Steps-reversed {r} {p} rule h (suc n) u v l =
           Steps-cons (((h.rows u l).nodes w node).1 second) ((Steps-reversed rule h n w v node).1 first)),
     )
 
+-- walks along a stretch are walks along its left periods, its middle and its right periods
+HasWalk-stretch : {r : LocalRule} {t : TailConfig} {parts : PartRelations} → AreTailParts r t parts → (b a u s : ℕ) → HasWalk r (stretch t b a) u s
+    ↔ ((v : ℕ) × (w : ℕ) × (v < node_count r) × (w < node_count r) × Steps (HasBit parts.left.period) b v u × HasBit parts.middle v w × Steps (HasBit parts.right.period) a w s)
+HasWalk-stretch {r} {t} {parts} h b a u s = (
+  (λ walk.
+      let (w, before, third) = HasWalk-cut h.rule (repeat b t.left ++ t.middle) (repeat a t.right) walk in
+      let (v, first, second) = HasWalk-cut h.rule (repeat b t.left) t.middle before in
+      let v_node : v < node_count r = IsWalk-last first.1 in
+      let w_node : w < node_count r = IsWalk-last second.1 in
+      (v, w, v_node, w_node, (Steps-reversed h.rule h.left b v u v_node).1 first, ((h.middle.rows v v_node).nodes w w_node).1 second, (Steps-repeat h.rule h.right a w s w_node).1 third)),
+  (λ (v, w, v_node, w_node, lefts, middle, rights).
+      let first = HasWalk-join h.rule ((Steps-reversed h.rule h.left b v u v_node).0 lefts) (((h.middle.rows v v_node).nodes w w_node).0 middle) in
+      HasWalk-join h.rule first ((Steps-repeat h.rule h.right a w s w_node).0 rights)),
+)
+
 -- three walks of a shape lead from its starts, and from no other node
 pub Starts-walks : {r : LocalRule} {t : TailConfig} {parts : PartRelations} {s : Shape} {v : ℕ} → AreTailParts r t parts → 1 ≤ s.back → 1 ≤ s.on → v < node_count r → Starts r parts s v
     → (w : ℕ) × (x : List ℕ) × (y : List ℕ) × (z : List ℕ) × AreLoopWalks r t s v w x y z
-Starts-walks {r} {t} {parts} {s} {v} h back on node (loop, (u, u_node, lefts, (n, n_node, middle, (w, rights, turn)))) =
+Starts-walks {s = s} {v = v} h back on node (loop, (u, u_node, lefts, (n, n_node, middle, (w, rights, turn)))) =
     let x = (Steps-reversed h.rule h.left s.back v v node).0 loop in
-    let first = (Steps-reversed h.rule h.left s.before u v u_node).0 lefts in
-    let second = ((h.middle.rows u u_node).nodes n n_node).0 middle in
-    let third = (Steps-repeat h.rule h.right s.after n w n_node).0 rights in
-    let y = HasWalk-join h.rule (HasWalk-join h.rule first second) third in
-    let z = (Steps-repeat h.rule h.right s.on w w (IsWalk-last third.1)).0 turn in
+    let y = (HasWalk-stretch h s.before s.after v w).1 (u, n, u_node, n_node, lefts, middle, rights) in
+    let z = (Steps-repeat h.rule h.right s.on w w (IsWalk-last y.1)).0 turn in
     (w, x.0, y.0, z.0, record { back_some = back; on_some = on; left = x.1; middle = y.1; right = z.1 })
 
 pub walks-Starts : {r : LocalRule} {t : TailConfig} {parts : PartRelations} {s : Shape} {v w : ℕ} {x y z : List ℕ} → AreTailParts r t parts → AreLoopWalks r t s v w x y z → Starts r parts s v
-walks-Starts {r} {t} {parts} {s} {v} {w} {x} {y} {z} h walks =
-    let (n, before, third) = HasWalk-cut h.rule (repeat s.before t.left ++ t.middle) (repeat s.after t.right) (y, walks.middle) in
-    let (u, first, second) = HasWalk-cut h.rule (repeat s.before t.left) t.middle before in
-    let u_node : u < node_count r = IsWalk-last first.1 in
-    let n_node : n < node_count r = IsWalk-last second.1 in (
-      (Steps-reversed h.rule h.left s.back v v (IsWalk-first walks.left)).1 (x, walks.left),
-      (
-        u,
-        u_node,
-        (Steps-reversed h.rule h.left s.before u v u_node).1 first,
-        (
-          n,
-          n_node,
-          ((h.middle.rows u u_node).nodes n n_node).1 second,
-          (w, (Steps-repeat h.rule h.right s.after n w n_node).1 third, (Steps-repeat h.rule h.right s.on w w (IsWalk-last third.1)).1 (z, walks.right)),
-        ),
-      ),
-    )
+walks-Starts {s = s} {v = v} {w = w} {x = x} {y = y} {z = z} h walks =
+    let (u, n, u_node, n_node, lefts, middle, rights) = (HasWalk-stretch h s.before s.after v w).0 (y, walks.middle) in
+    let turn = (Steps-repeat h.rule h.right s.on w w (IsWalk-last walks.middle)).1 (z, walks.right) in
+    ((Steps-reversed h.rule h.left s.back v v (IsWalk-first walks.left)).1 (x, walks.left), (u, u_node, lefts, (n, n_node, middle, (w, rights, turn))))
 
 -- a shape is possible where three walks have it
 pub walks-IsPossible : {r : LocalRule} {t : TailConfig} {parts : PartRelations} {s : Shape} {v w : ℕ} {x y z : List ℕ} → AreTailParts r t parts → AreLoopWalks r t s v w x y z → IsPossible r parts s
@@ -95,30 +93,15 @@ walks-IsPossible {v = v} h walks = record { back_some = walks.back_some; on_some
 
 -- periods lead through where some walk leads along them, and nowhere else
 pub PassesThrough-walk : {r : LocalRule} {t : TailConfig} {parts : PartRelations} → AreTailParts r t parts → (b a : ℕ) → PassesThrough r parts b a → (u : ℕ) × (s : ℕ) × HasWalk r (stretch t b a) u s
-PassesThrough-walk h b a (v, w, v_node, w_node, (u, lefts), middle, (s, rights)) =
-    let first = (Steps-reversed h.rule h.left b v u v_node).0 lefts in
-    let second = ((h.middle.rows v v_node).nodes w w_node).0 middle in
-    let third = (Steps-repeat h.rule h.right a w s w_node).0 rights in
-    (u, s, HasWalk-join h.rule (HasWalk-join h.rule first second) third)
+PassesThrough-walk h b a (v, w, v_node, w_node, (u, lefts), middle, (s, rights)) = (u, s, (HasWalk-stretch h b a u s).1 (v, w, v_node, w_node, lefts, middle, rights))
 
 pub walk-PassesThrough : {r : LocalRule} {t : TailConfig} {parts : PartRelations} {u s : ℕ} → AreTailParts r t parts → (b a : ℕ) → HasWalk r (stretch t b a) u s → PassesThrough r parts b a
-walk-PassesThrough {r} {t} {parts} {u} {s} h b a walk =
-    let (w, before, third) = HasWalk-cut h.rule (repeat b t.left ++ t.middle) (repeat a t.right) walk in
-    let (v, first, second) = HasWalk-cut h.rule (repeat b t.left) t.middle before in
-    let v_node : v < node_count r = IsWalk-last first.1 in
-    let w_node : w < node_count r = IsWalk-last second.1 in (
-      v,
-      w,
-      v_node,
-      w_node,
-      (u, (Steps-reversed h.rule h.left b v u v_node).1 first),
-      ((h.middle.rows v v_node).nodes w w_node).1 second,
-      (s, (Steps-repeat h.rule h.right a w s w_node).1 third),
-    )
+walk-PassesThrough {u = u} {s = s} h b a walk =
+    let (v, w, v_node, w_node, lefts, middle, rights) = (HasWalk-stretch h b a u s).0 walk in (v, w, v_node, w_node, (u, lefts), middle, (s, rights))
 
 -- where a stretch is an orphan, its periods and the middle lead nowhere
 pub IsOrphan-PassesThrough : {r : LocalRule} {t : TailConfig} {parts : PartRelations} → AreTailParts r t parts → (b a : ℕ) → IsOrphan r (stretch t b a) → ¬ PassesThrough r parts b a
-IsOrphan-PassesThrough h b a orphan passes = let walk = PassesThrough-walk h b a passes in IsOrphan-walk orphan walk.2
+IsOrphan-PassesThrough h b a orphan passes = let (u, s, (x, walk)) = PassesThrough-walk h b a passes in orphan.none x walk.preimage
 
 pub PassesThrough-IsOrphan : {r : LocalRule} {t : TailConfig} {parts : PartRelations} → IsTail r.states t → AreTailParts r t parts → (b a : ℕ) → ¬ PassesThrough r parts b a → IsOrphan r (stretch t b a)
 PassesThrough-IsOrphan ht h b a none = IsOrphan-none (IsWord-stretch ht b a) (λ u s walk. none (walk-PassesThrough h b a walk))

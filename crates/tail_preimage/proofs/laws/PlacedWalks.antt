@@ -1,7 +1,7 @@
 -- A placed configuration that maps to another is a walk that spells the other's letters, and from its shape come three walks.
 use Rattle.std.proofs.Common.{◌≡◌, ℕ, ◌+◌, ◌-◌, ◌*◌, List, length, take, drop, ℤ, pos, ◌+ℤ◌, ◌-ℤ◌, neg_ℤ, refl, sym, ap, ap₂, ◌∙◌, subst, subst₂, arith, add-mul, take_at}
-use Rattle.word_image.proofs.Common.{repeat, ints, LocalRule, IsRule, value, local_map, IsPreimage, IsOrphan}
-use Rattle.tail_config.proofs.Common.{run, image_of, TailConfig, IsTail, cell, cells, length-run, IsWord-run, run-same, take-run, drop-run, image-run, cell-below, cells-middle, cells-left, cells-right, RepeatsRight-times, cell-right_period}
+use Rattle.word_image.proofs.Common.{repeat, ints, LocalRule, IsRule, value, local_map, IsPreimage}
+use Rattle.tail_config.proofs.Common.{image_of, TailConfig, IsTail, cell, cells, length-run, IsWord-run, run-same, take-run, drop-run, image-run, cell-below, cells-middle, cells-left, cells-right, RepeatsRight-times, cell-right_period}
 use Rattle.tail_preimage.specs.Walks.{IsWalk, before_last}
 use Rattle.tail_preimage.specs.Preimages.{PlacedConfig, MapsTo, Shape, IsShapedPreimage, stretch}
 use Rattle.tail_preimage.specs.FirstWalks.{AreLoopWalks}
@@ -14,8 +14,7 @@ IsPreimage-placed : {r : LocalRule} {t : TailConfig} {p : PlacedConfig} → IsRu
 IsPreimage-placed {r} {t} {p} rule h i j n e =
     let c : TailConfig = p.config in
     let first : ℤ = i -ℤ p.at in
-    let labels : run (image_of r (cell c)) first n ≡ cells t i n =
-    run-same (image_of r (cell c)) (cell t) first i n (λ a l.
+    let labels = run-same (image_of r (cell c)) (cell t) first i n (λ a l.
     let place : i +ℤ pos a +ℤ r.offset -ℤ p.at ≡ first +ℤ pos a +ℤ r.offset = omega (arith, ints) in
     ap (local_map r) (sym (placed_cells-cells p (i +ℤ pos a +ℤ r.offset) (first +ℤ pos a +ℤ r.offset) r.width place)) ∙ h.cells (i +ℤ pos a)) in
     record {
@@ -47,15 +46,10 @@ IsPreimage-stretch {r} {t} {p} rule ht h b a =
     let x : List ℕ = cells p.config j (stretch_length t b a + (r.width - 1)) in
     (x, subst (λ w. IsPreimage r w x) (cells-stretch ht b a) (IsPreimage-placed rule h i j (stretch_length t b a) refl))
 
--- where a stretch is an orphan, no placed configuration maps to the whole configuration
-pub not_MapsTo-orphan : {r : LocalRule} {t : TailConfig} → IsRule r → IsTail r.states t → (b a : ℕ) → IsOrphan r (stretch t b a) → (p : PlacedConfig) → ¬ MapsTo r p t
-not_MapsTo-orphan rule ht b a orphan p h = let found = IsPreimage-stretch rule ht h b a in orphan.none found.0 found.1
-
 -- n left periods that end b periods before place 0
 run-lefts : (t : TailConfig) (b n : ℕ) (i : ℤ) → i ≡ stretch_start t (n + b) → cells t i (n * length t.left) ≡ repeat n t.left
 run-lefts t b n i e =
     let p : ℕ = length t.left in
-    let long : (n + b) * p ≡ n * p + b * p = add-mul n b p in
     ap (λ j. cells t j (n * p)) e
     ∙ sym (take-run (cell t) (stretch_start t (n + b)) ((n + b) * p) (n * p) (omega arith))
     ∙ ap (take (n * p)) (cells-lefts t (n + b) ∙ repeat-add n b t.left)
@@ -97,7 +91,6 @@ HasLoopWalks-shape {r} {t} {s} {p} rule ht h =
     let left : ℕ = s.back * length t.left in
     let middle : ℕ = stretch_length t s.before s.after in
     let right : ℕ = s.on * length t.right in
-    let at : p.at ≡ r.offset -ℤ pos (s.before * length t.left) = h.shape.at in
     let left_long : length c.left ≡ left = h.shape.left in
     let middle_long : length c.middle ≡ middle = h.shape.middle in
     let right_long : length c.right ≡ right = h.shape.right in
@@ -114,16 +107,14 @@ HasLoopWalks-shape {r} {t} {s} {p} rule ht h =
     let at_loop : p.at -ℤ pos left -ℤ p.at ≡ first = omega (arith, ints) in
     let round : node_from r c first ≡ v =
     ap (value r.states) (sym (placed_cells-cells p (p.at -ℤ pos left) first d at_loop) ∙ sym h.shape.node ∙ placed_cells-cells p p.at (pos 0) d at_node) in
-    let turn : node_from r c (last +ℤ pos right) ≡ w =
-    ap (value r.states) (run-same (cell c) (cell c) (last +ℤ pos right) last d (λ a l.
+    let turn = ap (value r.states) (run-same (cell c) (cell c) (last +ℤ pos right) last d (λ a l.
     let place : last +ℤ pos right +ℤ pos a ≡ last +ℤ pos a +ℤ pos (length c.right) = omega (arith, ints) in
     ap (cell c) place ∙ cell-right_period c (last +ℤ pos a) (omega (arith, ints)))) in
     let back_end : first +ℤ pos left ≡ pos 0 = omega (arith, ints) in
     let middle_end : pos 0 +ℤ pos middle ≡ last = omega (arith, ints) in
     let walk_x : IsWalk r (cells t i left) (node_from r c first) (node_from r c (first +ℤ pos left)) x = IsWalk-placed rule h.maps i first left (omega (arith, ints)) in
     let walk_y : IsWalk r (cells t (stretch_start t s.before) middle) v (node_from r c (pos 0 +ℤ pos middle)) y = IsWalk-placed rule h.maps (stretch_start t s.before) (pos 0) middle (omega (arith, ints)) in
-    let walk_z : IsWalk r (cells t (pos (length t.middle + s.after * length t.right)) right) w (node_from r c (last +ℤ pos right)) z =
-    IsWalk-placed rule h.maps (pos (length t.middle + s.after * length t.right)) last right (omega (arith, ints)) in
+    let walk_z = IsWalk-placed rule h.maps (pos (length t.middle + s.after * length t.right)) last right (omega (arith, ints)) in
     record {
       v = v;
       w = w;

@@ -1,5 +1,5 @@
 -- Three walks, a loop, one from it to another loop, and that loop, are a placed configuration that maps to the letters which they spell.
-use Rattle.std.proofs.Common.{◌≡◌, ℕ, zero, suc, ◌+◌, ◌-◌, ◌*◌, ◌<◌, ◌≤◌, List, [], ◌++◌, length, take, drop, get_or, slice_range, ℤ, pos, ◌+ℤ◌, ◌-ℤ◌, unsigned_abs, refl, sym, ap, ap₂, ◌∙◌, subst, arith, length-append, length-drop, append_assoc, mul_assoc, suc-mul, zero-mul, add-mul, mul-one, mul-le-mul_left, take-append-drop, length-take-le, append-nil}
+use Rattle.std.proofs.Common.{◌≡◌, ℕ, zero, suc, ◌+◌, ◌-◌, ◌*◌, ◌<◌, ◌≤◌, List, [], ◌++◌, length, take, drop, get_or, slice_range, ℤ, pos, ◌+ℤ◌, ◌-ℤ◌, unsigned_abs, refl, sym, ap, ap₂, ◌∙◌, subst, arith, length-append, length-drop, append_assoc, mul_assoc, zero-mul, add-mul, mul-one, mul-le-mul_left, take-append-drop, length-take-le, append-nil}
 use Rattle.word_image.proofs.Common.{repeat, ints, mul-le, take-append-le, drop-append-le, All-take, LocalRule, IsRule, IsWord, value, word_of, local_map, length-word_of, value-injective, get_or-image}
 use Rattle.pair_laws.proofs.Common.{same_node}
 use Rattle.tail_config.proofs.Common.{TailConfig, IsTail, cell, cells, config_of, length-run, get_or-run, IsWord-run, run-same, slice_range-run, take-run, cell-below}
@@ -42,13 +42,7 @@ IsWalk-round {r} {v} {s} {w} {z} {x} {y} rule h g (suc n) =
 
 -- b left periods more before a stretch and a right periods more behind it make one stretch
 pub stretch-more : (t : TailConfig) (b p q a : ℕ) → repeat b t.left ++ (stretch t p q ++ repeat a t.right) ≡ stretch t (b + p) (q + a)
-stretch-more t b p q a =
-    let m : List ℕ = t.middle in
-    let left : List ℕ = repeat p t.left in
-    let right : List ℕ = repeat q t.right in
-    ap (λ x. repeat b t.left ++ x) (append_assoc (left ++ m) right (repeat a t.right) ∙ ap (λ x. left ++ m ++ x) (sym (repeat-add q a t.right)))
-    ∙ sym (append_assoc (repeat b t.left) (left ++ m) (repeat (q + a) t.right))
-    ∙ ap (λ x. x ++ repeat (q + a) t.right) (sym (append_assoc (repeat b t.left) left m) ∙ ap (λ x. x ++ m) (sym (repeat-add b p t.left)))
+stretch-more t b p q a = grind (arith, append_assoc, repeat-add)
 
 -- the stretch that n rounds of either loop spell
 abbrev pub rounds : TailConfig → Shape → ℕ → ℕ → List ℕ
@@ -67,8 +61,7 @@ IsWalk-rounds {r} {t} {s} {v} {w} {x} {y} {z} rule h b a =
     let right : List ℕ = repeat a (before_last r z) in
     let m : List ℕ = before_last r y in
     let on : IsWalk r (repeat a (repeat s.on t.right) ++ []) w w (right ++ end) = IsWalk-round rule h.right (IsWalk-none r w (IsWalk-last h.middle)) a in
-    let all : IsWalk r (repeat b (repeat s.back t.left) ++ (stretch t s.before s.after ++ (repeat a (repeat s.on t.right) ++ []))) v w (left ++ (m ++ (right ++ end))) =
-    IsWalk-round rule h.left (IsWalk-then rule h.middle on) b in
+    let all = IsWalk-round rule h.left (IsWalk-then rule h.middle on) b in
     let word : repeat b (repeat s.back t.left) ++ (stretch t s.before s.after ++ (repeat a (repeat s.on t.right) ++ [])) ≡ rounds t s b a =
     ap₂ (λ (i j : List ℕ). i ++ (stretch t s.before s.after ++ j)) (repeat-repeat b s.back t.left) (append-nil (repeat a (repeat s.on t.right)) ∙ repeat-repeat a s.on t.right)
     ∙ stretch-more t (b * s.back) s.before s.after (a * s.on) in
@@ -177,8 +170,6 @@ IsShapedPreimage-placed_of {r} {t} {s} {x = x} {y = y} {z = z} rule ht h =
     let p : PlacedConfig = placed_of r t s.before x y z in
     let d : ℕ = r.width - 1 in
     let left : length c.left ≡ s.back * length t.left = length-before_last h.left ∙ length-repeat s.back t.left in
-    let one : 1 * length c.left ≡ length c.left = omega (arith, suc-mul 0 (length c.left), zero-mul (length c.left)) in
-    let here : p.at -ℤ p.at ≡ stretch_start c 0 = omega (arith, ints, zero-mul (length c.left)) in
     let before : p.at -ℤ pos (s.back * length t.left) -ℤ p.at ≡ stretch_start c 1 = omega (arith, ints) in
     record {
       maps = MapsTo-placed_of rule ht h;
@@ -189,7 +180,7 @@ IsShapedPreimage-placed_of {r} {t} {s} {x = x} {y = y} {z = z} rule ht h =
         middle = length-before_last h.middle ∙ length-stretch t s.before s.after;
         right = length-before_last h.right ∙ length-repeat s.on t.right;
         at = refl;
-        node = placed_cells-cells p p.at (stretch_start c 0) d here
+        node = placed_cells-cells p p.at (stretch_start c 0) d (omega (arith, ints, zero-mul (length c.left)))
             ∙ value-injective r.states (cells c (stretch_start c 0) d) (cells c (stretch_start c 1) d) (IsWord-run (cell-below hc) (stretch_start c 0) d) (IsWord-run (cell-below hc) (stretch_start c 1) d)
             (length-run (cell c) (stretch_start c 0) d ∙ sym (length-run (cell c) (stretch_start c 1) d)) (spelled-node rule ht h 0 ∙ sym (spelled-node rule ht h 1))
             ∙ sym (placed_cells-cells p (p.at -ℤ pos (s.back * length t.left)) (stretch_start c 1) d before);

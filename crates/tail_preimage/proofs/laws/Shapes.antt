@@ -91,8 +91,7 @@ IsFirstShape-keys {r} {t} {parts} h left right before after keys =
           let Q : ℕ → Type 0 = Rounds C u.after u.on in
           let some = possible.back_some in
           let on_some = possible.on_some in
-          let first : left ≤ lefts =
-          IsFirst-le (λ n. Through r parts (SomeRounds A n) (Open C 16)) left lefts keys.left_first
+          let first = IsFirst-le (λ n. Through r parts (SomeRounds A n) (Open C 16)) left lefts keys.left_first
           (Through-map r parts P Q (SomeRounds A lefts) (Open C 16) (λ v _ rounds. some_rounds A u.before u.back lefts v (omega arith) some rounds) (λ w _ rounds. Open-rounds C u.after u.on w on_some rounds 16) through) in
           let second : left ≡ lefts → right ≤ rights = λ e.
           IsFirst-le (λ n. Through r parts (SomeRounds A left) (SomeRounds C n)) right rights keys.right_first

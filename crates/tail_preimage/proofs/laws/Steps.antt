@@ -64,8 +64,7 @@ SomeRounds-open {E} {count} {u} few closed node (v, h) =
 Steps-round : {E : ℕ → ℕ → Type 0} {on v : ℕ} → Steps E on v v → (n : ℕ) → Steps E (n * on) v v
 Steps-round {E} {on} {v} h zero = subst (λ m. Steps E m v v) (sym (zero-mul on)) (Steps-none refl)
 Steps-round {E} {on} {v} h (suc n) =
-    let all : on + n * on ≡ suc n * on = omega (arith, suc-mul n on) in
-    subst (λ m. Steps E m v v) all (Steps-add on (n * on) h (Steps-round h n))
+    subst (λ m. Steps E m v v) (omega (arith, suc-mul n on)) (Steps-add on (n * on) h (Steps-round h n))
 
 -- where it goes round as often as one likes, any number of steps leads somewhere
 pub Open-rounds : (E : ℕ → ℕ → Type 0) (n on u : ℕ) → 1 ≤ on → Rounds E n on u → (b : ℕ) → Open E b u

@@ -26,11 +26,7 @@ drop-first w n inside = let more : suc n ≡ n + 1 = omega arith in drop-cons w 
 
 -- the last n + 1 letters of a word begin with a letter
 pub drop-more : (w : List ℕ) (n : ℕ) → n < length w → drop (length w - (n + 1)) w ≡ slice_index w (length w - 1 - n) ∷ drop (length w - n) w
-drop-more w n inside =
-    let place : ℕ = length w - 1 - n in
-    let now : length w - (n + 1) ≡ place = omega arith in
-    let next : place + 1 ≡ length w - n = omega arith in
-    ap (λ k. drop k w) now ∙ drop-first w place (omega arith) ∙ ap (λ k. slice_index w place ∷ drop k w) next
+drop-more w n inside = grind (arith, drop-first)
 
 -- copies of copies
 pub repeat-repeat : {X : Type 0} (m n : ℕ) (x : List X) → repeat m (repeat n x) ≡ repeat (m * n) x
@@ -66,8 +62,7 @@ cells-lefts t (suc b) =
     let start : ℤ = neg_ℤ (pos (suc b * p)) in
     let long : suc b * p ≡ p + b * p = omega (arith, suc-mul b p) in
     let seam : start +ℤ pos p ≡ neg_ℤ (pos (b * p)) = omega (arith, ints, suc-mul b p) in
-    let first : cells t start p ≡ t.left =
-    run-same (cell t) (cell t) start (neg_ℤ (pos p)) p (λ a l.
+    let first = run-same (cell t) (cell t) start (neg_ℤ (pos p)) p (λ a l.
     let place : start +ℤ pos a ≡ neg_ℤ (pos p) +ℤ pos a -ℤ pos (b * p) = omega (arith, ints, suc-mul b p) in
     ap (cell t) place ∙ RepeatsLeft-times b p (cell t) (pos 0) (cell-left_period t) (neg_ℤ (pos p) +ℤ pos a) (omega (arith, ints)))
     ∙ cells-left t in
@@ -80,8 +75,7 @@ cells-rights {t = t} h (suc a) =
     let p : ℕ = length t.right in
     let start : ℤ = pos (length t.middle) in
     let long : suc a * p ≡ p + a * p = omega (arith, suc-mul a p) in
-    let rest : cells t (start +ℤ pos p) (a * p) ≡ cells t start (a * p) =
-    run-same (cell t) (cell t) (start +ℤ pos p) start (a * p) (λ c l.
+    let rest = run-same (cell t) (cell t) (start +ℤ pos p) start (a * p) (λ c l.
     let place : start +ℤ pos p +ℤ pos c ≡ start +ℤ pos c +ℤ pos p = omega (arith, ints) in
     ap (cell t) place ∙ cell-right_period t (start +ℤ pos c) (omega (arith, ints))) in
     ap (cells t start) long ∙ run-append (cell t) start (start +ℤ pos p) p (a * p) refl ∙ ap₂ (λ (x y : List ℕ). x ++ y) (cells-right t) (rest ∙ cells-rights h a)

@@ -92,7 +92,6 @@ IsWalk-cut {r} {x = x} rule w z h =
 -- a walk goes on along an edge
 pub IsWalk-push : {r : LocalRule} {u v : ℕ} {w x : List ℕ} → IsRule r → IsWalk r w u v x → (a b : ℕ) → b < r.states → label r v b ≡ a → IsWalk r (w ++ a ∷ []) u (next r v b) (x ++ b ∷ [])
 IsWalk-push {r} {w = w} {x = x} rule h a b l e =
-    let long = h.preimage.long in
     record {
       preimage = IsPreimage-push rule h.preimage a b l (local_map-label r (drop (length w) x) b ∙ ap (λ n. label r n b) h.last ∙ e);
       first = ap (value r.states) (take-append-le (r.width - 1) x (b ∷ []) (omega arith)) ∙ h.first;
@@ -154,10 +153,6 @@ HasWalk-join {r} rule (x, h) (y, g) = (x ++ drop (r.width - 1) y, IsWalk-join ru
 pub HasWalk-cut : {r : LocalRule} {u s : ℕ} → IsRule r → (w z : List ℕ) → HasWalk r (w ++ z) u s → (v : ℕ) × HasWalk r w u v × HasWalk r z v s
 HasWalk-cut {r} rule w z (x, h) = let cut = IsWalk-cut rule w z h in (cut.node, (take (length w + (r.width - 1)) x, cut.before), (drop (length w) x, cut.after))
 
--- no walk leads along an orphan
-pub IsOrphan-walk : {r : LocalRule} {w : List ℕ} {u v : ℕ} → IsOrphan r w → ¬ HasWalk r w u v
-IsOrphan-walk orphan (x, h) = orphan.none x h.preimage
-
--- a word along which none does is one
+-- a word along which no walk leads is an orphan
 pub IsOrphan-none : {r : LocalRule} {w : List ℕ} → IsWord r.states w → ((u v : ℕ) → ¬ HasWalk r w u v) → IsOrphan r w
 IsOrphan-none {r} {w} word none = record { word = word; none = λ x p. none (value r.states (take (r.width - 1) x)) (value r.states (drop (length w) x)) (x, record { preimage = p; first = refl; last = refl }) }

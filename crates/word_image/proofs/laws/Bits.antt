@@ -1,5 +1,5 @@
 -- The bits of a number, as a set of the places where it has one.
-use Rattle.std.proofs.Common.{◌≡◌, ℕ, suc, ◌*◌, ◌^◌, ◌<◌, ◌≤◌, ◌↔◌, ◌⊎◌, inl, inr, IsBitSet, bit_and, bit_or, ◌/◌, ◌%◌, zero-mul, pow-suc, ap, ◌∙◌, arith, ⊎_elim, pow_pos}
+use Rattle.std.proofs.Common.{◌≡◌, ℕ, ◌*◌, ◌^◌, ◌<◌, ◌≤◌, ◌↔◌, ◌⊎◌, inl, inr, IsBitSet, bit_and, bit_or, ◌/◌, ◌%◌, zero-mul, ap, ◌∙◌, arith, ⊎_elim, pow_pos}
 use Rattle.std.proofs.lemmas.Bool.{cases_eq}
 use Rattle.std.proofs.lemmas.Nat.{leading_top, le-div, div_below}
 use Rattle.std.proofs.lemmas.Nat.Bits.{bit_at-zero, bit_at_or, bit_at-pow_same, bit_at-pow_other, and_pow, bit_at-lt}
@@ -22,7 +22,6 @@ IsBitSet-decide n i = ⊎_elim (λ one. inl ((bit_at-IsBitSet n i).1 one)) (λ o
 pub IsBitSet-some : (n a : ℕ) → a < 2 ^ n → ¬ (a ≡ 0) → (i : ℕ) × (i < n) × IsBitSet a i
 IsBitSet-some n a h ne =
     let top = leading_top n a (omega arith) h in
-    let power : 2 ^ suc top.0 ≡ 2 ^ top.0 * 2 = pow-suc 2 top.0 in
     let least : 1 ≤ a / 2 ^ top.0 = le-div 1 a (2 ^ top.0) (pow_pos top.0) (omega arith) in
     let most : a / 2 ^ top.0 < 2 = div_below a (2 ^ top.0) 2 (pow_pos top.0) (omega arith) in
     let one : a / 2 ^ top.0 ≡ 1 = omega arith in

@@ -1,7 +1,7 @@
 -- Orders of words, letter pairs and lists of these: what isn't greater, and what comes no later.
 use Rattle.std.proofs.Common.{◌≡◌, ◌≢◌, ℕ, ◌<◌, ◌≤◌, List, length, false, refl, ap, ◌∙◌, subst, arith, sym, nat_cmp, is_gt, Ordering, Less, Equal, Greater}
 use Rattle.std.specs.Ordering.{ordering_then, ordering_reverse, MatchOrdering}
-use Rattle.std.specs.Cmp.{IsTotalOrder, upto}
+use Rattle.std.specs.Cmp.{IsTotalOrder}
 use Rattle.std.proofs.lemmas.Cmp.{then_total, on_total, lists_total, nat_cmp_total, ranked, tied_itself, nat_list_cmp_total}
 use Rattle.std.specs.Cmp.Lexicographic.{slice_cmp}
 use Rattle.word_image.specs.Rings.{pair_cmp, pairs_cmp}
@@ -28,9 +28,7 @@ nat_cmp-equal m n e = subst (λ o. MatchOrdering o (m < n) (m ≡ n) (n < m)) e 
 
 -- in a total order what comes no later than y comes no later than what y comes no later than
 pub no_later : {K : Type 0} {R : K → K → Ordering} → IsTotalOrder R → (x y z : K) → R x y ≢ Greater → R y z ≢ Greater → R x z ≢ Greater
-no_later {R = R} order x y z first second greater =
-    let not : is_gt (R x z) ≡ false = upto order x y z (not_greater (R x y) first) (not_greater (R y z) second) in
-    cc
+no_later {R = R} order x y z first second greater = grind (arith, is_gt, not_greater)
 
 -- in a total order y comes no later than x, where x doesn't come before y
 pub not_before : {K : Type 0} {R : K → K → Ordering} → IsTotalOrder R → (x y : K) → R x y ≢ Less → R y x ≢ Greater

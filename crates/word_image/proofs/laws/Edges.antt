@@ -62,8 +62,8 @@ HaveEdges-more {side} {r} {w} {a} {rows} rule node letter h i j set labelled lea
     let n = w * r.states + a in
     let row = slice_index_or rows i [] in
     let changed = slice_set row j (bit_or (slice_index row j) set) in
-    let from : n / r.states ≡ w = div-mul-add w r.states a letter in
-    let by : n % r.states ≡ a = mod-mul-add w r.states a letter in
+    let from = div-mul-add w r.states a letter in
+    let by = mod-mul-add w r.states a letter in
     let to : end_at side r (n / r.states) (n % r.states) ≡ end_at side r w a = ap₂ (end_at side r) from by in
     let below = end_node-below side rule (window_with side r w a) (window_with-within side rule w a node letter) in
     record {
@@ -97,8 +97,8 @@ AreEdgeRows-all {side} {r} {rows} rule h = record {
               let a = i % r.states in
               (a, mod-lt i (some_letter rule), (ap (λ x. label_at side r x a) (sym leaves) ∙ labelled, ap (λ x. end_at side r x a) (sym leaves) ∙ arrives))),
           (λ (a, letter, (labelled, arrives)).
-              let from : (u * r.states + a) / r.states ≡ u = div-mul-add u r.states a letter in
-              let by : (u * r.states + a) % r.states ≡ a = mod-mul-add u r.states a letter in
+              let from = div-mul-add u r.states a letter in
+              let by = mod-mul-add u r.states a letter in
               (union.nodes v inside).1 (
                 u * r.states + a,
                 omega (arith, mul-add-lt u r.states a (node_count r) node letter),

@@ -37,11 +37,10 @@ value-tail k d y h e =
 pub value-next : {r : LocalRule} → IsRule r → (n : ℕ) (x : List ℕ) (b : ℕ) → IsWord r.states x → length x ≡ n + (r.width - 1) → b < r.states
     → value r.states (drop (n + 1) (x ++ b ∷ [])) ≡ next r (value r.states (drop n x)) b
 value-next {r} rule n x b h e l =
-    let window : drop n (x ++ b ∷ []) ≡ drop n x ++ b ∷ [] = drop-append-le n x (b ∷ []) (omega arith) in
-    let word : IsWord r.states (drop n x ++ b ∷ []) = All-push (λ a. a < r.states) (drop n x) b (All-drop (λ a. a < r.states) n x h) l in
+    let word = All-push (λ a. a < r.states) (drop n x) b (All-drop (λ a. a < r.states) n x h) l in
     let long : length (drop n x ++ b ∷ []) ≡ r.width - 1 + 1 = omega (arith, length_push (drop n x) b, length-drop n x) in
     ap (value r.states) (sym (drop-drop 1 n (x ++ b ∷ [])))
-    ∙ ap (λ z. value r.states (drop 1 z)) window
+    ∙ ap (λ z. value r.states (drop 1 z)) (drop-append-le n x (b ∷ []) (omega arith))
     ∙ value-tail r.states (r.width - 1) (drop n x ++ b ∷ []) word long
     ∙ ap (λ v. v % node_count r) (value-snoc r.states (drop n x) b)
 

@@ -1,5 +1,5 @@
 -- Images of parts of a word, and of a word that is read backwards.
-use Rattle.std.proofs.Common.{◌≡◌, ℕ, ◌+◌, ◌-◌, ◌^◌, ◌<◌, ◌≤◌, List, length, take, drop, reverse, get_or, slice_index, slice_range, ℤ, pos, ◌+ℤ◌, neg_ℤ, sym, ap, ap₂, subst, ◌∙◌, arith, length-drop, length-take, length-take-le, ext_get_or, get_or-take, get_or-drop, drop-drop, take-take}
+use Rattle.std.proofs.Common.{◌≡◌, ℕ, ◌+◌, ◌-◌, ◌^◌, ◌<◌, ◌≤◌, List, length, take, drop, reverse, get_or, slice_index, slice_range, ℤ, pos, ◌+ℤ◌, neg_ℤ, sym, ap, ap₂, subst, ◌∙◌, arith, length-drop, length-take, length-take-le, get_or-take, get_or-drop, drop-drop, take-take}
 use Rattle.std.specs.List.{range_with_len}
 use Rattle.std.proofs.lemmas.List.{length-reverse, reverse-reverse, get_or-reverse, drop-take}
 use Rattle.std.proofs.lemmas.List.FromFn.{length-map-range_with_len, get_or-map-range_with_len, fill_by_all}
@@ -9,6 +9,7 @@ use Rattle.std.proofs.Math.IntN.{neg_ℤ-+ℤ, neg_ℤ-neg_ℤ, +ℤ-neg_ℤ_can
 use Rattle.word_image.specs.LocalRules.{LocalRule, IsRule, IsWord, value, word_of, local_map, mirrored}
 use Rattle.word_image.specs.Words.{image}
 use Rattle.word_image.proofs.laws.Values.{value-below, word_of-value, length-word_of, IsWord-word_of, value-word_of}
+use Rattle.word_image.proofs.laws.Lists.{reverse-cut}
 use Rattle.word_image.proofs.laws.Words.{length-image, entry-below}
 use Rattle.word_image.proofs.laws.RuleFaults.{IsShape-offset}
 
@@ -27,8 +28,7 @@ pub image-drop : (r : LocalRule) (n : ℕ) (x : List ℕ) → image r (drop n x)
 image-drop r n x =
     let long : length (drop n (image r x)) ≡ length (drop n x) - (r.width - 1) = omega (arith, length-drop n (image r x), length-drop n x, length-image r x) in
     let window : (i : ℕ) → slice_range x (n + i) (n + i + r.width) ≡ slice_range (drop n x) i (i + r.width) = λ i.
-    let wide : n + i + r.width - (n + i) ≡ i + r.width - i = omega arith in
-    ap₂ (λ (j : ℕ) (y : List ℕ). take j y) wide (sym (drop-drop i n x)) in
+    ap₂ (λ (j : ℕ) (y : List ℕ). take j y) (omega arith) (sym (drop-drop i n x)) in
     image-by_letters r (drop n x) (drop n (image r x)) long (λ i l.
     let within : n + i < length x - (r.width - 1) = omega (arith, length-drop n x) in
     get_or-drop n (image r x) i 0 ∙ get_or-image r x (n + i) within ∙ ap (local_map r) (window i))
@@ -36,7 +36,6 @@ image-drop r n x =
 -- the image of the first n letters of a word is the beginning of its image
 pub image-take : {r : LocalRule} → IsRule r → (n : ℕ) (x : List ℕ) → image r (take n x) ≡ take (n - (r.width - 1)) (image r x)
 image-take {r} rule n x =
-    let wide : 2 ≤ r.width = rule.shape.least_width in
     let long : length (take (n - (r.width - 1)) (image r x)) ≡ length (take n x) - (r.width - 1) =
     omega (arith, length-take (n - (r.width - 1)) (image r x), length-take n x, length-image r x) in
     let window : (i : ℕ) → i + r.width ≤ n → slice_range x i (i + r.width) ≡ slice_range (take n x) i (i + r.width) = λ i l.
@@ -56,17 +55,13 @@ IsWord-reverse k x h = All-from_get_or (λ a. a < k) (reverse x) 0 (λ i l.
 -- what stands between two places of a list, in the list that is read backwards
 pub slice_range-reverse : (x : List ℕ) (i j n : ℕ) → i + n + j ≡ length x → reverse (slice_range (reverse x) i (i + n)) ≡ slice_range x j (j + n)
 slice_range-reverse x i j n e =
-    let there : length (slice_range (reverse x) i (i + n)) ≡ n = length-take-le (i + n - i) (drop i (reverse x)) (omega (arith, length-drop i (reverse x), length-reverse x)) ∙ omega arith in
-    let here : length (slice_range x j (j + n)) ≡ n = length-take-le (j + n - j) (drop j x) (omega (arith, length-drop j x)) ∙ omega arith in
-    ext_get_or 0 _ _ (length-reverse (slice_range (reverse x) i (i + n)) ∙ there ∙ sym here) (λ m l.
-    let within : m < n = omega (arith, length-reverse (slice_range (reverse x) i (i + n))) in
-    let place : length x - 1 - (i + (length (slice_range (reverse x) i (i + n)) - 1 - m)) ≡ j + m = omega arith in
-    get_or-reverse (slice_range (reverse x) i (i + n)) m 0 (omega arith)
-    ∙ get_or-take (i + n - i) (drop i (reverse x)) (length (slice_range (reverse x) i (i + n)) - 1 - m) 0 (omega arith)
-    ∙ get_or-drop i (reverse x) (length (slice_range (reverse x) i (i + n)) - 1 - m) 0
-    ∙ get_or-reverse x (i + (length (slice_range (reverse x) i (i + n)) - 1 - m)) 0 (omega arith)
-    ∙ ap (λ p. get_or x p 0) place
-    ∙ sym (get_or-take (j + n - j) (drop j x) m 0 (omega arith) ∙ get_or-drop j x m 0))
+    let there : i + n - i ≡ n = omega arith in
+    let here : n ≡ j + n - j = omega arith in
+    ap₂ (λ (m : ℕ) (y : List ℕ). reverse (take m y)) there (reverse-cut (j + n) i x (omega arith)).1
+    ∙ ap reverse (reverse-cut j n (take (j + n) x) (length-take-le (j + n) x (omega arith))).0
+    ∙ reverse-reverse (drop j (take (j + n) x))
+    ∙ drop-take j n x
+    ∙ ap (λ m. take m (drop j x)) here
 
 -- the mirrored rule gives on a window what the rule gives on the window read backwards
 pub local_map-mirrored : (r : LocalRule) (z : List ℕ) → IsWord r.states z → length z ≡ r.width → local_map (mirrored r) z ≡ local_map r (reverse z)
@@ -79,14 +74,13 @@ local_map-mirrored r z h e =
 -- the mirrored rule's image of a word read backwards is the image read backwards
 pub image-mirrored : {r : LocalRule} → IsRule r → (x : List ℕ) → IsWord r.states x → image (mirrored r) (reverse x) ≡ reverse (image r x)
 image-mirrored {r} rule x h =
-    let wide : 2 ≤ r.width = rule.shape.least_width in
     let long : length (reverse (image r x)) ≡ length (reverse x) - (r.width - 1) = omega (arith, length-reverse (image r x), length-reverse x, length-image r x) in
     image-by_letters (mirrored r) (reverse x) (reverse (image r x)) long (λ i l.
     let within : i < length (image r x) = omega (arith, length-reverse (image r x)) in
     let j : ℕ = length (image r x) - 1 - i in
     let rest : i + r.width + j ≡ length x = omega (arith, length-image r x) in
-    let window : List ℕ = slice_range (reverse x) i (i + r.width) in
-    let word : IsWord r.states window = All-take (λ a. a < r.states) (i + r.width - i) (drop i (reverse x)) (All-drop (λ a. a < r.states) i (reverse x) (IsWord-reverse r.states x h)) in
+    let window = slice_range (reverse x) i (i + r.width) in
+    let word = All-take (λ a. a < r.states) (i + r.width - i) (drop i (reverse x)) (All-drop (λ a. a < r.states) i (reverse x) (IsWord-reverse r.states x h)) in
     let window_long : length window ≡ r.width = length-take-le (i + r.width - i) (drop i (reverse x)) (omega (arith, length-drop i (reverse x), length-reverse x)) ∙ omega arith in
     get_or-reverse (image r x) i 0 within
     ∙ get_or-image r x j (omega (arith, length-image r x))
@@ -107,15 +101,13 @@ IsRule-mirrored {r} rule =
 pub mirrored-mirrored : {r : LocalRule} → IsRule r → mirrored (mirrored r) ≡ r
 mirrored-mirrored {r} rule =
     let back : (v : ℕ) → v < r.states ^ r.width → get_or r.table v 0 ≡ local_map (mirrored r) (reverse (word_of r.states r.width v)) = λ v l.
-    let z : List ℕ = word_of r.states r.width v in
-    let word : IsWord r.states (reverse z) = IsWord-reverse r.states z (IsWord-word_of r.states r.width v l) in
+    let z = word_of r.states r.width v in
+    let word = IsWord-reverse r.states z (IsWord-word_of r.states r.width v l) in
     sym (local_map-mirrored r (reverse z) word (length-reverse z ∙ length-word_of r.states r.width v)
     ∙ ap (local_map r) (reverse-reverse z)
     ∙ ap (slice_index r.table) (value-word_of r.states r.width v l)) in
-    let table : r.table ≡ (mirrored (mirrored r)).table =
-    fill_by_all (λ v. local_map (mirrored r) (reverse (word_of r.states r.width v))) r.table (r.states ^ r.width) 0 rule.entries back in
-    let offset : (mirrored (mirrored r)).offset ≡ r.offset =
-    neg_ℤ-+ℤ (neg_ℤ (r.offset +ℤ pos (r.width - 1))) (pos (r.width - 1))
+    let table = fill_by_all (λ v. local_map (mirrored r) (reverse (word_of r.states r.width v))) r.table (r.states ^ r.width) 0 rule.entries back in
+    let offset = neg_ℤ-+ℤ (neg_ℤ (r.offset +ℤ pos (r.width - 1))) (pos (r.width - 1))
     ∙ ap (λ o. o +ℤ neg_ℤ (pos (r.width - 1))) (neg_ℤ-neg_ℤ (r.offset +ℤ pos (r.width - 1)))
     ∙ +ℤ-neg_ℤ_cancel r.offset (pos (r.width - 1)) in
     ap₂ (λ (o : ℤ) (t : List ℕ). record { states = r.states; width = r.width; offset = o; table = t }) offset (sym table)

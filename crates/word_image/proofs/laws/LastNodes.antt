@@ -27,12 +27,12 @@ IsLastNode-preimage {r} {w} {x} p = record { x = x; preimage = p; last = refl }
 
 -- a last node is a node
 pub IsLastNode-below : {r : LocalRule} {w : List ℕ} {u : ℕ} → IsLastNode r w u → u < node_count r
-IsLastNode-below {r} {w} {u} h =
+IsLastNode-below {r} {w} h =
     rw (← h.last) (value-node r _ (All-drop (λ a. a < r.states) (length w) h.x h.preimage.word) (rw (length-drop) (omega arith)))
 
 -- an edge with label a leads from a last node of w to a last node of w a
 pub IsLastNode-push : {r : LocalRule} {w : List ℕ} {u a v : ℕ} → IsRule r → IsLastNode r w u → IsEdge Right r a u v → IsLastNode r (w ++ a ∷ []) v
-IsLastNode-push {r} {w} {u} {a} {v} rule h (b, l, (e, f)) =
+IsLastNode-push {r} {w} {u} {a} rule h (b, l, (e, f)) =
     record {
       x = h.x ++ b ∷ [];
       preimage = IsPreimage-push rule h.preimage a b l (local_map-label r (drop (length w) h.x) b ∙ ap (λ n. label r n b) h.last ∙ e);
@@ -53,7 +53,7 @@ last_edge {r} rule w a x p = (
 pub IsLastNode-snoc : {r : LocalRule} → IsRule r → (w : List ℕ) (a v : ℕ) → IsLastNode r (w ++ a ∷ []) v
     → (u : ℕ) × (u < node_count r) × (IsLastNode r w u × IsEdge Right r a u v)
 IsLastNode-snoc {r} rule w a v h =
-    let p : IsLongerPreimage r w a h.x = IsPreimage-snoc rule w a h.x h.preimage in
-    let at : IsLastNode r w (value r.states (drop (length w) p.before)) = IsLastNode-preimage p.preimage in
+    let p = IsPreimage-snoc rule w a h.x h.preimage in
+    let at = IsLastNode-preimage p.preimage in
     let (label, leads) = last_edge rule w a h.x p in
     (value r.states (drop (length w) p.before), IsLastNode-below at, (at, (p.letter, p.within, (label, leads ∙ h.last))))

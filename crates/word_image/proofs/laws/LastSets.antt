@@ -27,7 +27,7 @@ IsLastSet-full r =
 
 -- a step leads from the last nodes of w to those of w a
 pub IsLastSet-step : {r : LocalRule} {w : List ℕ} {set a after : ℕ} → IsRule r → IsLastSet r w set → a < r.states → IsStep r set a after → IsLastSet r (w ++ a ∷ []) after
-IsLastSet-step {r} {w} {set} {a} {after} rule h l s =
+IsLastSet-step {r} {w} {set} {a} rule h l s =
     record {
       word = All-push (λ b. b < r.states) w a h.word l;
       last = record {
@@ -46,7 +46,7 @@ IsOrphan-empty_set {r} {w} h =
       word = h.word;
       none = λ x p.
           let u : ℕ = value r.states (drop (length w) x) in
-          let last : IsLastNode r w u = IsLastNode-preimage p in
+          let last = IsLastNode-preimage p in
           IsBitSet-zero u ((h.last.nodes u (IsLastNode-below last)).1 last);
     }
 

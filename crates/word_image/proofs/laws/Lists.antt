@@ -17,7 +17,7 @@ pub filled_more : {X : Type 0} (f : ℕ → X) (d : X) (n i : ℕ) (y : X) → i
 filled_more {X} f d n i y l e =
     let before : List X = map f (range_with_len 0 i) in
     let others : List X = replicate (n - (i + 1)) d in
-    let long : length before ≡ i = length-map-range_with_len f 0 i in
+    let long = length-map-range_with_len f 0 i in
     let next : n - i ≡ suc (n - (i + 1)) = omega arith in
     ap₂ (λ (j k : ℕ). set (before ++ replicate j d) k y) next (sym long)
     ∙ set-append_seam before d others y

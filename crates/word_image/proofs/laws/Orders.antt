@@ -11,18 +11,11 @@ use Rattle.word_image.proofs.laws.Values.{value-below}
 
 -- of two numbers in base n the one with the lesser first digit is less
 pub digits-lt : (a b u v n : ℕ) → u < n → a < b → a * n + u < b * n + v
-digits-lt a b u v n h l =
-    let below : a * n + u < n * b = mul-add-lt a n u b l h in
-    let swapped : n * b ≡ b * n = mul_comm n b in
-    omega arith
+digits-lt a b u v n h l = grind (arith, mul-add-lt, mul_comm)
 
 -- two numbers with one first digit are compared by the last one
 pub nat_cmp-add : (m u v : ℕ) → nat_cmp u v ≡ nat_cmp (m + u) (m + v)
-nat_cmp-add m u v =
-    by_ranked (u < v) (u ≡ v) (v < u) (nat_cmp u v) (ranked u v (nat_cmp u v) refl)
-    (λ is l. is ∙ nat_cmp_is (m + u) (m + v) Less (omega arith))
-    (λ is e. is ∙ nat_cmp_is (m + u) (m + v) Equal (omega arith))
-    (λ is l. is ∙ nat_cmp_is (m + u) (m + v) Greater (omega arith))
+nat_cmp-add m u v = grind (arith, by_ranked)
 
 -- numbers of two digits in base n are compared by the first digit, then by the second
 nat_cmp-digits : (a b u v n : ℕ) → u < n → v < n → ordering_then (nat_cmp a b) (nat_cmp u v) ≡ nat_cmp (a * n + u) (b * n + v)
@@ -45,8 +38,8 @@ slice_cmp-value k [] (b ∷ y) h g e = absurd (omega arith)
 slice_cmp-value k (a ∷ x) [] h g e = absurd (omega arith)
 slice_cmp-value k (a ∷ x) (b ∷ y) h g e =
     let long : length x ≡ length y = omega arith in
-    let first : IsWord k x = All-tail (λ c. c < k) a x h in
-    let second : IsWord k y = All-tail (λ c. c < k) b y g in
+    let first = All-tail (λ c. c < k) a x h in
+    let second = All-tail (λ c. c < k) b y g in
     let below : value k y < k ^ length x = rw long (value-below k y second) in
     ap (ordering_then (nat_cmp a b)) (slice_cmp-value k x y first second long)
     ∙ nat_cmp-digits a b (value k x) (value k y) (k ^ length x) (value-below k x first) below

@@ -1,5 +1,5 @@
 -- The element at a place of a list, where there is one.
-use Rattle.std.proofs.Common.{◌≡◌, ◌≢◌, ℕ, zero, suc, ◌<◌, ◌⊎◌, inl, inr, List, [], ◌∷◌, ◌++◌, length, take, drop, set, Some, Contains, refl, sym, ap, ◌∙◌, ⊎_elim, arith, slice_get, get_or-set_same, get_or-set_other, length-set}
+use Rattle.std.proofs.Common.{◌≡◌, ℕ, zero, suc, ◌⊎◌, inl, inr, List, [], ◌∷◌, ◌++◌, length, take, drop, Some, Contains, refl, ap, ◌∙◌, ⊎_elim, slice_get}
 use Rattle.std.proofs.lemmas.Option.{slice_get_within, slice_get-get_or, get_or_from_slice_get, none-some, same_Some}
 
 -- a place keeps its element where the list grows
@@ -38,20 +38,6 @@ Contains-slice_get xs i x at = (i, slice_get_within xs i x at, get_or_from_slice
 -- what is in the list stands at some place
 pub slice_get-Contains : {X : Type 0} (xs : List X) (x : X) → Contains xs x → (i : ℕ) × (slice_get xs i ≡ Some x)
 slice_get-Contains xs x (i, below, same) = (i, slice_get-get_or xs i x below ∙ ap Some same)
-
--- what is stored at a place stands there
-pub slice_get-set_same : {X : Type 0} (xs : List X) (i : ℕ) (x : X) → i < length xs → slice_get (set xs i x) i ≡ Some x
-slice_get-set_same xs i x l = slice_get-get_or (set xs i x) i x (omega (arith, length-set xs i x)) ∙ ap Some (get_or-set_same xs i x x l)
-
--- what is stored at a place changes nothing at another
-pub slice_get-set_other : {X : Type 0} (xs : List X) (i j : ℕ) (x y : X) → j ≢ i → slice_get xs j ≡ Some y → slice_get (set xs i x) j ≡ Some y
-slice_get-set_other xs i j x y other at =
-    slice_get-get_or (set xs i x) j y (omega (arith, length-set xs i x, slice_get_within xs j y at)) ∙ ap Some (get_or-set_other xs i j x y other ∙ get_or_from_slice_get xs j y y at)
-
--- what stands at another place stood there before
-pub slice_get-set_before : {X : Type 0} (xs : List X) (i j : ℕ) (x y : X) → j ≢ i → slice_get (set xs i x) j ≡ Some y → slice_get xs j ≡ Some y
-slice_get-set_before xs i j x y other at =
-    slice_get-get_or xs j y (omega (arith, length-set xs i x, slice_get_within (set xs i x) j y at)) ∙ ap Some (sym (get_or-set_other xs i j x y other) ∙ get_or_from_slice_get (set xs i x) j y y at)
 
 -- a list is what stands before a place, the element there and what stands after it
 pub slice_get-cut : {A : Type 0} (xs : List A) (i : ℕ) (x : A) → slice_get xs i ≡ Some x → xs ≡ take i xs ++ x ∷ drop (suc i) xs

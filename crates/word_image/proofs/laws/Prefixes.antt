@@ -15,18 +15,12 @@ Begins-prefix {IsText} x y b = record { more = y ++ b.more; whole = subst IsText
 
 -- a text goes wrong at one place
 pub IsFormFault-unique : {IsText : List ℕ → Type 0} {text : List ℕ} {p q : ℕ} → IsFormFault IsText text p → IsFormFault IsText text q → p ≡ q
-IsFormFault-unique {p = p} {q = q} f g =
-    elim (cases_order p q) [
-      | inl same ↦ same
-      | inr (inl less) ↦ absurd (f.longest q less g.within g.begins)
-      | inr (inr more) ↦ absurd (g.longest p more f.within f.begins)
-    ]
+IsFormFault-unique {p = p} {q = q} f g = grind (arith, cases_order)
 
 -- a shorter prefix of a prefix that begins a text begins it too
 Begins-take : {IsText : List ℕ → Type 0} (text : List ℕ) (i n : ℕ) → i ≤ n → Begins IsText (take n text) → Begins IsText (take i text)
 Begins-take {IsText} text i n h begins =
-    let cut : take n text ≡ take i text ++ drop i (take n text) =
-    sym (take-append-drop i (take n text)) ∙ ap (λ x. x ++ drop i (take n text)) (take-take i n text h) in
+    let cut = sym (take-append-drop i (take n text)) ∙ ap (λ x. x ++ drop i (take n text)) (take-take i n text h) in
     Begins-prefix (take i text) (drop i (take n text)) (subst (Begins IsText) cut begins)
 
 -- a text goes wrong after a prefix that begins some text of the grammar, where no text of the grammar goes on with its next byte
@@ -49,8 +43,7 @@ IsFormFault-next {IsText} text place within begins none =
     let b = get_or text place 0 in
     IsFormFault-stuck text place within begins
     (λ more longer.
-    let cut : take (place + 1) text ++ longer.more ≡ take place text ++ b ∷ longer.more =
-    ap (λ x. x ++ longer.more) (take_more text place 0 more) ∙ append_assoc (take place text) (b ∷ []) longer.more in
+    let cut = ap (λ x. x ++ longer.more) (take_more text place 0 more) ∙ append_assoc (take place text) (b ∷ []) longer.more in
     none (b ∷ longer.more) (sym (slice_get-get_or text place 0 more)) (subst IsText cut longer.whole))
     (λ end whole. none [] (sym (slice_get_past text place end)) (subst IsText (sym (append-nil (take place text) ∙ take_all place text end)) whole))
 
@@ -58,7 +51,7 @@ IsFormFault-next {IsText} text place within begins none =
 pub IsFormFault-rest : {IsText IsRest : List ℕ → Type 0} (text : List ℕ) (i n : ℕ) → i ≤ length text
     → ((rest : List ℕ) → IsRest rest → IsText (take i text ++ rest)) → ((rest : List ℕ) → IsText (take i text ++ rest) → IsRest rest)
     → IsFormFault IsRest (drop i text) n → IsFormFault IsText text (i + n)
-IsFormFault-rest {IsText} {IsRest} text i n inside whole only f =
+IsFormFault-rest {IsText} text i n inside whole only f =
     let first = take i text in
     let rest = drop i text in
     let left = length-drop i text in

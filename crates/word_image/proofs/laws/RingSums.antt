@@ -35,15 +35,13 @@ turn-next f g n again o =
     ap (λ h. sum_by f (map h (range_with_len 0 n))) (fun_ext (λ i. let e : pos (i + 1) +ℤ o ≡ pos i +ℤ (o +ℤ pos 1) = omega (arith, ints) in ap g e)) in
     let e : pos n +ℤ o ≡ o +ℤ pos n = omega (arith, ints) in
     let e' : o ≡ pos 0 +ℤ o = omega (arith, ints) in
-    let last : f (g (pos n +ℤ o)) ≡ f (g (pos 0 +ℤ o)) = ap f (ap g e ∙ again o ∙ ap g e') in
-    omega (arith, ends, shifted, last)
+    omega (arith, ends, shifted, ap f (ap g e ∙ again o ∙ ap g e'))
 
 -- of terms that come again after n, n have the same sum from any place on
 turn-all : (f : ℕ → ℕ) (g : ℤ → ℕ) (n : ℕ) → ((i : ℤ) → g (i +ℤ pos n) ≡ g i) → (o : ℤ) → turn f g n o ≡ turn f g n (pos 0)
 turn-all f g n again (pos zero) = refl
 turn-all f g n again (pos (suc i)) =
-    let e : pos (suc i) ≡ pos i +ℤ pos 1 = omega (arith, ints) in
-    ap (turn f g n) e ∙ turn-next f g n again (pos i) ∙ turn-all f g n again (pos i)
+    ap (turn f g n) (omega (arith, ints)) ∙ turn-next f g n again (pos i) ∙ turn-all f g n again (pos i)
 turn-all f g n again (negsuc zero) = sym (turn-next f g n again (negsuc 0))
 turn-all f g n again (negsuc (suc i)) =
     let e : negsuc i ≡ negsuc (suc i) +ℤ pos 1 = omega (arith, ints) in
@@ -53,8 +51,7 @@ turn-all f g n again (negsuc (suc i)) =
 pub ring_letters-turn : (p : List ℕ) (o : ℤ) (n : ℕ) → 0 < length p → ring_letters p (o +ℤ pos (length p)) n ≡ ring_letters p o n
 ring_letters-turn p o n some =
     ap (λ h. map h (range_with_len 0 n)) (fun_ext (λ j.
-    let e : (o +ℤ pos (length p)) +ℤ pos j ≡ (o +ℤ pos j) +ℤ pos (length p) = omega (arith, ints) in
-    ap (ring_letter p) e ∙ ring_letter-turn p (o +ℤ pos j) some))
+    ap (ring_letter p) (omega (arith, ints)) ∙ ring_letter-turn p (o +ℤ pos j) some))
 
 -- a full turn of letters weighs the same from any place on
 pub sum_by-ring_letters : (weight : ℕ → ℕ) (p : List ℕ) (o : ℤ) → 0 < length p → sum_by weight (ring_letters p o (length p)) ≡ sum_by weight p
@@ -62,8 +59,7 @@ unfolding turn
 sum_by-ring_letters weight p o some =
     let turned : sum_by weight (ring_letters p o (length p)) ≡ turn weight (ring_letter p) (length p) o =
     ap (λ h. sum_by weight (map h (range_with_len 0 (length p)))) (fun_ext (λ j. let e : o +ℤ pos j ≡ pos j +ℤ o = omega (arith, ints) in ap (ring_letter p) e)) in
-    let whole : p ≡ map (λ i. ring_letter p (pos i +ℤ pos 0)) (range_with_len 0 (length p)) =
-    fill_by_all (λ i. ring_letter p (pos i +ℤ pos 0)) p (length p) 0 refl (λ i l.
+    let whole = fill_by_all (λ i. ring_letter p (pos i +ℤ pos 0)) p (length p) 0 refl (λ i l.
     let e : i ≡ i + 0 = omega arith in
     ap (slice_index p) (sym (mod-eq_of_lt l) ∙ ap (λ j. j % length p) e)) in
     turned ∙ turn-all weight (ring_letter p) (length p) (λ i. ring_letter-turn p i some) o ∙ ap (sum_by weight) (sym whole)

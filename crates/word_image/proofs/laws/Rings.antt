@@ -1,5 +1,5 @@
 -- Rings read from any place on: the letters come again after a full turn.
-use Rattle.std.proofs.Common.{◌≡◌, ℕ, zero, suc, ◌+◌, ◌-◌, ◌*◌, ◌/◌, ◌%◌, ◌<◌, ◌≤◌, List, length, map, slice_index, ℤ, pos, negsuc, ◌+ℤ◌, sym, ap, ◌∙◌, ⊎_elim, arith, suc-mul, zero-mul, mod-lt, mod-eq_of_lt}
+use Rattle.std.proofs.Common.{◌≡◌, ℕ, zero, suc, ◌+◌, ◌-◌, ◌*◌, ◌/◌, ◌%◌, ◌<◌, List, length, map, slice_index, ℤ, pos, negsuc, ◌+ℤ◌, sym, ap, ◌∙◌, arith, suc-mul, zero-mul, mod-lt, mod-eq_of_lt}
 use mathlib.Core.Path.{fun_ext}
 use Rattle.std.specs.Int.{int_rem_euclid}
 use Rattle.std.specs.List.{range_with_len}
@@ -13,14 +13,7 @@ use Rattle.word_image.specs.Rings.{IsRing, ring_letter, ring_letters}
 -- the letters of a ring come again after a full turn
 pub ring_letter-turn : (p : List ℕ) (i : ℤ) → 0 < length p → ring_letter p (i +ℤ pos (length p)) ≡ ring_letter p i
 ring_letter-turn p (pos i) some = ap (slice_index p) (add-mod_right i (length p))
-ring_letter-turn p (negsuc i) some = ⊎_elim
-    (λ (l : i < length p).
-    let place : negsuc i +ℤ pos (length p) ≡ pos (length p - 1 - i) = omega (arith, ints) in
-    ap (ring_letter p) place ∙ ap (slice_index p) (mod-eq_of_lt (omega arith) ∙ ap (λ j. length p - 1 - j) (sym (mod-eq_of_lt l))))
-    (λ (l : length p ≤ i).
-    let place : negsuc i +ℤ pos (length p) ≡ negsuc (i - length p) = omega (arith, ints) in
-    ap (ring_letter p) place ∙ ap (λ j. slice_index p (length p - 1 - j)) (sym (mod-eq-sub-mod l)))
-    (cases_lt i (length p))
+ring_letter-turn p (negsuc i) some = grind (arith, ints, mod-eq_of_lt, mod-eq-sub-mod, cases_lt)
 
 -- the letters of a ring come again after some turns
 ring_letter-turns : (p : List ℕ) (i : ℤ) (n : ℕ) → 0 < length p → ring_letter p (i +ℤ pos (n * length p)) ≡ ring_letter p i
@@ -44,11 +37,9 @@ ring_letter-rem p (negsuc i) t j some e =
 pub ring_letters-rem : (p : List ℕ) (o : ℤ) (t i n : ℕ) → 0 < length p → int_rem_euclid o (pos (length p)) ≡ pos t
     → ring_letters p (pos i +ℤ o) n ≡ ring_letters p (pos ((t + i) % length p)) n
 ring_letters-rem p o t i n some e = ap (λ f. map f (range_with_len 0 n)) (fun_ext (λ j.
-    let place : (pos i +ℤ o) +ℤ pos j ≡ o +ℤ pos (i + j) = omega (arith, ints) in
-    let sum : t + (i + j) ≡ t + i + j = omega arith in
-    ap (ring_letter p) place
+    ap (ring_letter p) (omega (arith, ints))
     ∙ ring_letter-rem p o t (i + j) some e
-    ∙ ap (λ s. slice_index p (s % length p)) sum
+    ∙ ap (λ s. slice_index p (s % length p)) (omega arith)
     ∙ sym (ap (slice_index p) (mod-add-mod (t + i) (length p) j))))
 
 -- the letters of a ring are letters

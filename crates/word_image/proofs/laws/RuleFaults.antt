@@ -1,5 +1,5 @@
 -- No limit is broken exactly where the rule is accepted.
-use Rattle.std.proofs.Common.{◌≡◌, ℕ, suc, ap, pow-suc, mul-le-mul, ◌+◌, ◌*◌, ◌-◌, ◌^◌, ◌<◌, ◌≤◌, List, length, take, leb, None, ℤ, pos, ◌+ℤ◌, ◌≤ℤ◌, ◌∙◌, arith, length-take-le, nat_le, position}
+use Rattle.std.proofs.Common.{◌≡◌, ℕ, suc, ap, pow-suc, mul-le-mul, ◌+◌, ◌-◌, ◌^◌, ◌<◌, ◌≤◌, List, length, take, leb, None, ℤ, pos, ◌+ℤ◌, ◌≤ℤ◌, ◌∙◌, arith, length-take-le, nat_le, position}
 use Rattle.std.proofs.Math.Nat.{pow-le-pow_left, pow-le-pow_right}
 use Rattle.std.proofs.lemmas.Bool.Decides.{nat_tests}
 use Rattle.std.proofs.lemmas.Int.{ints}
@@ -11,10 +11,7 @@ use Rattle.word_image.specs.RuleFaults.{shape_fault, table_fault}
 
 -- a power that is taken before it is known to be small: at most 16^4
 pub power-few : {k : ℕ} (j : ℕ) → k ≤ most_states → j + 1 ≤ most_width → k ^ j ≤ most_sets
-power-few {k} j few short =
-    let base : k ^ j ≤ 16 ^ j = pow-le-pow_left few j in
-    let exponent : 16 ^ j ≤ 16 ^ 4 = pow-le-pow_right (omega arith) {i = j} {j = 4} (omega arith) in
-    omega arith
+power-few j few short = grind (arith, pow-le-pow_left, pow-le-pow_right)
 
 -- a shape with no fault is accepted
 pub IsShape-shape_fault : (k m : ℕ) (o : ℤ) → shape_fault k m o ≡ None → IsShape k m o
@@ -52,15 +49,13 @@ no_fault_before k table none =
 -- a list with no letter that is not below k is a word
 pub IsWord-position : (k : ℕ) (w : List ℕ) → position (λ a. nat_le k a) w ≡ None → IsWord k w
 IsWord-position k w none =
-    let past : length w ≤ position_or_len (λ a. leb k a) w = grind (arith, nat_tests) in
-    no_fault_before k w past
+    no_fault_before k w (grind (arith, nat_tests))
 
 -- a table with no fault has a letter for each window
 pub IsWord-table_fault : (k m : ℕ) (table : List ℕ) → table_fault k m table ≡ None → (length table ≡ k ^ m) × IsWord k table
 IsWord-table_fault k m table none =
-    let past : length table ≤ position_or_len (λ a. leb k a) table = grind (arith, nat_tests) in
     let long : length table ≡ k ^ m = grind (arith, nat_tests) in
-    (long, no_fault_before k table past)
+    (long, no_fault_before k table (grind (arith, nat_tests)))
 
 -- a table with a letter for each window has no fault
 pub table_fault-IsWord : (k m : ℕ) (table : List ℕ) → length table ≡ k ^ m → IsWord k table → table_fault k m table ≡ None
@@ -72,9 +67,9 @@ table_fault-IsWord k m table long word =
 -- an accepted shape has at most 256 windows
 pub window_count-le : (k m : ℕ) (o : ℤ) → IsShape k m o → k ^ m ≤ 256
 window_count-le k m o shape =
-    let split : k ^ suc (m - 1) ≡ k ^ (m - 1) * k = pow-suc k (m - 1) in
+    let split = pow-suc k (m - 1) in
     let whole : k ^ m ≡ k ^ suc (m - 1) = let e : m ≡ suc (m - 1) = omega arith in ap (λ j. k ^ j) e in
-    let few : k ^ (m - 1) * k ≤ 16 * 16 = mul-le-mul shape.most_nodes shape.most_states in
+    let few = mul-le-mul shape.most_nodes shape.most_states in
     omega arith
 
 -- a part of the room for a table

@@ -8,15 +8,13 @@ use Rattle.word_image.specs.RulesBy.{IsRuleBy}
 
 -- the offset of an accepted rule is one of an i8
 pub FitsSigned-offset : {r : LocalRule} → IsRule r → FitsSigned w8 r.offset
-FitsSigned-offset {r} rule =
-    let low = rule.shape.least_offset in
-    let high = rule.shape.most_offset in
+FitsSigned-offset rule =
     grind (arith, ints)
 
 -- a rule is given by its entries
 pub IsRuleBy-entries : {r : LocalRule} {k m : ℕ} {o : ℤ} {gives : ℕ → ℕ → Type 0} → IsRule r → k ≡ r.states → m ≡ r.width → o ≡ r.offset
     → ((v a : ℕ) → v < r.states ^ r.width → gives v a → a ≡ slice_index r.table v) → IsRuleBy k m (to_z w8 (of_z w8 o)) gives r
-IsRuleBy-entries {r} {k} {m} {o} {gives} rule states width offset entries = record {
+IsRuleBy-entries {r} rule states width offset entries = record {
   rule = rule;
   states = sym states;
   width = sym width;
@@ -28,5 +26,5 @@ IsRuleBy-entries {r} {k} {m} {o} {gives} rule states width offset entries = reco
 pub IsRuleBy-map : {r : LocalRule} {k m : ℕ} {o : ℤ} {gives : ℕ → ℕ → Type 0} (f : ℕ → ℕ) → IsRule r → k ≡ r.states → m ≡ r.width → o ≡ r.offset
     → r.table ≡ map f (range_with_len 0 (r.states ^ r.width)) → ((v a : ℕ) → v < r.states ^ r.width → gives v a → a ≡ f v)
     → IsRuleBy k m (to_z w8 (of_z w8 o)) gives r
-IsRuleBy-map {r} {k} {m} {o} {gives} f rule states width offset table given = IsRuleBy-entries rule states width offset (λ v a l h.
+IsRuleBy-map {r} f rule states width offset table given = IsRuleBy-entries rule states width offset (λ v a l h.
     given v a l h ∙ sym (ap (λ t. slice_index t v) table ∙ get_or-map-range_with_len f 0 (r.states ^ r.width) v v 0 l (omega arith)))

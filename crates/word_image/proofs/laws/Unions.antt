@@ -20,17 +20,10 @@ IsUnion-none count Has = record { within = pow_pos count; nodes = λ v _. ((λ s
 
 -- the union stays as it is where the next part is empty
 pub IsUnion-skip : {count : ℕ} {Has : ℕ → ℕ → Type 0} {n set : ℕ} → IsUnion count Has n set → ((v : ℕ) → ¬ Has n v) → IsUnion count Has (n + 1) set
-IsUnion-skip {count} {Has} {n} {set} h none = record {
-  within = h.within;
-  nodes = λ v inside. (
-    (λ some. let one = (h.nodes v inside).0 some in (one.0, omega (arith, one.1), one.2)),
-    (λ one. (h.nodes v inside).1 (
-      one.0,
-      ⊎_elim (λ same. absurd (none v (subst (λ i. Has i v) same one.2))) (λ no. omega (arith, one.1, no)) (cases_eq one.0 n),
-      one.2,
-    )),
-  );
-}
+IsUnion-skip {Has = Has} {n = n} h none = IsSetOf-same (λ v _. (
+  (λ (i, less, has). (i, omega (arith, less), has)),
+  (λ (i, less, has). (i, ⊎_elim (λ same. absurd (none v (subst (λ j. Has j v) same has))) (λ no. omega (arith, less, no)) (cases_eq i n), has)),
+)) h
 
 -- the next part is added to the union
 pub IsUnion-take : {count : ℕ} {Has : ℕ → ℕ → Type 0} {n set part : ℕ} → IsUnion count Has n set → part < 2 ^ count → ((v : ℕ) → v < count → (IsBitSet part v ↔ Has n v))
@@ -55,7 +48,7 @@ IsSetTo count Holds = IsUnion count (λ i v. (v ≡ i) × Holds i)
 
 -- the set of numbers of which something holds has one number more, of which it holds
 pub IsSetTo-take : {count i set one : ℕ} (Holds : ℕ → Type 0) → IsSetTo count Holds i set → i < count → one ≡ 2 ^ i → Holds i → IsSetTo count Holds (i + 1) (bit_or set one)
-IsSetTo-take {count} {i} {set} {one} Holds h inside alone holds =
+IsSetTo-take {count} {i} {set} Holds h inside alone holds =
     subst (λ x. IsSetTo count Holds (i + 1) (bit_or set x)) (sym alone)
     (IsUnion-take h (pow-lt inside) (λ v _. ((λ some. ((IsBitSet-pow i v).0 some, holds)), (λ here. (IsBitSet-pow i v).1 here.0))))
 
@@ -65,10 +58,7 @@ IsSetTo-skip Holds h none = IsUnion-skip h (λ v here. none here.1)
 
 -- the set of all numbers below a bound of which something holds
 pub IsSetTo-all : {count n set : ℕ} (Holds : ℕ → Type 0) → n ≡ count → IsSetTo count Holds n set → IsSetOf count Holds set
-IsSetTo-all {count} {n} {set} Holds all h = record {
-  within = h.within;
-  nodes = λ v l. (
-    (λ some. let (i, less, (same, holds)) = (h.nodes v l).0 some in subst Holds (sym same) holds),
-    (λ holds. (h.nodes v l).1 (v, omega (arith, all, l), (refl, holds))),
-  );
-}
+IsSetTo-all Holds all h = IsSetOf-same (λ v l. (
+  (λ (i, less, (same, holds)). subst Holds (sym same) holds),
+  (λ holds. (v, omega (arith, all, l), (refl, holds))),
+)) h

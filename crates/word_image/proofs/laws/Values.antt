@@ -9,33 +9,21 @@ use Rattle.word_image.specs.LocalRules.{IsWord, value, word_of}
 -- the value of two words in a row
 pub value-append : (k : ℕ) (x y : List ℕ) → value k (x ++ y) ≡ value k x * k ^ length y + value k y
 value-append k [] y = omega (arith, zero-mul (k ^ length y))
-value-append k (a ∷ x) y =
-    let long : k ^ length (x ++ y) ≡ k ^ length x * k ^ length y = ap (λ n. k ^ n) (length-append x y) ∙ pow-add k (length x) (length y) in
-    let rest : value k (x ++ y) ≡ value k x * k ^ length y + value k y = value-append k x y in
-    let first : a * k ^ length (x ++ y) ≡ (a * k ^ length x) * k ^ length y = ap (λ n. a * n) long ∙ sym (mul_assoc a (k ^ length x) (k ^ length y)) in
-    let split : (a * k ^ length x + value k x) * k ^ length y ≡ (a * k ^ length x) * k ^ length y + value k x * k ^ length y = add-mul (a * k ^ length x) (value k x) (k ^ length y) in
-    let goal : a * k ^ length (x ++ y) + value k (x ++ y) ≡ (a * k ^ length x + value k x) * k ^ length y + value k y = omega arith in
-    goal
+value-append k (a ∷ x) y = grind (arith, length-append, pow-add, mul_assoc, add-mul, value-append k x y)
 
 -- the value of a word with one more letter at the end
 pub value-snoc : (k : ℕ) (w : List ℕ) (a : ℕ) → value k (w ++ a ∷ []) ≡ value k w * k + a
-value-snoc k w a =
-    let e : value k (w ++ a ∷ []) ≡ value k w * k ^ 1 + (a * k ^ 0 + 0) = value-append k w (a ∷ []) in
-    let one : k ^ 1 ≡ k = pow-suc k 0 ∙ ap (λ n. n * k) (pow-zero k) ∙ one-mul k in
-    let zeroth : a * k ^ 0 ≡ a = ap (λ n. a * n) (pow-zero k) ∙ mul-one a in
-    let by_k : value k w * k ^ 1 ≡ value k w * k = ap (λ n. value k w * n) one in
-    omega arith
+value-snoc k w a = grind (arith, value-append, pow-suc, pow-zero, one-mul, mul-one)
 
 -- a word of n letters is a number below k ^ n
 pub value-below : (k : ℕ) (w : List ℕ) → IsWord k w → value k w < k ^ length w
 value-below k [] h = rw pow-zero (omega arith)
 value-below k (a ∷ w) h =
-    let first : a < k = All-head (λ a. a < k) a w h in
-    let rest : value k w < k ^ length w = value-below k w (All-tail (λ a. a < k) a w h) in
-    let bound : a * k ^ length w + value k w < k ^ length w * k = mul-add-lt a (k ^ length w) (value k w) k first rest in
-    let power : k ^ suc (length w) ≡ k ^ length w * k = pow-suc k (length w) in
-    let goal : a * k ^ length w + value k w < k ^ suc (length w) = omega arith in
-    goal
+    let first = All-head (λ a. a < k) a w h in
+    let rest = value-below k w (All-tail (λ a. a < k) a w h) in
+    let bound = mul-add-lt a (k ^ length w) (value k w) k first rest in
+    let power = pow-suc k (length w) in
+    omega arith
 
 -- two words of one length with one value are one word
 pub value-injective : (k : ℕ) (x y : List ℕ) → IsWord k x → IsWord k y → length x ≡ length y → value k x ≡ value k y → x ≡ y
@@ -43,10 +31,10 @@ value-injective k [] y h g e f = sym (nil_from_length y (sym e))
 value-injective k (a ∷ x) [] h g e f = absurd (omega arith)
 value-injective k (a ∷ x) (b ∷ y) h g e f =
     let long : length x ≡ length y = omega arith in
-    let below_x : value k x < k ^ length x = value-below k x (All-tail (λ a. a < k) a x h) in
+    let below_x = value-below k x (All-tail (λ a. a < k) a x h) in
     let below_y : value k y < k ^ length x = rw long (value-below k y (All-tail (λ a. a < k) b y g)) in
     let same : a * k ^ length x + value k x ≡ b * k ^ length x + value k y = f ∙ ap (λ n. b * k ^ n + value k y) (sym long) in
-    let parts : (a ≡ b) × (value k x ≡ value k y) = same_from_place a (value k x) b (value k y) (k ^ length x) below_x below_y same in
+    let parts = same_from_place a (value k x) b (value k y) (k ^ length x) below_x below_y same in
     ap₂ (λ (c : ℕ) (z : List ℕ). c ∷ z) parts.0 (value-injective k x y (All-tail (λ a. a < k) a x h) (All-tail (λ a. a < k) b y g) long parts.1)
 
 -- the word of a number has the length that is asked for
@@ -56,36 +44,33 @@ length-word_of k (suc n) v = ap suc (length-word_of k n (v % k ^ n))
 
 -- where there is a number below k ^ (n + 1), k ^ n is not 0
 power_positive : (k n v : ℕ) → v < k ^ suc n → 0 < k ^ n
-power_positive k n v l = pos_of_ne-zero (λ e.
-    let none : k ^ suc n ≡ 0 = pow-suc k n ∙ ap (λ p. p * k) e ∙ zero-mul k in
-    omega arith)
+power_positive k n v l = grind (arith, pos_of_ne-zero, pow-suc, zero-mul)
 
 -- the letters of the word of a number below k ^ n are letters
 pub IsWord-word_of : (k n v : ℕ) → v < k ^ n → IsWord k (word_of k n v)
 IsWord-word_of k zero v l = All-nil (λ a. a < k)
 IsWord-word_of k (suc n) v l =
-    let positive : 0 < k ^ n = power_positive k n v l in
-    let power : k ^ suc n ≡ k ^ n * k = pow-suc k n in
-    let swapped : k ^ n * k ≡ k * k ^ n = mul_comm (k ^ n) k in
+    let positive = power_positive k n v l in
+    let power = pow-suc k n in
+    let swapped = mul_comm (k ^ n) k in
     All-cons (λ a. a < k) (v / k ^ n) (word_of k n (v % k ^ n)) (div_below v (k ^ n) k positive (omega arith)) (IsWord-word_of k n (v % k ^ n) (mod-lt v positive))
 
 -- the word of a number has that number for its value
 pub value-word_of : (k n v : ℕ) → v < k ^ n → value k (word_of k n v) ≡ v
 value-word_of k zero v l = let power : k ^ zero ≡ 1 = pow-zero k in omega arith
 value-word_of k (suc n) v l =
-    let positive : 0 < k ^ n = power_positive k n v l in
-    let rest : value k (word_of k n (v % k ^ n)) ≡ v % k ^ n = value-word_of k n (v % k ^ n) (mod-lt v positive) in
-    let long : length (word_of k n (v % k ^ n)) ≡ n = length-word_of k n (v % k ^ n) in
-    ap₂ (λ (i j : ℕ). v / k ^ n * k ^ i + j) long rest ∙ div-add-mod' v (k ^ n)
+    let positive = power_positive k n v l in
+    let rest = value-word_of k n (v % k ^ n) (mod-lt v positive) in
+    ap₂ (λ (i j : ℕ). v / k ^ n * k ^ i + j) (length-word_of k n (v % k ^ n)) rest ∙ div-add-mod' v (k ^ n)
 
 -- a word is the word of its value
 pub word_of-value : (k : ℕ) (w : List ℕ) → IsWord k w → word_of k (length w) (value k w) ≡ w
 word_of-value k [] h = refl
 word_of-value k (a ∷ w) h =
-    let tail : IsWord k w = All-tail (λ a. a < k) a w h in
-    let below : value k w < k ^ length w = value-below k w tail in
-    let first : (a * k ^ length w + value k w) / k ^ length w ≡ a = div-mul-add a (k ^ length w) (value k w) below in
-    let rest : (a * k ^ length w + value k w) % k ^ length w ≡ value k w = mod-mul-add a (k ^ length w) (value k w) below in
+    let tail = All-tail (λ a. a < k) a w h in
+    let below = value-below k w tail in
+    let first = div-mul-add a (k ^ length w) (value k w) below in
+    let rest = mod-mul-add a (k ^ length w) (value k w) below in
     ap₂ (λ (c : ℕ) (v : ℕ). c ∷ word_of k (length w) v) first rest ∙ ap (λ z. a ∷ z) (word_of-value k w tail)
 
 -- the value of the first letters of a word, with one letter more
@@ -112,8 +97,7 @@ value-cut k n w h =
 -- the value of the letters behind the first n is below that of as many letters
 rest_below : (k n : ℕ) (w : List ℕ) → IsWord k w → value k (drop n w) < k ^ (length w - n)
 rest_below k n w word =
-    let below : value k (drop n w) < k ^ length (drop n w) = value-below k (drop n w) (All-drop (λ a. a < k) n w word) in
-    rw length-drop at below
+    rw length-drop at (value-below k (drop n w) (All-drop (λ a. a < k) n w word))
 
 -- the value of the first n letters
 pub value-take : (k n : ℕ) (w : List ℕ) → IsWord k w → n ≤ length w → value k (take n w) ≡ value k w / k ^ (length w - n)

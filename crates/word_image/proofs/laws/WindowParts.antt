@@ -18,9 +18,7 @@ some_letter {r} rule = let least : 2 ≤ r.states = rule.shape.least_states in o
 -- there are as many windows as nodes with a letter
 pub windows-nodes : {r : LocalRule} → IsRule r → r.states ^ r.width ≡ node_count r * r.states
 windows-nodes {r} rule =
-    let wide : 2 ≤ r.width = rule.shape.least_width in
-    let long : r.width ≡ suc (r.width - 1) = omega arith in
-    ap (λ n. r.states ^ n) long ∙ pow-suc r.states (r.width - 1)
+    ap (λ n. r.states ^ n) (omega arith) ∙ pow-suc r.states (r.width - 1)
 
 -- how many words of m - 2 letters there are
 abbrev pub rest_count : LocalRule → ℕ
@@ -29,20 +27,16 @@ rest_count r = r.states ^ (r.width - 2)
 -- a node is a letter and a word of m - 2 letters
 pub node_count-rest : {r : LocalRule} → IsRule r → node_count r ≡ rest_count r * r.states
 node_count-rest {r} rule =
-    let wide : 2 ≤ r.width = rule.shape.least_width in
-    let long : r.width - 1 ≡ suc (r.width - 2) = omega arith in
-    ap (λ n. r.states ^ n) long ∙ pow-suc r.states (r.width - 2)
+    ap (λ n. r.states ^ n) (omega arith) ∙ pow-suc r.states (r.width - 2)
 
 -- the window of a letter, a word of m - 2 letters and a letter, read from either end
 pub window_parts : {r : LocalRule} → IsRule r → (a s b : ℕ) → a * node_count r + (s * r.states + b) ≡ (a * rest_count r + s) * r.states + b
 window_parts {r} rule a s b =
-    let inner : a * node_count r ≡ a * rest_count r * r.states = ap (λ n. a * n) (node_count-rest rule) ∙ sym (mul_assoc a (rest_count r) r.states) in
-    omega (arith, inner)
+    omega (arith, ap (λ n. a * n) (node_count-rest rule) ∙ sym (mul_assoc a (rest_count r) r.states))
 
 -- the first letter of a node, and the word of its other letters
 pub node_parts : {r : LocalRule} → IsRule r → (u : ℕ) → (node_letter r u 0 ≡ u / rest_count r) × (drop 1 (word_of r.states (r.width - 1) u) ≡ word_of r.states (r.width - 2) (u % rest_count r))
 node_parts {r} rule u =
-    let wide : 2 ≤ r.width = rule.shape.least_width in
     let long : r.width - 1 ≡ suc (r.width - 2) = omega arith in
     (ap (λ n. slice_index (word_of r.states n u) 0) long, ap (λ n. drop 1 (word_of r.states n u)) long)
 
@@ -50,23 +44,21 @@ node_parts {r} rule u =
 pub power-below : {r : LocalRule} → IsRule r → (j : ℕ) → j ≤ r.width - 1 → (1 ≤ r.states ^ j) × (r.states ^ j ≤ 16)
 power-below {r} rule j l =
     let some = some_letter rule in
-    let few : r.states ^ j ≤ node_count r = pow-le-pow_right some l in
-    (one-le-pow j r.states some, omega (arith, few, rule.shape.most_nodes))
+    (one-le-pow j r.states some, omega (arith, pow-le-pow_right some l, rule.shape.most_nodes))
 
 -- a letter of a word, as a digit of its value
 pub letter-value : (k : ℕ) (w : List ℕ) (i j : ℕ) → IsWord k w → i + j + 1 ≡ length w → value k w / k ^ j % k ≡ slice_index w i
 letter-value k [] i j h e = absurd (omega arith)
 letter-value k (a ∷ w) zero j h e =
-    let letter : a < k = All-head (λ c. c < k) a w h in
+    let letter = All-head (λ c. c < k) a w h in
     let same : j ≡ length w = omega arith in
     ap (λ n. (a * k ^ length w + value k w) / k ^ n % k) same
     ∙ ap (λ n. n % k) (div-mul-add a (k ^ length w) (value k w) (value-below k w (All-tail (λ c. c < k) a w h))) ∙ mod-eq_of_lt {n = a} letter
 letter-value k (a ∷ w) (suc i) j h e =
-    let letter : a < k = All-head (λ c. c < k) a w h in
+    let letter = All-head (λ c. c < k) a w h in
     let same : length w ≡ suc i + j = omega arith in
     let positive : 0 < k ^ j = one-le-pow j k (omega arith) in
-    let power : a * k ^ length w ≡ a * k ^ i * k * k ^ j =
-    ap (λ n. a * k ^ n) same ∙ ap (λ n. a * n) (pow-add k (suc i) j ∙ ap (λ n. n * k ^ j) (pow-suc k i))
+    let power = ap (λ n. a * k ^ n) same ∙ ap (λ n. a * n) (pow-add k (suc i) j ∙ ap (λ n. n * k ^ j) (pow-suc k i))
     ∙ sym (mul_assoc a (k ^ i * k) (k ^ j)) ∙ ap (λ n. n * k ^ j) (sym (mul_assoc a (k ^ i) k)) in
     ap (λ n. (n + value k w) / k ^ j % k) power
     ∙ ap (λ n. n % k) (mul-add-div_right positive (a * k ^ i * k) (value k w))
@@ -80,9 +72,7 @@ get_or-word_of k i m v l below =
 
 -- a letter of a node, as a digit of its number
 pub node_letter-digit : (r : LocalRule) (u i j : ℕ) → u < node_count r → i + j + 1 ≡ r.width - 1 → node_letter r u i ≡ u / r.states ^ j % r.states
-node_letter-digit r u i j below e =
-    let same : r.width - 1 - 1 - i ≡ j = omega arith in
-    get_or-word_of r.states i (r.width - 1) u (omega arith) below ∙ ap (λ n. u / r.states ^ n % r.states) same
+node_letter-digit r u i j below e = grind (arith, get_or-word_of)
 
 -- the window of a node and a letter is one of the windows
 pub window_with-within : (side : Side) {r : LocalRule} → IsRule r → (u a : ℕ) → u < node_count r → a < r.states → window_with side r u a < r.states ^ r.width

@@ -1,5 +1,5 @@
 -- Images and preimages, one letter at a time.
-use Rattle.std.proofs.Common.{◌≡◌, ℕ, ◌+◌, ◌-◌, ◌<◌, ◌≤◌, List, [], ◌∷◌, ◌++◌, length, map, take, drop, get_or, slice_index, slice_range, true, refl, sym, ap, ap₂, ◌∙◌, ⊎_elim, arith, length-drop, nat_lt, length-take-le, take_all}
+use Rattle.std.proofs.Common.{◌≡◌, ℕ, ◌+◌, ◌-◌, ◌<◌, ◌≤◌, List, [], ◌∷◌, ◌++◌, length, map, take, drop, get_or, slice_index, slice_range, true, refl, sym, ap, ap₂, ◌∙◌, arith, length-drop, nat_lt, length-take-le, take_all}
 use Rattle.std.specs.List.{range_with_len, list_all}
 use Rattle.std.proofs.lemmas.Bool.{cases_lt}
 use Rattle.std.proofs.lemmas.Bool.Decides.{Decides-by_and, Decides-ltb}
@@ -12,15 +12,11 @@ use Rattle.word_image.specs.Words.{image, IsPreimage}
 -- a list that is not empty is what stands before its last element, and that element
 pub split_last : (y : List ℕ) → 0 < length y → y ≡ take (length y - 1) y ++ get_or y (length y - 1) 0 ∷ []
 split_last y h =
-    let all : take (length y - 1 + 1) y ≡ y = take_all (length y - 1 + 1) y (omega arith) in
-    sym all ∙ take_more y (length y - 1) 0 (omega arith)
+    sym (take_all (length y - 1 + 1) y (omega arith)) ∙ take_more y (length y - 1) 0 (omega arith)
 
 -- what the table holds is a letter
 pub entry-below : {r : LocalRule} → IsRule r → (v : ℕ) → slice_index r.table v < r.states
-entry-below {r} rule v =
-    ⊎_elim (λ l. rule.letters v 0 l)
-    (λ l. let past : get_or r.table v 0 ≡ 0 = get_or_past r.table v 0 l in omega arith)
-    (cases_lt v (length r.table))
+entry-below rule v = grind (arith, get_or_past, cases_lt)
 
 -- a list is a word where the test of its letters says so
 pub word_by_test : (k : ℕ) (w : List ℕ) → list_all (λ a. nat_lt a k) w ≡ true → IsWord k w
@@ -49,7 +45,6 @@ pub image-snoc : {r : LocalRule} → IsRule r → (x : List ℕ) (a : ℕ) → r
     → image r (x ++ a ∷ []) ≡ image r x ++ local_map r (drop (length x - (r.width - 1)) x ++ a ∷ []) ∷ []
 image-snoc {r} rule x a h =
     let n : ℕ = length x - (r.width - 1) in
-    let more : length (x ++ a ∷ []) - (r.width - 1) ≡ n + 1 = omega (arith, length_push x a) in
     let new : ℕ → ℕ = λ i. local_map r (slice_range (x ++ a ∷ []) i (i + r.width)) in
     let old : ℕ → ℕ = λ i. local_map r (slice_range x i (i + r.width)) in
     let window : (i : ℕ) → i + r.width ≤ length x → slice_range (x ++ a ∷ []) i (i + r.width) ≡ slice_range x i (i + r.width) = λ i l.
@@ -57,10 +52,9 @@ image-snoc {r} rule x a h =
     ∙ take-append-le (i + r.width - i) (drop i x) (a ∷ []) (omega (arith, length-drop i x)) in
     let before : image r x ≡ map new (range_with_len 0 n) = fill_by_all new (image r x) n 0 (length-image r x)
     (λ i l. get_or-map-range_with_len old 0 n i i 0 l (omega arith) ∙ ap (local_map r) (sym (window i (omega arith)))) in
-    let last : slice_range (x ++ a ∷ []) n (n + r.width) ≡ drop n x ++ a ∷ [] =
-    ap (take (n + r.width - n)) (drop-append-le n x (a ∷ []) (omega arith))
+    let last = ap (take (n + r.width - n)) (drop-append-le n x (a ∷ []) (omega arith))
     ∙ take_all (n + r.width - n) (drop n x ++ a ∷ []) (omega (arith, length_push (drop n x) a, length-drop n x)) in
-    ap (λ j. map new (range_with_len 0 j)) more
+    ap (λ j. map new (range_with_len 0 j)) (omega (arith, length_push x a))
     ∙ map-range_with_len_more new 0 n n (omega arith)
     ∙ ap₂ (λ (u : List ℕ) (c : ℕ). u ++ c ∷ []) (sym before) (ap (local_map r) last)
 
@@ -85,8 +79,7 @@ IsPreimage-snoc {r} rule w a y p =
     let splits : y ≡ take n y ++ get_or y n 0 ∷ [] = split_last y (omega arith) in
     let before_long : length (take n y) ≡ n = length-take-le n y (omega arith) in
     let start : length (take n y) - (r.width - 1) ≡ length w = omega arith in
-    let ends : image r (take n y) ++ local_map r (drop (length (take n y) - (r.width - 1)) (take n y) ++ get_or y n 0 ∷ []) ∷ [] ≡ w ++ a ∷ [] =
-    sym (image-snoc rule (take n y) (get_or y n 0) (omega arith)) ∙ ap (image r) (sym splits) ∙ p.maps in
+    let ends = sym (image-snoc rule (take n y) (get_or y n 0) (omega arith)) ∙ ap (image r) (sym splits) ∙ p.maps in
     let parts : (image r (take n y) ≡ w) × (local_map r (drop (length (take n y) - (r.width - 1)) (take n y) ++ get_or y n 0 ∷ []) ≡ a) = same_from_push _ _ _ _ ends in
     record {
       before = take n y;

@@ -1,4 +1,4 @@
-use Rattle.std.proofs.Common.{arith, below_more}
+use Rattle.std.proofs.Common.{below_more}
 use Rattle.tail_preimage.specs.Relations.{Open, Meets}
 use Rattle.word_image.proofs.Common.{HasBit}
 use Rattle.tail_preimage.proofs.Meets.{IsSetOf-meets}
@@ -13,6 +13,3 @@ returns-then-open-set-eq0-clause-first c = record {
 pub loop-n-preserved : goal.loop-n-preserved
 loop-n-preserved c =
     below_more (λ n. Meets c.args.graph.now (Open (HasBit c.args.periods.now.period) n) c.args.set) c.loop-n.n c.loop-n.invariant ((IsSetOf-meets c.open.ensures c.args.set).0 c.if-open-set-eq0.false)
-
-pub returns-clause-first : goal.returns-clause-first
-returns-clause-first c = c.loop-n.invariant 16 (omega arith)

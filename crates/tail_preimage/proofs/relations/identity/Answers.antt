@@ -1,11 +1,8 @@
-use Rattle.std.proofs.Common.{◌≡◌, ◌<◌, refl, sym, arith}
+use Rattle.std.proofs.Common.{◌<◌, sym, arith}
 use Rattle.std.proofs.Math.Pow.{pow-lt}
 use Rattle.word_image.proofs.Common.{one_shl, IsBitSet-pow}
-use Rattle.tail_preimage.proofs.Rows.{AreRowsFilled-none, AreRowsFilled-more, AreRowsFilled-all}
+use Rattle.tail_preimage.proofs.Rows.{AreRowsFilled-more}
 use Rattle.tail_preimage.proofs.relations.identity.Goals as goal
-
-pub loop-u-init : goal.loop-u-init
-loop-u-init c = AreRowsFilled-none c.args.graph.now (λ u v. u ≡ v) _ refl
 
 pub loop-u-preserved : goal.loop-u-preserved
 loop-u-preserved c =
@@ -17,6 +14,3 @@ loop-u-preserved c =
       within = pow-lt (omega arith);
       nodes = λ v _. ((λ bit. sym ((IsBitSet-pow u v).0 bit)), (λ same. (IsBitSet-pow u v).1 (sym same)));
     }))
-
-pub returns-clause-relation : goal.returns-clause-relation
-returns-clause-relation c = AreRowsFilled-all (omega arith) c.loop-u.invariant

@@ -2,17 +2,9 @@ use Rattle.std.proofs.Common.{◌≡◌, suc, ◌+◌, [], refl, ◌∙◌, subs
 use Rattle.pair_laws.proofs.Common.{IsBitSet-below}
 use Rattle.word_image.proofs.Common.{node_count, HasBit}
 use Rattle.tail_preimage.specs.Relations.{IsRelation, Steps}
-use Rattle.tail_preimage.proofs.laws.Steps.{Steps-none, Steps-stay, Steps-cons, Steps-first}
+use Rattle.tail_preimage.proofs.laws.Steps.{Steps-cons, Steps-first}
 use Rattle.tail_preimage.proofs.Rows.{row_more, IsRelation-same}
 use Rattle.tail_preimage.proofs.relations.powers.Goals as goal
-
-pub loop-n-init : goal.loop-n-init
-loop-n-init c = record {
-  long = refl;
-  each = λ j l.
-      let none : j ≡ 0 = omega arith in
-      rw none (IsRelation-same (λ u v _ _. ((λ same. Steps-none same), (λ steps. Steps-stay steps))) c.identity-all.ensures.relation);
-}
 
 pub loop-n-preserved : goal.loop-n-preserved
 loop-n-preserved c =
@@ -21,8 +13,7 @@ loop-n-preserved c =
     let n = c.loop-n.n in
     let before = c.loop-n.invariant.each in
     let more : suc n ≡ n + 1 = omega arith in
-    let next : IsRelation r (Steps (HasBit step) (suc n)) c.joined.result =
-    IsRelation-same (λ u v below inside. (
+    let next = IsRelation-same (λ u v below inside. (
       (λ (w, node, (first, rest)). Steps-cons first ((((before n (omega arith)).rows w node).nodes v inside).0 rest)),
       (λ steps.
           let (w, first, rest) = Steps-first steps in

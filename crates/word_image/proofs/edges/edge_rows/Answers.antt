@@ -1,4 +1,4 @@
-use Rattle.std.proofs.Common.{◌≡◌, ◌*◌, ◌^◌, ◌%◌, replicate, slice_index, zero-mul, ap, ◌∙◌, sym, subst, arith, add-mul}
+use Rattle.std.proofs.Common.{◌≡◌, ◌*◌, ◌^◌, ◌%◌, replicate, slice_index, zero-mul, ap, ◌∙◌, sym, subst, arith}
 use Rattle.word_image.proofs.Common.{one_shl}
 use Rattle.word_image.specs.Ends.{end_node, end_at}
 use Rattle.word_image.proofs.laws.Edges.{HaveEdges, HaveEdges-none, HaveEdges-more, with_ends, AreEdgeRows-all}
@@ -9,9 +9,6 @@ loop-node-init c =
     let r = c.args.rule.now in
     subst (λ n. HaveEdges c.args.side r n (replicate 16 (replicate 16 0))) (sym (zero-mul r.states)) (HaveEdges-none c.args.side r)
 
-pub loop-letter-init : goal.loop-letter-init
-loop-letter-init c = subst (λ n. HaveEdges c.args.side c.args.rule.now n c.loop-node.ends) (omega arith) c.loop-node.invariant
-
 pub loop-letter-preserved : goal.loop-letter-preserved
 loop-letter-preserved c =
     let r = c.args.rule.now in
@@ -19,7 +16,6 @@ loop-letter-preserved c =
     let u = c.loop-node.node in
     let a = c.loop-letter.letter in
     let rule = c.nodes-node-end.ensures.rule in
-    let few = rule.shape.most_nodes in
     let end : c.end_node-end.result ≡ end_at side r u a = c.end_node-end.ensures.value ∙ ap (end_node side r) c.window_with-window.ensures.value in
     subst (λ n. HaveEdges side r n (with_ends c.loop-letter.ends c.from.result c.from-in-loop-letter.result (1 * 2 ^ c.end_node-end.result % 2 ^ 16))) (omega arith)
     (HaveEdges-more rule (omega arith) (omega arith) c.loop-letter.invariant _ _ _
@@ -27,16 +23,5 @@ loop-letter-preserved c =
     (ap (λ v. 1 * 2 ^ v % 2 ^ 16) end ∙ one_shl (end_at side r u a) 16 (omega (arith, c.end_node-end.ensures.node, end)))
     (omega arith) (omega arith))
 
-pub loop-node-preserved : goal.loop-node-preserved
-loop-node-preserved c =
-    let r = c.args.rule.now in
-    subst (λ n. HaveEdges c.args.side r n c.loop-letter.ends) (omega (arith, add-mul c.loop-node.node 1 r.states)) c.loop-letter.invariant
-
 pub returns-clause-edges : goal.returns-clause-edges
 returns-clause-edges c = AreEdgeRows-all c.nodes-node-end.ensures.rule (subst (λ n. HaveEdges c.args.side c.args.rule.now (n * c.args.rule.now.states) c.loop-node.ends) (omega arith) c.loop-node.invariant)
-
-pub returns-clause-tall : goal.returns-clause-tall
-returns-clause-tall c = c.loop-node.invariant.tall
-
-pub returns-clause-wide : goal.returns-clause-wide
-returns-clause-wide c = c.loop-node.invariant.wide

@@ -1,17 +1,10 @@
-use Rattle.std.proofs.Common.{ℕ, ◌<◌, ◌^◌, [], slice_index_or, IsBitSet, refl, sym, subst}
+use Rattle.std.proofs.Common.{ℕ, ◌<◌, [], slice_index_or, IsBitSet, refl, subst}
 use Rattle.word_image.specs.LocalRules.{node_count}
 use Rattle.word_image.specs.Graphs.{IsSetOf, HasBit}
-use Rattle.word_image.specs.Edges.{ends_at}
 use Rattle.word_image.proofs.laws.Edges.{AreEdgeRows-ends}
 use Rattle.word_image.proofs.laws.LastSets.{IsLastSet-step}
 use Rattle.word_image.proofs.laws.Unions.{IsSetOf-same}
 use Rattle.word_image.proofs.edges.step.Goals as goal
-
-pub union_of_rows-requires-clause-within : goal.union_of_rows-requires-clause-within
-union_of_rows-requires-clause-within c u node =
-    let count = c.nodes.ensures.nodes in
-    subst (λ n. ends_at c.args.edges.now c.from.result u < 2 ^ n) (sym count)
-    (AreEdgeRows-ends c.nodes.ensures.rule c.requires.edges c.args.a u _ u c.requires.letter (subst (λ n. u < n) count node) c.from.ensures refl).within
 
 pub returns-clause-step : goal.returns-clause-step
 returns-clause-step c =

@@ -1,4 +1,4 @@
-use Rattle.std.proofs.Common.{◌≡◌, ℕ, ◌-◌, ◌^◌, ◌<◌, List, length, reverse, get_or, slice_index, sym, ap, ◌∙◌, arith, rules}
+use Rattle.std.proofs.Common.{◌≡◌, ℕ, ◌-◌, ◌^◌, ◌<◌, reverse, get_or, slice_index, sym, ap, ◌∙◌, arith, rules}
 use Rattle.word_image.proofs.Common.{length-reverse, get_or-reverse}
 use Rattle.word_image.specs.LocalRules.{word_of}
 use Rattle.word_image.specs.WordsBy.{IsWordBy}
@@ -9,8 +9,8 @@ use Rattle.word_image.proofs.local_rule.backwards.Goals as goal
 -- the letters from the last one on make the word read backwards
 by_last : {k m v : ℕ} {gives : ℕ → ℕ → Type 0} → v < k ^ m → ((i a : ℕ) → i < m → gives i a → a ≡ slice_index (word_of k m v) (m - 1 - i)) → IsWordBy k m gives (reverse (word_of k m v))
 by_last {k} {m} {v} below given =
-    let w : List ℕ = word_of k m v in
-    let long : length w ≡ m = length-word_of k m v in
+    let w = word_of k m v in
+    let long = length-word_of k m v in
     record {
       word = IsWord-reverse k w (IsWord-word_of k m v below);
       long = length-reverse w ∙ long;

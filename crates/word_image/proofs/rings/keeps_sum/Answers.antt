@@ -1,14 +1,9 @@
 use Rattle.std.proofs.Common.{◌≡◌, length, map, slice_index, sum_by, pos, sym, ap, ◌∙◌, arith, take_all}
 use Rattle.word_image.proofs.Common.{range_with_len, sum_by-map-range_with_len_more, sum_by_more, nat_tests}
 use Rattle.word_image.specs.LocalRules.{local_map}
-use Rattle.word_image.specs.Rings.{ring_letters, ring_image}
+use Rattle.word_image.specs.Rings.{ring_letters}
 use Rattle.word_image.proofs.laws.RingSums.{sum_by-ring_image-start}
 use Rattle.word_image.proofs.rings.keeps_sum.Goals as goal
-
-pub at-requires : goal.at-requires
-at-requires c =
-    let letter = c.requires.ring.word c.loop-place.place 0 (omega arith) in
-    omega (arith, letter)
 
 pub loop-place-preserved : goal.loop-place-preserved
 loop-place-preserved c =
@@ -33,7 +28,6 @@ returns c =
     let whole : c.loop-place.place ≡ length p = omega arith in
     let (before, few_before, after, few_after) = c.loop-place.invariant in
     let old : c.loop-place.before ≡ sum_by weight p = before ∙ ap (sum_by weight) (take_all c.loop-place.place p (omega arith)) in
-    let new : c.loop-place.after ≡ sum_by weight (ring_image r p) =
-    after ∙ ap (λ n. sum_by weight (map (λ j. local_map r (ring_letters p (pos j) r.width)) (range_with_len 0 n))) whole
+    let new = after ∙ ap (λ n. sum_by weight (map (λ j. local_map r (ring_letters p (pos j) r.width)) (range_with_len 0 n))) whole
     ∙ sym (sum_by-ring_image-start r weight p c.requires.ring.some) in
     (λ yes. grind (arith, nat_tests), λ keeps. grind (arith, nat_tests, keeps))

@@ -1,7 +1,5 @@
-use Rattle.std.proofs.Common.{◌≡◌, pos, ◌+ℤ◌, length, map, sym, ap, ◌∙◌, arith}
-use Rattle.word_image.proofs.Common.{range_with_len}
+use Rattle.std.proofs.Common.{sym, ap, ◌∙◌}
 use Rattle.word_image.specs.LocalRules.{local_map}
-use Rattle.word_image.specs.Rings.{ring_letters}
 use Rattle.word_image.proofs.laws.Lists.{letters_more}
 use Rattle.word_image.proofs.laws.Rings.{ring_letters-rem}
 use Rattle.word_image.proofs.rings.new_letters.Goals as goal
@@ -12,10 +10,3 @@ loop-place-preserved c =
     let p = c.args.ring.now in
     let window = ring_letters-rem p r.offset _ c.loop-place.place r.width c.requires.ring.some (sym c.first_place-first.ensures) in
     letters_more _ _ _ _ _ c.loop-place.invariant (c.ring_apply.ensures.value ∙ sym (ap (local_map r) window)) c.in_ok-push.ensures.items
-
-pub returns : goal.returns
-returns c =
-    let r = c.args.rule.now in
-    let p = c.args.ring.now in
-    let whole : c.loop-place.place ≡ length p = omega arith in
-    c.loop-place.invariant ∙ ap (λ n. map (λ i. local_map r (ring_letters p (pos i +ℤ r.offset) r.width)) (range_with_len 0 n)) whole

@@ -17,7 +17,5 @@ loop-i-preserved c =
 
 pub apply-requires-clause-word : goal.apply-requires-clause-word
 apply-requires-clause-word c =
-    let whole : c.loop-i.i ≡ c.from-width.result = omega arith in
-    let word : IsWord c.args.rule.now.states (take c.loop-i.i c.loop-i.window) =
-    subst (IsWord c.args.rule.now.states) (sym c.loop-i.invariant.1) (IsWord-ring_letters c.requires.ring (pos c.args.first) c.loop-i.i) in
-    subst (λ n. IsWord c.args.rule.now.states (take n c.loop-i.window)) whole word
+    let word = subst (IsWord c.args.rule.now.states) (sym c.loop-i.invariant.1) (IsWord-ring_letters c.requires.ring (pos c.args.first) c.loop-i.i) in
+    subst (λ n. IsWord c.args.rule.now.states (take n c.loop-i.window)) (omega arith) word

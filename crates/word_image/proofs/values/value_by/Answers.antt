@@ -1,4 +1,4 @@
-use Rattle.std.proofs.Common.{ℕ, ◌+◌, ◌*◌, ◌^◌, ◌<◌, ◌≤◌, List, take, slice_index, refl, sym, ap, subst, ◌∙◌, arith, take_all}
+use Rattle.std.proofs.Common.{ℕ, ◌+◌, ◌*◌, ◌^◌, ◌<◌, ◌≤◌, List, take, slice_index, sym, ap, subst, ◌∙◌, arith, take_all}
 use Rattle.word_image.specs.LocalRules.{value}
 use Rattle.word_image.specs.WordsBy.{IsWordBy}
 use Rattle.word_image.proofs.laws.Values.{value-below, value-take_more, value-take-below}
@@ -7,9 +7,6 @@ use Rattle.word_image.proofs.values.value_by.Goals as goal
 -- one letter more fits
 next_below : {k n i : ℕ} {gives : ℕ → ℕ → Type 0} {w : List ℕ} → IsWordBy k n gives w → k ^ n ≤ 256 → i < n → value k (take i w) * k + slice_index w i < 256
 next_below {k} {n} {i} {gives} {w} by fits l = value-take-below k w i 256 by.word (omega (arith, by.long)) (subst (λ j. k ^ j ≤ 256) (sym by.long) fits)
-
-pub loop-place-init : goal.loop-place-init
-loop-place-init g c = λ w by. refl
 
 pub overflow_mul-value : goal.overflow_mul-value
 overflow_mul-value g c =

@@ -1,6 +1,6 @@
 use Rattle.std.proofs.Common.{ℕ, ◌<◌, ◌≤◌, List, ◌∙◌, rules, IsBitSet, w64}
 use Rattle.std.proofs.lemmas.Int.{to_z-of_z}
-use Rattle.word_image.proofs.Common.{repeat, LocalRule, node_count, IsNodeSet, HasBit, IsBitSet-zero, IsSetOf-same}
+use Rattle.word_image.proofs.Common.{repeat, LocalRule, node_count, IsNodeSet, HasBit, IsSetOf-same}
 use Rattle.pair_laws.proofs.Common.{IsBitSet-below}
 use Rattle.tail_config.proofs.Common.{TailConfig, IsTail}
 use Rattle.tail_preimage.specs.Walks.{HasWalk}
@@ -16,11 +16,6 @@ use Rattle.tail_preimage.proofs.laws.LeastPreimages.{IsFrom-first}
 use Rattle.tail_preimage.proofs.laws.Answers.{Starts-least}
 use Rattle.tail_preimage.proofs.room.PreimageRoom.first_placed.Goals as goal
 use Rattle.tail_preimage.proofs.room.PreimageRoom.first_placed.Goals.{After-left, After-least_node-start}
-
-pub least_node-start-requires : goal.least_node-start-requires
-least_node-start-requires c =
-    let possible = c.requires.shape.possible in
-    λ none. IsBitSet-zero possible.node (rw none at ((c.starts.ensures.nodes possible.node possible.below).1 possible.starts))
 
 -- the start: a least node from which three walks lead
 record IsStart (r : LocalRule) (t : TailConfig) (s : Shape) (u : ℕ) : Type 0 where
@@ -49,12 +44,6 @@ is_tail c = rw c.requires.one_k c.left.ensures.tail.short.tail
 -- the node at which the middle begins is a start
 start : (c : After-least_node-start) → IsStart c.args.graph.now c.args.tail.now.config (shape_of c.args.spans) c.least_node-start.result
 start c = start_node c.requires.parts c.requires.shape.possible c.starts.ensures c.least_node-start.ensures
-
-pub first_loop-requires-clause-word : goal.first_loop-requires-clause-word
-first_loop-requires-clause-word c = rw c.left.ensures.left (is_tail (goal.at.first_loop-requires-clause-word c).After-left).left_word
-
-pub first_loop-requires-clause-node : goal.first_loop-requires-clause-node
-first_loop-requires-clause-node c = (start (goal.at.first_loop-requires-clause-node c).After-least_node-start).below
 
 pub first_loop-requires-clause-turn : goal.first_loop-requires-clause-turn
 first_loop-requires-clause-turn c = let from = start (goal.at.first_loop-requires-clause-turn c).After-least_node-start in rw c.left.ensures.left (from.left, from.walks.left)

@@ -1,6 +1,5 @@
 use Rattle.std.proofs.Common.{◌≡◌, ◌≤◌, ◌++◌, List, ℕ, length, ap, ap₂, ◌∙◌, arith, length-append}
 use Rattle.word_image.proofs.Common.{repeat, mul-le}
-use Rattle.tail_preimage.specs.Preimages.{stretch}
 use Rattle.tail_preimage.proofs.laws.Lengths.{length-repeat-most, length-stretch-most}
 use Rattle.tail_preimage.proofs.walks.WalkRoom.set_stretch.Goals as goal
 use Rattle.tail_preimage.proofs.walks.WalkRoom.set_stretch.Goals.{After-middle}
@@ -38,8 +37,7 @@ append_copies-requires-2 c =
 pub invariant_of-self : goal.invariant_of-self
 invariant_of-self c =
     let t = c.args.tail.now.config in
-    let word : c.append_copies-2.new.word.items ≡ stretch t c.args.left c.args.right =
-    c.append_copies-2.ensures.word
+    let word = c.append_copies-2.ensures.word
     ∙ ap₂ (λ (w p : List ℕ). w ++ repeat c.args.right p) (c.append.ensures.word ∙ ap₂ (λ (a b : List ℕ). a ++ b) (lefts (goal.at.invariant_of-self c).After-middle) c.middle.ensures.middle) c.right.ensures.right in (
       omega (arith, ap length word, length-stretch-most c.right.ensures.tail.short c.args.left c.args.right c.requires.left c.requires.right),
       omega (arith, c.self.invariant.1, c.clear.ensures.capacity, c.append_copies.ensures.capacity, c.append.ensures.capacity, c.append_copies-2.ensures.capacity),

@@ -1,4 +1,4 @@
-use Rattle.std.proofs.Common.{◌≡◌, ℕ, ◌-◌, ◌^◌, ◌<◌, ◌≤◌, List, length, take, drop, map, replicate, set, slice_index, refl, sym, ap, ap₂, subst, subst₂, ◌∙◌, ℤ, w8, FitsSigned, to_z, of_z, arith, ext_get_or}
+use Rattle.std.proofs.Common.{◌≡◌, ℕ, ◌-◌, ◌^◌, ◌<◌, ◌≤◌, List, length, take, drop, map, replicate, set, slice_index, sym, ap, ap₂, subst, subst₂, ◌∙◌, ℤ, w8, FitsSigned, to_z, of_z, arith, ext_get_or}
 use Rattle.std.proofs.lemmas.Int.{to_z-of_z}
 use Rattle.word_image.proofs.Common.{range_with_len, length-map-range_with_len, get_or-map-range_with_len}
 use Rattle.word_image.specs.LocalRules.{LocalRule, IsShape, IsRule}
@@ -30,9 +30,8 @@ shape_of {o = o} {r = r} by = subst₂ (λ (k m : ℕ). IsShape k m o) by.states
 made : {k m : ℕ} {o : ℤ} {gives : ℕ → ℕ → Type 0} {r : LocalRule} → IsRuleBy k m o gives r → FitsSigned w8 o → (n : ℕ) (entries : List ℕ) → n ≡ k ^ m
     → entries ≡ padded (map (slice_index r.table) (range_with_len 0 n)) → IsMade k m o entries r
 made {k} {m} {o} {gives} {r} by fits n entries all filled =
-    let f : ℕ → ℕ = slice_index r.table in
-    let listed : map f (range_with_len 0 n) ≡ r.table =
-    ext_get_or 0 (map f (range_with_len 0 n)) r.table (length-map-range_with_len f 0 n ∙ all ∙ windows by)
+    let f = slice_index r.table in
+    let listed = ext_get_or 0 (map f (range_with_len 0 n)) r.table (length-map-range_with_len f 0 n ∙ all ∙ windows by)
     (λ i l. get_or-map-range_with_len f 0 n i i 0 (omega (arith, length-map-range_with_len f 0 n)) (omega arith)) in
     let whole : entries ≡ padded r.table = filled ∙ ap padded listed in
     let long : length r.table ≡ k ^ m = sym (windows by) in
@@ -41,9 +40,6 @@ made {k} {m} {o} {gives} {r} by fits n entries all filled =
       zeros = ap (drop (k ^ m)) whole ∙ drop-in_row 256 (k ^ m) r.table long;
     }
 
-pub loop-window-init : goal.loop-window-init
-loop-window-init g c = λ o r by. refl
-
 pub loop-window-preserved : goal.loop-window-preserved
 loop-window-preserved g c = λ o r by.
     let v = c.loop-window.window in
@@ -51,9 +47,6 @@ loop-window-preserved g c = λ o r by.
     let below : v < c.args.k ^ c.args.m = omega arith in
     rw c.from-in-loop-window.ensures (ap (λ xs. set xs v c.letter.result) (c.loop-window.invariant o r by)
     ∙ in_row-more 256 (slice_index r.table) v c.letter.result (omega (arith, few by)) (by.entries v c.letter.result below c.letter.ensures))
-
-pub node_count-requires : goal.node_count-requires
-node_count-requires g c = (_, shape_of c.requires.rule.1)
 
 pub invariant_of-result : goal.invariant_of-result
 invariant_of-result g c =

@@ -10,8 +10,7 @@ returns-then-at-letter c =
     let a = c.loop-letter.letter in (
       λ t. absurd (cc),
       λ own.
-          let same : slice_index w a ≡ a = ap (λ ws. slice_index ws a) own ∙ own_weights-letter (length w) a (omega arith) in
-          absurd (omega (arith, same)),
+          absurd (omega (arith, ap (λ ws. slice_index ws a) own ∙ own_weights-letter (length w) a (omega arith))),
     )
 
 pub returns : goal.returns
