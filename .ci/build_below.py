@@ -119,8 +119,9 @@ class Builds:
         folder = self.free.pop()
         move(name, top, folder)
         with open(folder / f"{name}.log", "wb") as log:
+            # A process group, and not a session: Linux shares the processors among sessions, whatever their `nice`.
             process = subprocess.Popen(words, cwd=folder / "crates" / name, stdin=subprocess.DEVNULL, stdout=log,
-                                       stderr=log, start_new_session=True)
+                                       stderr=log, preexec_fn=os.setpgrp)
         self.running[process.pid] = name, folder, process   # which subprocess would wait for if it weren't kept
 
     def end_one(self):
