@@ -9,16 +9,20 @@ ghost use Rattle.ca_questions.specs.Values.{Settles};
 use ca_questions::{Cause, Found, Inverse};
 use inverse_table::{LentMap, NoMap, TableRoom};
 use inverse_window::WindowAt;
-use rule_verdicts::window_or_twins;
+use rule_verdicts::{ReportRoom, window_or_twins};
 use word_image::Rule;
 
 /// Returns the inverse map of a rule, which reads as few letters of an image as possible. Returns the cause if the rule
-/// isn't injective, or if its inverse reads too many letters.
-pub fn inverse<'r>(room: &'r mut TableRoom, rule: &Rule) -> Result<Found<'r>, Cause>
+/// isn't injective, or if its inverse reads too many letters. `tables` lends the map.
+pub fn inverse<'r>(
+    reports: &mut ReportRoom,
+    tables: &'r mut TableRoom,
+    rule: &Rule,
+) -> Result<Found<'r>, Cause>
     ensures { Settles (Question.Inverse rule.now) result }
 {
-    match window_or_twins(rule) {
-        Ok(at) => inverse_over(room, rule, at),
+    match window_or_twins(reports, rule) {
+        Ok(at) => inverse_over(tables, rule, at),
         Err(twins) => Err(Cause::Twins(twins)),
     }
 }

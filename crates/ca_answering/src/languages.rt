@@ -10,6 +10,7 @@ use ca_questions::{Automaton, Cause, Found, Stop};
 use debruijn::Graph;
 use eden_law::{is_surjective, least_erasable};
 use image_minimal::{Minimal, SeparationRoom};
+use least_walk::Queue;
 use short_words::LentWord;
 use std::alloc::{AllocError, Global};
 use word_image::Rule;
@@ -68,9 +69,9 @@ pub fn same<'r>(
 }
 
 /// Returns the least erasable pair: two words that can replace each other in any configuration without a change of the
-/// image. The answer has no pair if the rule is surjective.
-pub fn erase(rule: &Rule) -> Found<'static>
+/// image. The answer has no pair if the rule is surjective. `queue` has memory for the search.
+pub fn erase(queue: &mut Queue, rule: &Rule) -> Found<'static>
     ensures { IsFinding (Question.Erase rule.now) (finding_of result) }
 {
-    Found::Erased(least_erasable(rule))
+    Found::Erased(least_erasable(queue, rule))
 }

@@ -2,6 +2,7 @@
 
 use image_minimal::SeparationRoom;
 use inverse_table::TableRoom;
+use least_walk::Queue;
 use rule_verdicts::ReportRoom;
 use std::alloc::{AllocError, Global};
 use tail_preimage::PreimageRoom;
@@ -18,6 +19,8 @@ pub struct Room {
     pub(crate) preimages: PreimageRoom,
     /// For the table of an inverse map.
     pub(crate) tables: TableRoom,
+    /// For the least erasable pair.
+    pub(crate) walks: Queue,
 }
 
 impl Room {
@@ -28,6 +31,7 @@ impl Room {
             separations: SeparationRoom::new(alloc)?,
             preimages: PreimageRoom::new(alloc)?,
             tables: TableRoom::new(alloc)?,
+            walks: Queue::new(alloc)?,
         })
     }
 }

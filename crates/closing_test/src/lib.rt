@@ -36,7 +36,7 @@
 //! If there are N = k^(m - 1) nodes, a look-ahead takes time **O(k·k^m)** and no memory. So does the test whether a
 //! rule closes. A split takes one search for all middles and one search for the period of each state. The search for
 //! a period ends when the split would be greater than the least split so far. This takes time **O(k·N⁴)** in
-//! operations on rows. The walks are stored in arrays, and a [`SplitRoom`] has the memory for the two configurations.
+//! operations on rows. A [`SplitRoom`] has the memory for the two configurations and for the search of the middles.
 #![tactic(auto)]
 
 mod closes;

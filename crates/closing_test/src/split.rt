@@ -15,17 +15,17 @@ ghost use Rattle.tail_laws.specs.SplitWalks.{first_tail, second_tail};
 ghost use Rattle.closing_test.specs.Walks.{IsLeastSoFar, middle_pairs, period_pairs};
 
 use crate::walks::Walks;
-use least_walk::{WalkTree, Walker};
+use least_walk::{Queue, WalkTree, Walker};
 use pair_graph::Pairs;
 
 /// Returns the walks of the least normal right split, or None if there is no such split. For each state of the marked
 /// graph it looks at one split at most. It looks at states with short middles first, so that later searches for periods
-/// are short.
-pub fn least_walks(pairs: &Pairs, walker: &mut Walker) -> Option<Walks>
+/// are short. `queue` has memory for the middles.
+pub fn least_walks(pairs: &Pairs, walker: &mut Walker, queue: &mut Queue) -> Option<Walks>
     ensures { IsLeastSoFar pairs.now (pair_count pairs.now + pair_count pairs.now) result }
 {
     pairs.rule().keeps_limits();
-    let middles = WalkTree::of(pairs, 0);
+    let middles = WalkTree::of(queue, pairs, 0);
     let mut best = short_walks(pairs, walker, &middles);
     for i in 0..middles.len() {
         if let Some(found) = Walks::earlier(pairs, walker, &middles, middles.pair(i), &best) {

@@ -11,7 +11,7 @@ ghost use Rattle.closing_test.specs.declared.split_room.LentClosing.TheVariants 
 
 use crate::look_ahead::{ahead_left, ahead_right};
 use crate::split::least_walks;
-use least_walk::{Walker, spelled};
+use least_walk::{Queue, Walker, spelled};
 use pair_graph::Pairs;
 use pair_rank::Ranks;
 use std::alloc::{AllocError, Global};
@@ -27,14 +27,16 @@ pub enum LentClosing<'r> {
     Split(LentTail<'r>, LentTail<'r>),
 }
 
-/// The memory for the two configurations of a split, which is allocated once. In contracts it is these two
-/// configurations.
+/// The memory for the two configurations of a split and for the search of its middles, which is allocated once. In
+/// contracts it is the two configurations.
 #[derive(Debug, Drop)]
 pub struct SplitRoom {
     // The first configuration of the split.
     x: TailRoom,
     // The second configuration of the split.
     y: TailRoom,
+    // The memory of the search for middles.
+    queue: Queue,
 }
 
 impl Model for SplitRoom {
@@ -51,6 +53,7 @@ impl SplitRoom {
         Ok(SplitRoom {
             x: TailRoom::new(alloc)?,
             y: TailRoom::new(alloc)?,
+            queue: Queue::new(alloc)?,
         })
     }
 
@@ -91,36 +94,13 @@ impl SplitRoom {
         ensures rule { IsRule pairs.now }
     {
         pairs.rule().keeps_limits();
-        let Some(walks) = least_walks(pairs, walker) else {
+        let Some(walks) = least_walks(pairs, walker, &mut self.queue) else {
             unreachable!()
         };
-        self.x.set_left(&[0]);
-        self.y.set_left(&[0]);
-        self.set_middles(walks.middle.as_slice());
-        self.set_rights(walks.period.as_slice());
-    }
-
-    /// Takes the first letters of the steps of a walk as the first middle, and the second letters as the second one.
-    fn set_middles(&mut self, steps: &[u8])
-        requires { length steps.now ≤ most_steps }
-        ensures first { self.new.0 ≡ config_of self.old.0.left (first_word steps.now) self.old.0.right }
-        ensures second { self.new.1 ≡ config_of self.old.1.left (second_word steps.now) self.old.1.right }
-    {
-        let words = spelled(steps);
-        self.x.set_middle(words.x.as_slice());
-        self.y.set_middle(words.y.as_slice());
-    }
-
-    /// Takes the first letters of the steps of a walk as the first right period, and the second letters as the second
-    /// one.
-    fn set_rights(&mut self, steps: &[u8])
-        requires { length steps.now ≤ most_steps }
-        ensures first { self.new.0 ≡ config_of self.old.0.left self.old.0.middle (first_word steps.now) }
-        ensures second { self.new.1 ≡ config_of self.old.1.left self.old.1.middle (second_word steps.now) }
-    {
-        let words = spelled(steps);
-        self.x.set_right(words.x.as_slice());
-        self.y.set_right(words.y.as_slice());
+        let middles = spelled(walks.middle.as_slice());
+        let periods = spelled(walks.period.as_slice());
+        self.x.set(&[0], middles.x.as_slice(), periods.x.as_slice());
+        self.y.set(&[0], middles.y.as_slice(), periods.y.as_slice());
     }
 
     /// Lends the split, whose letters must be below k. The number k is from 2 to 16.

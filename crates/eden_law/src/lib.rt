@@ -35,8 +35,8 @@
 //! windows, but six words of four letters have the image 0 0, and there are four nodes.
 //!
 //! If there are N = k^(m - 1) nodes, [`least_erasable`] takes time **O(N^3·k)** in operations on rows: N searches in a
-//! graph of 2·N^2 states. Later searches end early. For a surjective rule it searches nothing. It needs no memory, and
-//! [`erasable`] copies the two words that it finds into memory of their own. [`reached`] takes time **O(N^2·k^2)** and
+//! graph of 2·N^2 states. Later searches end early. For a surjective rule it searches nothing. It searches in the memory
+//! of a queue, and [`erasable`] copies the two words into memory of their own. [`reached`] takes time **O(N^2·k^2)** and
 //! memory for N^2 pairs. [`is_surjective`] takes time **O(N^3·k)** at most, and no memory. The tests of a table take
 //! time **O(N·k^2)** at most.
 #![tactic(auto)]

@@ -1,14 +1,18 @@
 //! The function `separate`, which finds the least word that is an orphan of exactly one of two rules. An orphan is a
 //! word without a preimage. The type `SeparationRoom` does the same in memory that is allocated once.
 
-ghost use Rattle.std.specs.Prelude.{◌≡◌, ◌≢◌, ◌↔◌, ◌∷◌, [], ◌++◌, ◌<◌, ◌≤◌, List, ℕ, length, slice_get, vec_capacity, Some, IfOk, IfSome, IsErrOf, IsTrue, MatchOption, false};
+ghost use Rattle.std.specs.Prelude.{◌≡◌, ◌≢◌, ◌↔◌, ◌∷◌, [], ◌++◌, ◌^◌, ◌<◌, ◌≤◌, List, ℕ, length, slice_get, vec_capacity, Some, IfOk, IfSome, IsErrOf, IsTrue, MatchOption, false};
+ghost use Rattle.word_image.specs.LocalRules.{IsRule, node_count, most_sets};
+ghost use Rattle.image_subsets.specs.StepTables.{AreTables};
 ghost use Rattle.image_minimal.specs.ImageLanguages.{HaveSameOrphans, Separates};
-ghost use Rattle.image_minimal.specs.Links.{SpellsLink, most_links};
+ghost use Rattle.std.specs.List.{range_with_len};
+ghost use Rattle.image_minimal.specs.Links.{SpellsLink, most_links, set_count};
 ghost use Rattle.image_minimal.specs.declared.links.Link.{Link};
 
-use crate::joined::Joined;
+use crate::joined::{MOST_NUMBERS, join, write_classes};
 use crate::links::{Link, MOST_LINKS};
-use crate::subsets::Subsets;
+use debruijn::Graph;
+use image_subsets::StepTables;
 use std::alloc::{AllocError, Global};
 use std::marker::Model;
 use word_image::{Rule, Word};
@@ -54,12 +58,13 @@ pub fn separate(alloc: Global, first: &Rule, second: &Rule) -> Result<Option<Wor
 /// because no result depends on an earlier comparison.
 #[derive(Debug, Drop)]
 pub struct SeparationRoom {
-    // The sets of nodes of the first rule, and the steps between them.
-    first: Subsets,
-    // The sets of nodes of the second rule, and the steps between them.
-    second: Subsets,
-    // The sets of both rules, in the classes into which the links of the last search join them.
-    joined: Joined,
+    // The steps between the sets of nodes of the first rule.
+    first: StepTables,
+    // The steps between the sets of nodes of the second rule.
+    second: StepTables,
+    // The sets of both rules, in the classes into which the links of the last search join them, with capacity for
+    // `MOST_NUMBERS` sets.
+    parents: Vec<u32>,
     // The links of the last search, with capacity for `MOST_LINKS` links.
     links: Vec<Link>,
     // The word that a search has found, with capacity for as many letters.
@@ -68,22 +73,23 @@ pub struct SeparationRoom {
 
 impl Model for SeparationRoom {
     ghost use Rattle.std.specs.Prelude.{⊤, ◌≤◌, vec_capacity};
+    ghost use Rattle.image_minimal.specs.Joins.{most_numbers};
     ghost use Rattle.image_minimal.specs.Links.{most_links};
 
     ghost Value = { ⊤ };
 
     ghost view = { λ r. tt };
 
-    ghost invariant = { λ r. (most_links ≤ vec_capacity r.links) × (most_links ≤ vec_capacity r.word) };
+    ghost invariant = { λ r. (most_numbers ≤ vec_capacity r.parents) × (most_links ≤ vec_capacity r.links) × (most_links ≤ vec_capacity r.word) };
 }
 
 impl SeparationRoom {
     /// Allocates the memory of all comparisons. The only error is lack of memory.
     pub fn new(alloc: Global) -> Result<SeparationRoom, AllocError> {
         Ok(SeparationRoom {
-            first: Subsets::new(alloc)?,
-            second: Subsets::new(alloc)?,
-            joined: Joined::new(alloc)?,
+            first: StepTables::new(alloc)?,
+            second: StepTables::new(alloc)?,
+            parents: Vec::with_capacity(alloc, MOST_NUMBERS)?,
             links: Vec::with_capacity(alloc, MOST_LINKS)?,
             word: Vec::with_capacity(alloc, MOST_LINKS)?,
         })
@@ -96,13 +102,16 @@ impl SeparationRoom {
         ensures word { MatchOption result (HaveSameOrphans first.now second.now) (λ word. Separates first.now second.now word.now) }
         ensures short { IfSome result (λ word. length word.now ≤ most_links) }
     {
-        self.first.set_rule(first);
-        self.second.set_rule(second);
-        let (one, other) = (&self.first, &self.second);
+        let (one, other) = (Graph::of(first), Graph::of(second));
+        self.first.fill(&one);
+        self.second.fill(&other);
+        write_classes(&mut self.parents, count_sets(&one) + count_sets(&other));
         if search(
-            one,
-            other,
-            &mut self.joined,
+            &one,
+            &self.first,
+            &other,
+            &self.second,
+            &mut self.parents,
             &mut self.links,
             &mut self.word,
         ) {
@@ -115,16 +124,22 @@ impl SeparationRoom {
 
 /// Searches for the least word that is an orphan of exactly one rule. Writes it into `word` and returns true, or
 /// returns false if the rules have the same orphans. Both rules have the same number of states. A link is a pair of
-/// sets of last nodes that the same word has under the two rules. The search follows links breadth first, with letters
-/// ascending, until a letter leads to two sets of which exactly one is empty.
+/// sets of last nodes that the same word has under the two rules. `parents` puts each set of both rules into a class of
+/// its own, and the tables have the steps of the sets. The search follows links breadth first, with letters ascending,
+/// until a letter leads to two sets of which exactly one is empty.
 fn search(
-    first: &Subsets,
-    second: &Subsets,
-    joined: &mut Joined,
+    first: &Graph,
+    first_steps: &StepTables,
+    second: &Graph,
+    second_steps: &StepTables,
+    parents: &mut [u32],
     links: &mut Vec<Link>,
     word: &mut Vec<u8>,
 ) -> bool
     requires states { first.now.states ≡ second.now.states }
+    requires first { AreTables first.now first_steps.now }
+    requires second { AreTables second.now second_steps.now }
+    requires classes { parents.old ≡ range_with_len 0 (set_count first.now second.now) }
     requires links { most_links ≤ vec_capacity links.old }
     requires word { most_links ≤ vec_capacity word.old }
     ensures found { IsTrue result → Separates first.now second.now word.new.items }
@@ -133,8 +148,7 @@ fn search(
     ensures links { vec_capacity links.new ≡ vec_capacity links.old }
     ensures word { vec_capacity word.new ≡ vec_capacity word.old }
 {
-    let below = first.count();
-    joined.reset(below + second.count());
+    let below = count_sets(first);
     links.clear();
     links.push_reserved(Link {
         first: first.full(),
@@ -145,8 +159,8 @@ fn search(
     let mut place = 0;
     while place < links.len() {
         let link = links[place];
-        let firsts = first.steps(link.first);
-        let seconds = second.steps(link.second);
+        let firsts = first_steps.steps(link.first);
+        let seconds = second_steps.steps(link.second);
         for letter in 0..first.k() {
             let s = firsts[letter as usize];
             let t = seconds[letter as usize];
@@ -155,7 +169,7 @@ fn search(
                 return true;
             }
             // If earlier links already join the two sets, they aren't made a link.
-            if joined.join(u32::from(s), below + u32::from(t)) {
+            if join(parents, u32::from(s), below + u32::from(t)) {
                 links.push_reserved(Link {
                     first: s,
                     second: t,
@@ -167,6 +181,15 @@ fn search(
         place += 1;
     }
     false
+}
+
+/// Returns the number of sets of nodes, which is 2 to the power of the number of nodes.
+fn count_sets(graph: &Graph) -> u32
+    ensures count { result ≡ 2 ^ node_count graph.now }
+    ensures most { result ≤ most_sets }
+    ensures rule { IsRule graph.now }
+{
+    1u32 << graph.nodes()
 }
 
 /// Writes the word that reaches the link at place `at`, followed by the letter `last`. It has at most as many letters

@@ -35,8 +35,8 @@
 //! least walk so far. A least walk visits no state of the marked graph twice, so twins have at most 512 letters each.
 //!
 //! [`is_injective`] takes time **O(N)** in operations on rows of N bits, and [`window`] takes **O(m·N^2)**.
-//! [`least_twins`] takes time **O(N^4·k^2)**, for N^2 walks in a graph of 2·N^2 states. None of them needs memory.
-//! [`twins`] copies the two words of the least twins into memory of their own.
+//! [`least_twins`] takes time **O(N^4·k^2)**, for N^2 walks in a graph of 2·N^2 states. It searches in the memory of a
+//! walker, and the others need no memory. [`twins`] copies the two words of the least twins into memory of their own.
 #![tactic(auto)]
 
 mod starts;

@@ -22,8 +22,8 @@
 //! away. The marked pairs that have been reached are also stored as bits in rows. For each marked pair and first
 //! letter, one look at two rows tells whether some second letter leads to a new marked pair.
 //!
-//! There are 2 N * N marked pairs, at most 512, and a least walk has at most that many steps. So the queue and the steps
-//! of a walk are arrays, and a search needs no memory. It takes time **O(k·N²)** in operations on rows. To read a walk
+//! There are 2 N * N marked pairs, at most 512, and a least walk has at most that many steps. So the memory of a [`Queue`]
+//! is allocated once, and a search needs no other memory. It takes time **O(k·N²)** in operations on rows. To read a walk
 //! from a [`WalkTree`] takes time proportional to the length of the walk.
 #![tactic(auto)]
 
@@ -35,5 +35,6 @@ mod tree;
 mod walker;
 
 pub use letter_pairs::{earlier, spelled};
+pub use queue::Queue;
 pub use tree::WalkTree;
 pub use walker::{MOST_STEPS, Walker};

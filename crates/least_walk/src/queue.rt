@@ -3,9 +3,10 @@
 //! A marked pair is a pair of nodes, with or without a mark. The queue lists the marked pairs in the order in which the
 //! search reaches them.
 
-ghost use Rattle.std.specs.Prelude.{◌≡◌, ◌<◌, ◌≤◌, ◌++◌, ◌∷◌, [], length, slice_get, Some};
+ghost use Rattle.std.specs.Prelude.{◌≡◌, ◌<◌, ◌≤◌, ◌++◌, ◌∷◌, [], length, slice_get, Some, IfOk};
 ghost use Rattle.word_image.specs.MarkedPairs.{most_marked_pairs};
 
+use std::alloc::{AllocError, Global};
 use std::marker::Model;
 use word_image::MOST_PAIRS;
 
@@ -27,49 +28,41 @@ pub struct Reached {
     pub depth: u16,
 }
 
-/// The marked pairs that a search has reached, at most 512. Contracts treat the queue as the list of its items.
+/// The marked pairs that a search has reached, at most 512. Contracts treat the queue as the list of its items. `new`
+/// allocates all memory.
 #[derive(Debug, Drop)]
 pub struct Queue {
-    // The items of the queue, followed by any items.
-    items: [Reached; MOST_MARKED_PAIRS],
-    // How many items the queue has.
-    count: usize,
+    // The items of the queue, with capacity for 512 items.
+    items: Vec<Reached>,
 }
 
 impl Model for Queue {
-    ghost use Rattle.std.specs.Prelude.{◌≤◌, List, take};
+    ghost use Rattle.std.specs.Prelude.{◌≤◌, List, length, vec_capacity};
     ghost use Rattle.word_image.specs.MarkedPairs.{most_marked_pairs};
     ghost use Rattle.least_walk.specs.declared.queue.Reached.{Reached};
 
     ghost Value = { List Reached };
 
-    ghost view = { λ q. take q.count q.items };
+    ghost view = { λ q. q.items.items };
 
-    ghost invariant = { λ q. q.count ≤ most_marked_pairs };
+    ghost invariant = { λ q. (length q.items.items ≤ most_marked_pairs) × (most_marked_pairs ≤ vec_capacity q.items) };
 }
 
 impl Queue {
-    /// Makes an empty queue.
-    pub fn new() -> Queue
-        ensures { result ≡ [] }
+    /// Allocates the memory of a queue, which is empty. The only error is lack of memory.
+    pub fn new(alloc: Global) -> Result<Queue, AllocError>
+        ensures { IfOk result (λ queue. queue ≡ []) }
     {
-        let none = Reached {
-            pair: 0,
-            parent: 0,
-            step: 0,
-            depth: 0,
-        };
-        Queue {
-            items: [none; MOST_MARKED_PAIRS],
-            count: 0,
-        }
+        Ok(Queue {
+            items: Vec::with_capacity(alloc, MOST_MARKED_PAIRS)?,
+        })
     }
 
     /// Removes all items.
     pub fn clear(&mut self)
         ensures { self.new ≡ [] }
     {
-        self.count = 0;
+        self.items.clear();
     }
 
     /// Appends an item to a queue of at most 511 items.
@@ -77,8 +70,7 @@ impl Queue {
         requires { length self.old < most_marked_pairs }
         ensures { self.new ≡ self.old ++ item ∷ [] }
     {
-        self.items[self.count] = item;
-        self.count += 1;
+        self.items.push_reserved(item);
     }
 
     /// Returns the number of items.
@@ -86,7 +78,7 @@ impl Queue {
         ensures len { result ≡ length self.now }
         ensures most { result ≤ most_marked_pairs }
     {
-        self.as_slice().len()
+        self.items.len()
     }
 
     /// Returns the item at this place.
@@ -94,7 +86,7 @@ impl Queue {
         requires { place < length self.now }
         ensures { slice_get self.now place ≡ Some result }
     {
-        self.as_slice()[place]
+        self.items[place]
     }
 
     /// Returns the items in their order.
@@ -102,6 +94,6 @@ impl Queue {
         ensures items { result.now ≡ self.now }
         ensures most { length result.now ≤ most_marked_pairs }
     {
-        &self.items[..self.count]
+        &self.items
     }
 }

@@ -21,10 +21,10 @@ use std::marker::Model;
 use word_image::Rule;
 
 /// The least walks of at most `most` steps from one marked pair to all others. One search finds all of them, and they
-/// are stored as the queue of this search. Contracts treat the tree as the rule, the number of the marked pair at the
+/// are stored as the queue of this search, which stands in another place. Contracts treat the tree as the rule, the number of the marked pair at the
 /// start, `most`, and the numbers of the marked pairs that the walks reach.
 #[derive(Debug, Drop)]
-pub struct WalkTree {
+pub struct WalkTree<'q> {
     // The rule of the marked graph.
     rule: Rule,
     // The number of the marked pair at which the walks start.
@@ -32,38 +32,38 @@ pub struct WalkTree {
     // The greatest number of steps of a walk.
     most: usize,
     // The marked pairs to which the walks lead, in the order of the walks.
-    queue: Queue,
+    queue: &'q Queue,
     // For each marked pair its place in the queue. If a marked pair isn't in the queue, its entry has no meaning.
     places: [u16; MOST_MARKED_PAIRS],
 }
 
-impl Model for WalkTree {
+impl<'q> Model for WalkTree<'q> {
     ghost use Rattle.least_walk.specs.Trees.{LeastWalks, IsWalkTree, pairs_of};
 
     ghost Value = { LeastWalks };
 
-    ghost view = { λ t. record { source = record { rule = t.rule; start = t.start; most = t.most }; reached = pairs_of t.queue } };
+    ghost view = { λ t. record { source = record { rule = t.rule; start = t.start; most = t.most }; reached = pairs_of t.queue.now } };
 
-    ghost invariant = { λ t. IsWalkTree t.rule t.start t.most t.queue t.places };
+    ghost invariant = { λ t. IsWalkTree t.rule t.start t.most t.queue.now t.places };
 }
 
-impl WalkTree {
-    /// Finds the least walks from this marked pair to all others.
-    pub fn of(pairs: &Pairs, start: u16) -> WalkTree
+impl<'q> WalkTree<'q> {
+    /// Finds the least walks from this marked pair to all others. What the queue had before is gone.
+    pub fn of(queue: &'q mut Queue, pairs: &Pairs, start: u16) -> WalkTree<'q>
         requires { start < 2 * pair_count pairs.now }
         ensures { result.source ≡ record { rule = pairs.now; start = start; most = most_steps } }
     {
-        WalkTree::limited(pairs, start, MOST_STEPS)
+        WalkTree::limited(queue, pairs, start, MOST_STEPS)
     }
 
-    /// Finds the least walks of at most `most` steps from this marked pair to all others.
-    pub fn limited(pairs: &Pairs, start: u16, most: usize) -> WalkTree
+    /// Finds the least walks of at most `most` steps from this marked pair to all others. What the queue had before is
+    /// gone.
+    pub fn limited(queue: &'q mut Queue, pairs: &Pairs, start: u16, most: usize) -> WalkTree<'q>
         requires { start < 2 * pair_count pairs.now }
         ensures { result.source ≡ record { rule = pairs.now; start = start; most = most } }
     {
-        let mut queue = Queue::new();
         let ends = Ends { start, goal: None };
-        search(&mut queue, pairs, ends, most);
+        search(queue, pairs, ends, most);
         let places = index(queue.as_slice());
         WalkTree {
             rule: *pairs.rule(),

@@ -1,4 +1,4 @@
-//! Searches for least walks, without memory.
+//! Searches for least walks, in memory that is allocated once.
 //!
 //! A walk leads through marked pairs, which are pairs of nodes with or without a mark. Each step is a pair of letters.
 //! It follows one edge from each node, and the two edges have equal labels.
@@ -39,17 +39,12 @@ impl Walker {
     ghost use Rattle.word_image.specs.MarkedPairs.{marked};
     ghost use Rattle.search_laws.specs.PairWalks.{IsLeastWalk, PairWalk, uncode};
 
-    /// Makes a walker. It needs no memory, so this never fails. The argument `_alloc` isn't used.
-    pub fn new(_alloc: Global) -> Result<Walker, AllocError> {
-        Ok(Walker::empty())
-    }
-
-    /// Makes a walker, which needs no memory.
-    pub fn empty() -> Walker {
-        Walker {
-            queue: Queue::new(),
+    /// Allocates the memory of a walker. The only error is lack of memory.
+    pub fn new(alloc: Global) -> Result<Walker, AllocError> {
+        Ok(Walker {
+            queue: Queue::new(alloc)?,
             steps: ShortWord::new(),
-        }
+        })
     }
 
     /// Returns the least walk of at least one step from one marked pair to another: the shortest, and among the

@@ -36,13 +36,13 @@ pub(crate) fn first_orphan<'r>(search: &'r mut Search, graph: &Graph) -> Option<
 }
 
 /// Returns the least determined window if the rule is injective. If it isn't, returns its least twins as the error. A
-/// window has at most 240 letters of the image, and twins have at most 512 letters.
-pub fn window_or_twins(rule: &Rule) -> Result<WindowAt, ShortPair>
+/// window has at most 240 letters of the image, and twins have at most 512 letters. The room has memory for the search.
+pub fn window_or_twins(room: &mut ReportRoom, rule: &Rule) -> Result<WindowAt, ShortPair>
     ensures { IsWindowOrTwins rule.now result }
 {
     let pairs = Pairs::of(rule);
     let ranks = Ranks::from_pairs(&pairs);
-    window_or_twins_over(&pairs, &ranks, &mut Walker::empty())
+    window_or_twins_over(&pairs, &ranks, &mut room.walker)
 }
 
 /// Returns the least determined window if the rule of these pairs of nodes is injective. If it isn't, returns its least

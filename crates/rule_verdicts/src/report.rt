@@ -10,7 +10,6 @@ use crate::parts::{first_orphan, lent, window_or_twins_over};
 use crate::report_room::ReportRoom;
 use closing_test::LentClosing;
 use flux_conserve::{Keeping, conserve};
-use least_walk::Walker;
 use pair_graph::Pairs;
 use pair_rank::Ranks;
 use short_words::{LentWord, ShortPair};
@@ -87,17 +86,20 @@ pub(crate) fn report_over<'r>(
 {
     let rule = pairs.rule();
     rule.keeps_limits();
-    let mut walker = Walker::empty();
+    let ReportRoom {
+        search,
+        twins,
+        walker,
+        right,
+        left,
+    } = room;
     Report {
         rule: *rule,
         weights: *weights,
-        orphan: first_orphan(&mut room.search, pairs.graph()),
-        injective: lent(
-            &mut room.twins,
-            window_or_twins_over(pairs, ranks, &mut walker),
-        ),
-        right: room.right.right(pairs, ranks, &mut walker),
-        left: room.left.left(pairs, ranks, &mut walker),
+        orphan: first_orphan(search, pairs.graph()),
+        injective: lent(twins, window_or_twins_over(pairs, ranks, walker)),
+        right: right.right(pairs, ranks, walker),
+        left: left.left(pairs, ranks, walker),
         conserving: conserve(rule, weights),
     }
 }

@@ -1,6 +1,7 @@
 //! The type `ReportRoom`: the memory in which reports find their long words.
 
 use closing_test::SplitRoom;
+use least_walk::Walker;
 use orphan_search::Search;
 use short_words::{ShortPair, ShortWord};
 use std::alloc::{AllocError, Global};
@@ -14,6 +15,8 @@ pub struct ReportRoom {
     pub(crate) search: Search,
     /// For the least twins, in a box, since larger values cost more when they are moved.
     pub(crate) twins: Box<ShortPair>,
+    /// For the walks that spell the least twins and the periods of the least splits.
+    pub(crate) walker: Walker,
     /// For the least right split.
     pub(crate) right: SplitRoom,
     /// For the least left split.
@@ -38,6 +41,7 @@ impl ReportRoom {
         Ok(ReportRoom {
             search: Search::new(alloc)?,
             twins: Box::new(alloc, twins)?,
+            walker: Walker::new(alloc)?,
             right: SplitRoom::new(alloc)?,
             left: SplitRoom::new(alloc)?,
         })

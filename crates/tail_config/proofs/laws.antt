@@ -9,3 +9,4 @@ pub mod Mirror
 pub mod TailFaults
 pub mod TailTexts
 pub mod TailAnswers
+pub mod TailRooms

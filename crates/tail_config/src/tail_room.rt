@@ -1,89 +1,80 @@
 //! The type `TailRoom`, the parts of a configuration with periodic tails in memory that is allocated once.
 
-ghost use Rattle.std.specs.Prelude.{◌≡◌, ◌≤◌, length, map, vec_capacity, MatchResult};
+ghost use Rattle.std.specs.Prelude.{◌≡◌, ◌+◌, ◌≤◌, ◌++◌, length, map, vec_len, vec_capacity, MatchResult};
 ghost use Rattle.word_image.specs.LocalRules.{most_states};
 ghost use Rattle.word_image.specs.Digits.{letter_at};
 ghost use Rattle.tail_config.specs.Tails.{mirror_of};
 ghost use Rattle.tail_config.specs.TailTexts.{IsShortTail};
 ghost use Rattle.tail_config.specs.TailFaults.{IsTailText};
-ghost use Rattle.tail_config.specs.TailTextFaults.{IsTailTextFault};
+ghost use Rattle.tail_config.specs.TailTextFaults.{IsTailTextFault, letters_of};
 ghost use Rattle.tail_config.specs.TailValues.{config_of};
 
 use crate::faults::MOST_LETTERS;
 use crate::lent_tail::LentTail;
-use crate::texts::{TailTextFault, accepted_parts};
+use crate::texts::{SplitText, TailTextFault, accepted_parts};
 use std::alloc::{AllocError, Global};
 use std::marker::Model;
-use std::mem::swap;
 use word_image::letter;
+
+/// The number of letters of three parts.
+const ROOM: usize = 3 * MOST_LETTERS;
 
 /// The parts of a configuration, which is rewritten in memory that is allocated once. In contracts it is the
 /// configuration with these parts.
 #[derive(Debug, Drop)]
 pub struct TailRoom {
-    // The left period, with capacity for 1,024 letters, as the next two.
-    left: Vec<u8>,
-    // The middle.
-    middle: Vec<u8>,
-    // The right period.
-    right: Vec<u8>,
+    // The letters of the left period, the middle and the right period, with capacity for three parts of 1,024 letters.
+    letters: Vec<u8>,
+    // The number of letters of the left period.
+    left: usize,
+    // The number of letters of the middle.
+    middle: usize,
 }
 
 impl Model for TailRoom {
-    ghost use Rattle.std.specs.Prelude.{◌≤◌, vec_capacity};
+    ghost use Rattle.std.specs.Prelude.{◌+◌, ◌≤◌, length, vec_capacity};
     ghost use Rattle.tail_config.specs.Tails.{TailConfig};
-    ghost use Rattle.tail_config.specs.TailValues.{config_of};
-    ghost use Rattle.tail_config.specs.declared.faults.TheConstants.{MOST_LETTERS};
+    ghost use Rattle.tail_config.specs.TailValues.{config_in};
+    ghost use Rattle.tail_config.specs.declared.tail_room.TheConstants.{ROOM};
 
     ghost Value = { TailConfig };
 
-    ghost view = { λ r. config_of r.left.items r.middle.items r.right.items };
+    ghost view = { λ r. config_in r.letters.items r.left r.middle };
 
-    ghost invariant = { λ r. (MOST_LETTERS ≤ vec_capacity r.left) × (MOST_LETTERS ≤ vec_capacity r.middle) × (MOST_LETTERS ≤ vec_capacity r.right) };
+    ghost invariant = { λ r. (ROOM ≤ vec_capacity r.letters) × (r.left + r.middle ≤ length r.letters.items) };
 }
 
 impl TailRoom {
     /// Allocates memory for three parts of 1,024 letters each. The only error is lack of memory.
     pub fn new(alloc: Global) -> Result<TailRoom, AllocError> {
         Ok(TailRoom {
-            left: Vec::with_capacity(alloc, MOST_LETTERS)?,
-            middle: Vec::with_capacity(alloc, MOST_LETTERS)?,
-            right: Vec::with_capacity(alloc, MOST_LETTERS)?,
+            letters: Vec::with_capacity(alloc, ROOM)?,
+            left: 0,
+            middle: 0,
         })
     }
 
-    /// Takes these letters, at most 1,024, as the left period.
-    pub fn set_left(&mut self, letters: &[u8])
-        requires { length letters.now ≤ MOST_LETTERS }
-        ensures { self.new ≡ config_of letters.now self.old.middle self.old.right }
+    /// Takes these letters as the left period, the middle and the right period. Each part has at most 1,024 letters.
+    pub fn set(&mut self, left: &[u8], middle: &[u8], right: &[u8])
+        requires left { length left.now ≤ MOST_LETTERS }
+        requires middle { length middle.now ≤ MOST_LETTERS }
+        requires right { length right.now ≤ MOST_LETTERS }
+        ensures { self.new ≡ config_of left.now middle.now right.now }
     {
-        set(&mut self.left, letters);
-    }
-
-    /// Takes these letters, at most 1,024, as the middle.
-    pub fn set_middle(&mut self, letters: &[u8])
-        requires { length letters.now ≤ MOST_LETTERS }
-        ensures { self.new ≡ config_of self.old.left letters.now self.old.right }
-    {
-        set(&mut self.middle, letters);
-    }
-
-    /// Takes these letters, at most 1,024, as the right period.
-    pub fn set_right(&mut self, letters: &[u8])
-        requires { length letters.now ≤ MOST_LETTERS }
-        ensures { self.new ≡ config_of self.old.left self.old.middle letters.now }
-    {
-        set(&mut self.right, letters);
+        self.letters.clear();
+        append(&mut self.letters, left);
+        append(&mut self.letters, middle);
+        append(&mut self.letters, right);
+        self.left = left.len();
+        self.middle = middle.len();
     }
 
     /// Reverses the configuration, as `Tail::mirror` does.
     pub fn mirror(&mut self)
         ensures { self.new ≡ mirror_of self.old }
     {
-        self.left.reverse();
-        self.middle.reverse();
-        self.right.reverse();
-        swap(&mut self.left, &mut self.right);
+        self.letters.reverse();
+        self.left = self.letters.len() - self.left - self.middle;
     }
 
     /// Lends the configuration. Its letters must be below k, and both periods must have at least one letter. The number
@@ -94,7 +85,9 @@ impl TailRoom {
         requires short { IsShortTail k self.now }
         ensures { result ≡ record { states = k; config = self.now } }
     {
-        LentTail::of(k, &self.left, &self.middle, &self.right)
+        let (left, rest) = self.letters.split_at(self.left);
+        let (middle, right) = rest.split_at(self.middle);
+        LentTail::of(k, left, middle, right)
     }
 
     /// Reads a configuration over the letters below k, and lends it. The number k is from 2 to 16. If the text doesn't
@@ -105,33 +98,44 @@ impl TailRoom {
         ensures { MatchResult result (λ t. (t.states ≡ k) × IsTailText k text.now t.config) (IsTailTextFault k text.now) }
     {
         let parts = accepted_parts(k, text)?;
-        set_digits(&mut self.left, parts.left);
-        set_digits(&mut self.middle, parts.middle);
-        set_digits(&mut self.right, parts.right);
-        Ok(LentTail::of(k, &self.left, &self.middle, &self.right))
+        self.set_digits(&parts);
+        Ok(self.tail(k))
+    }
+
+    /// Takes the letters of these digits as the parts. Each part has at most 1,024 letters.
+    fn set_digits(&mut self, parts: &SplitText)
+        requires left { length parts.now.left.now ≤ MOST_LETTERS }
+        requires middle { length parts.now.middle.now ≤ MOST_LETTERS }
+        requires right { length parts.now.right.now ≤ MOST_LETTERS }
+        ensures { let p = parts.now in self.new ≡ letters_of p.left.now p.middle.now p.right.now }
+    {
+        self.letters.clear();
+        append_digits(&mut self.letters, parts.left);
+        append_digits(&mut self.letters, parts.middle);
+        append_digits(&mut self.letters, parts.right);
+        self.left = parts.left.len();
+        self.middle = parts.middle.len();
     }
 }
 
-/// Replaces the items of a list that has capacity for these letters.
-fn set(list: &mut Vec<u8>, letters: &[u8])
-    requires { length letters.now ≤ vec_capacity list.old }
-    ensures letters { list.new.items ≡ letters.now }
+/// Appends these letters to a list that has capacity for them.
+fn append(list: &mut Vec<u8>, letters: &[u8])
+    requires { vec_len list.old + length letters.now ≤ vec_capacity list.old }
+    ensures letters { list.new.items ≡ list.old.items ++ letters.now }
     ensures capacity { vec_capacity list.old ≤ vec_capacity list.new }
 {
-    list.clear();
     match list.extend_from_slice(letters) {
         Ok(()) => (),
         Err(_) => unreachable!(),
     }
 }
 
-/// Replaces the items of a list that has capacity for them by the letters of these hexadecimal digits.
-fn set_digits(list: &mut Vec<u8>, digits: &[u8])
-    requires { length digits.now ≤ vec_capacity list.old }
-    ensures letters { list.new.items ≡ map letter_at digits.now }
+/// Appends the letters of these hexadecimal digits to a list that has capacity for them.
+fn append_digits(list: &mut Vec<u8>, digits: &[u8])
+    requires { vec_len list.old + length digits.now ≤ vec_capacity list.old }
+    ensures letters { list.new.items ≡ list.old.items ++ map letter_at digits.now }
     ensures capacity { vec_capacity list.old ≤ vec_capacity list.new }
 {
-    list.clear();
     for byte in digits {
         list.push_reserved(letter(*byte).unwrap_or(0));
     }

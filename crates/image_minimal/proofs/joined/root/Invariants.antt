@@ -1,9 +1,9 @@
-use Rattle.image_minimal.proofs.Common.{◌≡◌, IsOnWay, vec_capacity}
+use Rattle.image_minimal.proofs.Common.{IsOnWay}
 use Rattle.image_minimal.proofs.joined.root.Given as goal
 
 -- the number has led so far
-abbrev pub invariant-loop-at : goal.invariant-loop-at
-invariant-loop-at l = record { way : IsOnWay l.fn.parents.items l.parents.items l.number l.at; capacity : vec_capacity l.parents ≡ vec_capacity l.fn.parents }
+abbrev pub invariant-loop-parents : goal.invariant-loop-parents
+invariant-loop-parents l = IsOnWay l.initial.parents l.parents l.number l.at
 
-abbrev pub decreases-loop-at : goal.decreases-loop-at
-decreases-loop-at l = l.at
+abbrev pub decreases-loop-parents : goal.decreases-loop-parents
+decreases-loop-parents l = l.at

@@ -1,6 +1,7 @@
-use Rattle.image_minimal.proofs.Common.{◌≡◌, ℕ, ◌+◌, ◌*◌, ◌^◌, [], ◌∷◌, ◌++◌, slice_index, nat_eq, Some, refl, sym, ap, ap₂, ◌∙◌, subst, arith, slice_get, mul-le-mul_right, suc-mul, range_with_len, slice_get_read, node_count, TreeSpells-some, mapped_at, Link, IsJoin, link_place, IsLinkSearch, SpellsLink, set_count, vec_capacity}
+use Rattle.image_minimal.proofs.Common.{◌≡◌, ℕ, ◌+◌, ◌*◌, ◌^◌, [], ◌∷◌, ◌++◌, slice_index, nat_eq, Some, refl, sym, ap, ap₂, ◌∙◌, subst, arith, slice_get, mul-le-mul_right, suc-mul, range_with_len, slice_get_read, node_count, TreeSpells-some, mapped_at, Link, IsJoin, link_place, IsLinkSearch, SpellsLink, set_count, vec_capacity, HasRows-tables, ◌<◌}
 use Rattle.image_minimal.proofs.laws.LinkWords.{link-below}
 use Rattle.image_minimal.proofs.laws.Separations.{HaveSameOrphans-closed, Separates-conflict}
+use Rattle.image_minimal.proofs.Joins.{IsFalling-numbers}
 use Rattle.image_minimal.proofs.LinkSearches.{IsLinkSearch-start, IsLinkSearchAt-there, IsLinkSearchAt-new, uneven, even}
 use Rattle.image_minimal.proofs.separation.search.Goals as goal
 use Rattle.image_minimal.proofs.separation.search.Goals.{After-index-link, then-join, else-join}
@@ -9,12 +10,12 @@ pub loop-place-init : goal.loop-place-init
 loop-place-init c =
     let r = c.args.first.now in
     let q = c.args.second.now in
-    let parents : c.reset.new.self ≡ range_with_len 0 (set_count r q) = c.reset.ensures ∙ ap₂ (λ (m n : ℕ). range_with_len 0 (m + n)) c.count-below.ensures.count c.count.ensures.count in
     let root : Link = record { first = c.full.result; second = c.full-2.result; parent = 0; letter = 0 } in
     let links : c.push_reserved.new.self.items ≡ root ∷ [] = c.push_reserved.ensures.items ∙ ap (λ l. l ++ root ∷ []) c.clear.ensures.items in
     let start = IsLinkSearch-start c.full.ensures.rule c.full-2.ensures.rule root c.full.ensures.set c.full-2.ensures.set in
     record {
-      search = rw (links, parents) (subst (IsLinkSearch r q (root ∷ []) (range_with_len 0 (set_count r q))) (omega arith) start);
+      search = rw (links, c.requires.classes) (subst (IsLinkSearch r q (root ∷ []) (range_with_len 0 (set_count r q))) (omega arith) start);
+      falling = rw c.requires.classes (IsFalling-numbers (set_count r q));
       capacity = c.push_reserved.ensures.capacity ∙ c.clear.ensures.capacity;
     }
 
@@ -22,23 +23,30 @@ loop-place-init c =
 here : (c : After-index-link) → slice_get c.loop-place.links.items c.loop-place.place ≡ Some c.index-link.result.now
 here c = slice_get_read c.loop-place.links.items _ c.loop-place.place c.index-link.result.now refl (omega arith) c.index-link.ensures
 
+-- the two sets of the link at the place
+below : (c : After-index-link) → (c.index-link.result.now.first < 2 ^ node_count c.args.first.now) × (c.index-link.result.now.second < 2 ^ node_count c.args.second.now)
+below c = link-below c.loop-place.invariant.search c.loop-place.place c.index-link.result.now (here c)
+
 pub steps-firsts-requires : goal.steps-firsts-requires
-steps-firsts-requires c = (link-below c.loop-place.invariant.search c.loop-place.place c.index-link.result.now (here (goal.at.steps-firsts-requires c).After-index-link)).0
+steps-firsts-requires c = HasRows-tables c.requires.first c.index-link.result.now.first (below (goal.at.steps-firsts-requires c).After-index-link).0
 
 pub steps-seconds-requires : goal.steps-seconds-requires
-steps-seconds-requires c = (link-below c.loop-place.invariant.search c.loop-place.place c.index-link.result.now (here (goal.at.steps-seconds-requires c).After-index-link)).1
+steps-seconds-requires c = HasRows-tables c.requires.second c.index-link.result.now.second (below (goal.at.steps-seconds-requires c).After-index-link).1
 
 pub loop-letter-init : goal.loop-letter-init
-loop-letter-init c = record {
-  search = record {
-    link = c.index-link.result.now;
-    here = here (goal.at.loop-letter-init c).After-index-link;
-    first = c.steps-firsts.ensures;
-    second = λ a letter. c.steps-seconds.ensures a (omega (arith, letter, c.requires.states));
-    search = subst (IsLinkSearch c.args.first.now c.args.second.now c.loop-place.links.items c.loop-place.joined) (omega arith) c.loop-place.invariant.search;
-  };
-  capacity = c.loop-place.invariant.capacity;
-}
+loop-letter-init c =
+    let inside = below (goal.at.loop-letter-init c).After-index-link in
+    record {
+      search = record {
+        link = c.index-link.result.now;
+        here = here (goal.at.loop-letter-init c).After-index-link;
+        first = λ a letter. c.steps-firsts.ensures c.args.first.now a c.requires.first inside.0 letter;
+        second = λ a letter. c.steps-seconds.ensures c.args.second.now a c.requires.second inside.1 (omega (arith, letter, c.requires.states));
+        search = subst (IsLinkSearch c.args.first.now c.args.second.now c.loop-place.links.items c.loop-place.parents) (omega arith) c.loop-place.invariant.search;
+      };
+      falling = c.loop-place.invariant.falling;
+      capacity = c.loop-place.invariant.capacity;
+    }
 
 pub write_word-requires-clause-earlier : goal.write_word-requires-clause-earlier
 write_word-requires-clause-earlier c i x positive at =
@@ -58,19 +66,21 @@ pub loop-letter-preserved : goal.loop-letter-preserved
 loop-letter-preserved c =
     let h = c.loop-letter.invariant.search in
     let letter = c.loop-letter.letter in
-    let old = c.loop-letter.joined in
-    let new = c.join.new.self in
+    let old = c.loop-letter.parents in
+    let new = c.join.new.parents in
     let s = slice_index c.steps-firsts.result letter in
     let t = slice_index c.steps-seconds.result letter in
-    let joins : IsJoin old new s (2 ^ node_count c.args.first.now + t) c.join.result = rw (c.from.ensures, c.from-in-loop-letter.ensures, c.count-below.ensures.count) at c.join.ensures in
+    let joins : IsJoin old new s (2 ^ node_count c.args.first.now + t) c.join.result = rw (c.from.ensures, c.from-in-loop-letter.ensures, c.count_sets-below.ensures.count) at c.join.ensures.join in
     elim c.if-join.branch [
       | then-join w ↦ record {
         search = rw (ap (λ v. v.items) w.links-is ∙ w.push_reserved-then-join.ensures.items)
             (IsLinkSearchAt-new h (omega arith) (even (nat_eq s 0) (nat_eq t 0) c.if-s-t.false) (subst (IsJoin old new s (2 ^ node_count c.args.first.now + t)) w.if-join.true joins));
+        falling = c.join.ensures.falling;
         capacity = ap vec_capacity w.links-is ∙ w.push_reserved-then-join.ensures.capacity ∙ c.loop-letter.invariant.capacity;
       }
       | else-join w ↦ record {
         search = rw (ap (λ v. v.items) w.links-is) (IsLinkSearchAt-there h (omega arith) (subst (IsJoin old new s (2 ^ node_count c.args.first.now + t)) w.if-join.false joins));
+        falling = c.join.ensures.falling;
         capacity = ap vec_capacity w.links-is ∙ c.loop-letter.invariant.capacity;
       }
     ]
@@ -79,7 +89,7 @@ pub loop-place-preserved : goal.loop-place-preserved
 loop-place-preserved c =
     let k = c.args.first.now.states in
     let all : c.loop-place.place * k + c.loop-letter.letter ≡ (c.loop-place.place + 1) * k = omega (arith, suc-mul c.loop-place.place k) in
-    record { search = subst (IsLinkSearch c.args.first.now c.args.second.now c.loop-letter.links.items c.loop-letter.joined) all c.loop-letter.invariant.search.search; capacity = c.loop-letter.invariant.capacity }
+    record { search = subst (IsLinkSearch c.args.first.now c.args.second.now c.loop-letter.links.items c.loop-letter.parents) all c.loop-letter.invariant.search.search; falling = c.loop-letter.invariant.falling; capacity = c.loop-letter.invariant.capacity }
 
 pub returns-clause-none : goal.returns-clause-none
 returns-clause-none c = λ _. HaveSameOrphans-closed c.full.ensures.rule c.full-2.ensures.rule c.requires.states c.loop-place.invariant.search (mul-le-mul_right c.args.first.now.states (omega arith))

@@ -7,7 +7,7 @@ use Rattle.least_walk.proofs.tree.WalkTree.len.Goals as goal
 
 pub returns-clause-len : goal.returns-clause-len
 returns-clause-len c =
-    c.len.ensures.len ∙ sym (length-map c.self.inside.queue (λ (x : Reached). x.pair)) ∙ ap (λ s. length s.reached) c.self.view_is
+    c.len.ensures.len ∙ sym (length-map c.self.inside.queue.now (λ (x : Reached). x.pair)) ∙ ap (λ s. length s.reached) c.self.view_is
 
 pub returns-clause-below : goal.returns-clause-below
 returns-clause-below c = subst (λ s. All (λ t. t < 2 * pair_count s.source.rule) s.reached) c.self.view_is (All-pairs c.self.invariant)

@@ -6,9 +6,9 @@ use Rattle.least_walk.specs.Trees.{pairs_of}
 use Rattle.least_walk.proofs.tree.WalkTree.pair.Goals as goal
 
 pub at-requires : goal.at-requires
-at-requires c = omega (arith, c.requires, ap (λ s. length s.reached) c.self.view_is, length-map c.self.inside.queue (λ (x : Reached). x.pair))
+at-requires c = omega (arith, c.requires, ap (λ s. length s.reached) c.self.view_is, length-map c.self.inside.queue.now (λ (x : Reached). x.pair))
 
 pub returns : goal.returns
 returns c =
     sym (subst (λ s. slice_index s.reached c.args.place ≡ c.at.result.pair) c.self.view_is
-    (get_or_from_slice_get (pairs_of c.self.inside.queue) c.args.place c.at.result.pair 0 (mapped_at (λ (x : Reached). x.pair) c.self.inside.queue c.args.place c.at.result c.at.ensures)))
+    (get_or_from_slice_get (pairs_of c.self.inside.queue.now) c.args.place c.at.result.pair 0 (mapped_at (λ (x : Reached). x.pair) c.self.inside.queue.now c.args.place c.at.result c.at.ensures)))

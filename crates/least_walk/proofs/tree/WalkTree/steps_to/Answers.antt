@@ -19,13 +19,13 @@ returns-in_err-place-clause-all c =
 pub at-requires : goal.at-requires
 at-requires c =
     let (x, at, same) = c.in_ok-place.ensures.found in
-    rw c.from.ensures (slice_get_within c.self.inside.queue c.in_ok-place.place x (sym (ap (λ q. slice_get q c.in_ok-place.place) c.as_slice.ensures.items) ∙ at))
+    rw c.from.ensures (slice_get_within c.self.inside.queue.now c.in_ok-place.place x (sym (ap (λ q. slice_get q c.in_ok-place.place) c.as_slice.ensures.items) ∙ at))
 
 pub returns-clause-steps : goal.returns-clause-steps
 returns-clause-steps c =
     let (x, at, same) = c.in_ok-place.ensures.found in
-    let found : slice_get c.self.inside.queue c.from.result ≡ Some x = ap₂ slice_get (sym c.as_slice.ensures.items) c.from.ensures ∙ at in
-    let pair : c.at.result.pair ≡ c.args.to = ap (λ y. y.pair) (slice_get-unique c.self.inside.queue c.from.result c.at.result x c.at.ensures found) ∙ same in
+    let found : slice_get c.self.inside.queue.now c.from.result ≡ Some x = ap₂ slice_get (sym c.as_slice.ensures.items) c.from.ensures ∙ at in
+    let pair : c.at.result.pair ≡ c.args.to = ap (λ y. y.pair) (slice_get-unique c.self.inside.queue.now c.from.result c.at.result x c.at.ensures found) ∙ same in
     subst (λ s. (w : List (ℕ × ℕ)) × IsLeastWalkTo (marked s.source.rule) s.source.rule.states s.source.start c.args.to w × (length w ≡ c.from-2.result)) c.self.view_is
     (subst₂ (λ t n. (w : List (ℕ × ℕ)) × IsLeastWalkTo (marked c.self.inside.rule) c.self.inside.rule.states c.self.inside.start t w × (length w ≡ n)) pair (sym c.from-2.ensures)
     (steps-place c.from.result c.self.invariant c.at.result c.at.ensures).0)
