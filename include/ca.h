@@ -355,7 +355,7 @@ static inline uint8_t ca_read_rule(const char *text, struct ca_rule *rule)
 uint32_t ca_version(void);
 
 /*
- * A room: memory of some 9 MB, which ca_run_in and ca_report_in use again and again. So a call over a room takes less time.
+ * A room: memory of some 16 MB, which ca_run_in and ca_report_in use again and again. So a call over a room takes less time.
  * ca_room_new makes a room, and ca_room_free drops it. No result depends on earlier calls over the room. A room serves one
  * call at a time, so make one for each thread. Don't read or write its fields, and don't copy it.
  *
@@ -419,8 +419,8 @@ uint8_t ca_run(const uint8_t *words, size_t words_length, const uint8_t *input, 
                uint8_t *output, size_t room, size_t *length);
 
 /*
- * Carries out a command as ca_run does, over a room. If the room is closed, it returns CA_CODE_NO_ROOM, *length is 0, and the
- * buffer doesn't change.
+ * Carries out a command as ca_run does, over a room. Only certify, brief, classes and check can return
+ * CA_CODE_MEMORY. If the room is closed, it returns CA_CODE_NO_ROOM, *length is 0, and the buffer doesn't change.
  */
 uint8_t ca_run_in(struct ca_room *room, const uint8_t *words, size_t words_length, const uint8_t *input,
                   size_t input_length, uint8_t *output, size_t output_room, size_t *length);

@@ -53,7 +53,7 @@ class RoomHandle(ctypes.Structure):
 
 
 class OpenRoom:
-    """A room of some 9 MB, which is open as long as this object is there. It serves one call at a time."""
+    """A room of some 16 MB, which is open as long as this object is there. It serves one call at a time."""
 
     def __init__(self, open_room: Callable[..., int], close: Callable[..., None]) -> None:
         self.handle = RoomHandle()

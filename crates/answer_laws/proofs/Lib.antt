@@ -9,4 +9,8 @@ pub mod Tables
 pub mod Inverses
 pub mod Findings
 pub mod Asked
+pub mod RightAnswers
+pub mod CheckAnswers
+pub mod OneStatus
+pub mod Certified
 pub mod Replies

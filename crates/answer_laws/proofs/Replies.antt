@@ -14,8 +14,8 @@ use Rattle.ca_cli.specs.Statuses.{reply_status}
 use Rattle.ca_cli.specs.RightAnswers.{IsReply, IsReplyTo, IsAnswer}
 use Rattle.ca_cli.specs.RightAnswers.IsReply.{Found, NoFit, RuleFault, Accepted, Refused, TooLong}
 use Rattle.ca_commands.proofs.laws.Asked.{IsAsked-unique, IsAsked-reads_nothing}
-use Rattle.ca_cli.proofs.laws.RightAnswers.{to_command}
-use Rattle.ca_cli.proofs.laws.OneStatus.{one_status_told, one_status_unread}
+use Rattle.answer_laws.proofs.RightAnswers.{to_command}
+use Rattle.answer_laws.proofs.OneStatus.{one_status_told, one_status_unread}
 use Rattle.answer_laws.proofs.Findings.{IsFinding-unique, IsUnfitFor-unique}
 use Rattle.answer_laws.proofs.Asked.{IsAsked-rules, IsOperandFault-unique}
 

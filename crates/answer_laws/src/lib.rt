@@ -1,7 +1,16 @@
-//! Laws that the words of a command line have at most one right reply. The words and the bytes that the source has left
-//! determine the reply as a value. So they also determine the status, and each byte of the text and of the JSON of the
-//! reply. A source *tells* its bytes if contracts can name the bytes that it has left (crate ca_io). This crate has no
-//! law that there is a reply: [`ca_cli::run`] gives one unless a read, a write or a request for memory fails.
+//! Laws that follow from the definition `IsAnswer` of ca_cli, which says which answers to the words of a command line are
+//! right. No code needs them.
+//!
+//! - [`one_status`], [`usage_exactly`], [`rule_fault_exactly`], [`right_exactly`] and [`done_or_not_fit`] say for all
+//!   commands which status and output are right.
+//! - [`check_exactly`] says it for the command `check`.
+//! - [`certified_is_accepted`] says that `check` accepts what `certify` writes.
+//! - [`one_reply`] and [`one_output`] say that the words have at most one right reply. The words and the bytes that the
+//!   source has left determine the reply as a value. So they also determine the status, and each byte of the text and of
+//!   the JSON of the reply.
+//!
+//! A source *tells* its bytes if contracts can name the bytes that it has left (crate ca_io). This crate has no law that
+//! there is a reply: [`ca_cli::run`] gives one unless a read, a write or a request for memory fails.
 //!
 //! A reply is a value (crate ca_questions): a *finding*, which answers the question of the words, a *cause* why the
 //! question has no answer, the fault of an operand, the result of judging a certificate, or that the words are no
@@ -14,12 +23,19 @@
 //! The functions of this crate do nothing. The contract of each function states a law.
 #![tactic(auto)]
 
+mod statuses;
+
 ghost use Rattle.std.specs.Prelude.{◌≡◌, ℕ, List, Option, Some};
 ghost use Rattle.ca_cli.specs.declared.status.Status.{Status};
 ghost use Rattle.ca_commands.specs.Commands.{Command, IsCommand};
 ghost use Rattle.ca_questions.specs.Replies.{Reply};
 ghost use Rattle.ca_cli.specs.Readings.{ReadsNothing};
 ghost use Rattle.ca_cli.specs.RightAnswers.{IsAnswer, IsReplyTo};
+
+pub use statuses::{
+    certified_is_accepted, check_exactly, done_or_not_fit, one_status, right_exactly,
+    rule_fault_exactly, usage_exactly,
+};
 
 /// Law: the same words and the same input have at most one right reply. If the words are no command, or a command that
 /// reads nothing, this holds for any source. For other words it holds if the source tells its bytes.

@@ -16,24 +16,19 @@ use ca_questions::{Cause, Found, Question, ShortList, Stop};
 use std::alloc::Global;
 
 /// Returns the answer to a question, or the reason why there is none: a cause, or lack of memory. The answer lends its
-/// long lists from the room. Only a certificate, an automaton and the number of classes need other memory.
+/// long lists from the room. Only a certificate and the number of classes need other memory.
 pub fn answer<'r>(alloc: Global, room: &'r mut Room, question: &Question) -> Result<Found<'r>, Stop>
     requires { IsWhole question.now }
     ensures { Answers (question_of question.now) result }
 {
-    let Room {
-        reports,
-        separations,
-        preimages,
-        tables,
-        walks,
-    } = room;
     match question {
-        Question::Report(rule, weights) => { settled(report(reports, rule, named(weights))) }
-        Question::Certify(version, rule, weights) => {
-            certificate(alloc, reports, *version, rule, named(weights))
+        Question::Report(rule, weights) => {
+            settled(report(&mut room.reports, rule, named(weights)))
         }
-        Question::Orphan(rule) => Ok(orphan(reports, rule)),
+        Question::Certify(version, rule, weights) => {
+            certificate(alloc, &mut room.reports, *version, rule, named(weights))
+        }
+        Question::Orphan(rule) => Ok(orphan(&mut room.reports, rule)),
         Question::Number(rule) => Ok(number(rule)),
         Question::Reflect(rule) => Ok(reflect(rule)),
         Question::Trim(rule) => Ok(trim(rule)),
@@ -44,11 +39,11 @@ pub fn answer<'r>(alloc: Global, room: &'r mut Room, question: &Question) -> Res
         Question::Least(rule) => settled(least(rule)),
         Question::Lift(rule) => settled(lift(rule)),
         Question::Unlift(rule) => settled(unlift(rule)),
-        Question::Inverse(rule) => settled(inverse(reports, tables, rule)),
-        Question::Language(rule) => language(alloc, rule),
-        Question::Same(first, second) => settled(same(separations, first, second)),
-        Question::Erase(rule) => Ok(erase(walks, rule)),
-        Question::Preimage(rule, tail) => Ok(preimage(preimages, rule, tail)),
+        Question::Inverse(rule) => settled(inverse(room, rule)),
+        Question::Language(rule) => Ok(language(room, rule)),
+        Question::Same(first, second) => settled(same(&mut room.separations, first, second)),
+        Question::Erase(rule) => Ok(erase(&mut room.walks, rule)),
+        Question::Preimage(rule, tail) => Ok(preimage(&mut room.preimages, rule, tail)),
         Question::Survey(rules) => Ok(survey(*rules)),
         Question::Sample(rules) => Ok(sample(*rules)),
         Question::Classes(rules) => Ok(classes(alloc, *rules)?),

@@ -6,36 +6,38 @@ ghost use Rattle.ca_questions.specs.Questions.{Question};
 ghost use Rattle.ca_questions.specs.Findings.{IsMapRule};
 ghost use Rattle.ca_questions.specs.Values.{Settles};
 
+use crate::room::{Numbers, Room};
 use ca_questions::{Cause, Found, Inverse};
 use inverse_table::{LentMap, NoMap, TableRoom};
 use inverse_window::WindowAt;
-use rule_verdicts::{ReportRoom, window_or_twins};
+use rule_verdicts::window_or_twins;
 use word_image::Rule;
 
 /// Returns the inverse map of a rule, which reads as few letters of an image as possible. Returns the cause if the rule
-/// isn't injective, or if its inverse reads too many letters. `tables` lends the map.
-pub fn inverse<'r>(
-    reports: &mut ReportRoom,
-    tables: &'r mut TableRoom,
-    rule: &Rule,
-) -> Result<Found<'r>, Cause>
+/// isn't injective, or if its inverse reads too many letters.
+pub fn inverse<'r>(room: &'r mut Room, rule: &Rule) -> Result<Found<'r>, Cause>
     ensures { Settles (Question.Inverse rule.now) result }
 {
-    match window_or_twins(reports, rule) {
-        Ok(at) => inverse_over(tables, rule, at),
+    match window_or_twins(&mut room.reports, rule) {
+        Ok(at) => inverse_over(&mut room.tables, &mut room.numbers, rule, at),
         Err(twins) => Err(Cause::Twins(twins)),
     }
 }
 
 /// Returns the inverse map of an injective rule. `at` is its least determined window (n, c): n letters of an image
 /// determine the letter at place c of each preimage. Returns the cause if the map reads too many letters.
-fn inverse_over<'r>(room: &'r mut TableRoom, rule: &Rule, at: WindowAt) -> Result<Found<'r>, Cause>
+fn inverse_over<'r>(
+    room: &'r mut TableRoom,
+    numbers: &mut Numbers,
+    rule: &Rule,
+    at: WindowAt,
+) -> Result<Found<'r>, Cause>
     requires injective { IsInjective rule.now }
     requires least { IsLeastDetermined rule.now at.n at.c }
     requires most { at.n ≤ 480 }
     ensures { Settles (Question.Inverse rule.now) result }
 {
-    match room.table(rule, at) {
+    match room.table(&mut numbers.list, rule, at) {
         Ok(map) => {
             let rule = map_rule(&map);
             Ok(Found::Inverse(Inverse {

@@ -1,53 +1,57 @@
 //! Answers to questions about the words that have a preimage.
-ghost use Rattle.std.specs.Prelude.{◌≤◌, IfOk, ◌≡◌};
+ghost use Rattle.std.specs.Prelude.{◌≡◌};
 ghost use Rattle.image_minimal.specs.ImageLanguages.{IsLeastAutomaton};
 ghost use Rattle.ca_questions.specs.Questions.{Question};
 ghost use Rattle.ca_questions.specs.Findings.{IsFinding};
-ghost use Rattle.ca_questions.specs.Values.{Answers, Settles, automaton_of, finding_of};
+ghost use Rattle.ca_questions.specs.Values.{Settles, automaton_of, finding_of};
 ghost use Rattle.ca_answering.specs.OneClass as one;
 
-use ca_questions::{Automaton, Cause, Found, Stop};
+use crate::room::{Numbers, Room};
+use ca_questions::{Automaton, Cause, Found};
 use debruijn::Graph;
 use eden_law::{is_surjective, least_erasable};
 use image_minimal::{Minimal, SeparationRoom};
 use least_walk::Queue;
 use short_words::LentWord;
-use std::alloc::{AllocError, Global};
 use word_image::Rule;
 
 /// Returns the answer with the least automaton of the words that have a preimage.
-pub fn language(alloc: Global, rule: &Rule) -> Result<Found<'static>, Stop>
-    ensures { Answers (Question.Language rule.now) result }
+pub fn language<'r>(room: &'r mut Room, rule: &Rule) -> Found<'r>
+    ensures { IsFinding (Question.Language rule.now) (finding_of result) }
 {
     if is_surjective(&Graph::of(rule)) {
-        return Ok(Found::Language(one_class(alloc, rule.k())?));
+        return Found::Language(one_class(&mut room.numbers, rule.k()));
     }
-    let minimal = image_minimal::least(alloc, rule)?;
-    Ok(Found::Language(automaton(alloc, &minimal)?))
+    room.minimal.set_rule(rule);
+    Found::Language(automaton(&room.minimal, &mut room.numbers))
 }
 
 /// Returns the automaton of a surjective rule of k states. It has one class, since each word has a preimage.
-fn one_class(alloc: Global, k: u8) -> Result<Automaton, AllocError>
-    ensures { IfOk result (λ m. automaton_of m ≡ one.one_class k) }
+fn one_class(numbers: &mut Numbers, k: u8) -> Automaton<'_>
+    ensures { automaton_of result ≡ one.one_class k }
 {
-    Ok(Automaton {
+    numbers.list.clear();
+    numbers.list.resize(usize::from(k), 0).unwrap();
+    Automaton {
         states: k,
         classes: 1,
-        next: vec![in alloc; 0; usize::from(k)]?,
+        next: &numbers.list,
         dead: None,
-    })
+    }
 }
 
 /// Returns the least automaton in the form that answers have, with the next classes of each class.
-fn automaton(alloc: Global, minimal: &Minimal) -> Result<Automaton, AllocError>
-    ensures { IfOk result (λ m. IsLeastAutomaton minimal.now (automaton_of m)) }
+fn automaton<'r>(minimal: &Minimal, numbers: &'r mut Numbers) -> Automaton<'r>
+    ensures { IsLeastAutomaton minimal.now (automaton_of result) }
 {
-    Ok(Automaton {
-        states: minimal.k(),
-        classes: minimal.len(),
-        next: minimal.rows(alloc)?,
+    let (states, classes) = (minimal.k(), minimal.len());
+    minimal.write_rows(&mut numbers.list);
+    Automaton {
+        states,
+        classes,
+        next: &numbers.list,
         dead: minimal.dead(),
-    })
+    }
 }
 
 /// Returns the least word that is an orphan of exactly one of the two rules, or an answer without a word if they have

@@ -30,8 +30,8 @@
 //! 1969).
 //!
 //! The functions that decide are in other crates. Each function here takes the time and the memory of the function
-//! that it calls. An answer lends its long lists, such as an orphan, from a [`Room`]. Then only the splits of
-//! a report, a certificate, an automaton and the classes of many rules need other memory.
+//! that it calls. An answer lends its long lists, such as an orphan, from a [`Room`]. Then only a certificate
+//! and the classes of many rules need other memory.
 #![tactic(auto)]
 
 mod algebra;

@@ -1,13 +1,14 @@
 //! The type `Room`: the memory in which answers to questions find their long lists.
 
-use image_minimal::SeparationRoom;
-use inverse_table::TableRoom;
+use image_minimal::{Minimal, SeparationRoom};
+use inverse_table::{MOST_IMAGES, TableRoom};
 use least_walk::Queue;
 use rule_verdicts::ReportRoom;
 use std::alloc::{AllocError, Global};
+use std::marker::Model;
 use tail_preimage::PreimageRoom;
 
-/// The memory in which answers find their long lists, some 8 MB. It is allocated once, and serves one answer after
+/// The memory in which answers find their long lists, some 9 MB. It is allocated once, and serves one answer after
 /// another. No answer depends on an earlier one.
 #[derive(Drop)]
 pub struct Room {
@@ -21,6 +22,27 @@ pub struct Room {
     pub(crate) tables: TableRoom,
     /// For the least erasable pair.
     pub(crate) walks: Queue,
+    /// For the least automaton of a rule.
+    pub(crate) minimal: Minimal,
+    /// For the next classes of an automaton, and for numbers while an inverse map is computed.
+    pub(crate) numbers: Numbers,
+}
+
+/// A list with capacity for 2^20 numbers. Contracts say nothing about the numbers.
+#[derive(Drop)]
+pub(crate) struct Numbers {
+    pub(crate) list: Vec<u16>,
+}
+
+impl Model for Numbers {
+    ghost use Rattle.std.specs.Prelude.{⊤, ◌≤◌, vec_capacity};
+    ghost use Rattle.inverse_table.specs.declared.image_values.TheConstants.{MOST_IMAGES};
+
+    ghost Value = { ⊤ };
+
+    ghost view = { λ n. tt };
+
+    ghost invariant = { λ n. MOST_IMAGES ≤ vec_capacity n.list };
 }
 
 impl Room {
@@ -32,6 +54,10 @@ impl Room {
             preimages: PreimageRoom::new(alloc)?,
             tables: TableRoom::new(alloc)?,
             walks: Queue::new(alloc)?,
+            minimal: Minimal::new(alloc)?,
+            numbers: Numbers {
+                list: Vec::with_capacity(alloc, MOST_IMAGES)?,
+            },
         })
     }
 }

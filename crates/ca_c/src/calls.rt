@@ -1,19 +1,15 @@
 //! Runs a command over bytes in memory. The words of the command line are in one block, each followed by a 0 byte.
-ghost use Rattle.std.specs.Prelude.{◌≡◌, ◌≢◌, ℕ, List, ◌++◌, ◌↔◌, ◌≤◌, length, drop, IfOk, IsTrue, IsFalse};
-ghost use Rattle.ca_questions.specs.Values.{reply_of};
-ghost use Rattle.ca_questions.specs.Writable.{IsWritableReply};
-ghost use Rattle.ca_c.specs.Blocks.{AreWords};
-ghost use Rattle.ca_c.specs.Calls.{IsAnswerIn, IsHandedBack, bytes_in};
+ghost use Rattle.std.specs.Prelude.{◌≡◌, ◌≢◌, ◌++◌, ◌↔◌, ◌≤◌, Err, Some, length, drop, map, IfOk, IsTrue, IsFalse};
+ghost use Rattle.ca_commands.specs.Asking.{NeedMemory};
+ghost use Rattle.ca_json.specs.Replies.{json_text};
+ghost use Rattle.ca_c.specs.Calls.{IsAnswerBy, IsHandedBack, MayLackMemory, bytes_in};
 
-use crate::blocks::words;
+use crate::blocks::FirstWords;
 use crate::sources::SliceSource;
-use ca_answering::Room;
-use ca_cli::{Status, reply, right_replies_are_writable};
+use ca_cli::{Room, Status, answer_to, reply, right_replies_are_writable};
+use ca_io::InputFault;
 use ca_json::reply_json;
-use ca_questions::Reply;
-use ca_text::{Output, reply_text};
 use std::alloc::{AllocError, Global};
-use tail_config::TailRoom;
 
 /// The code if a word of the block isn't UTF-8, or if the last word has no 0 byte after it.
 pub const NO_WORDS: u8 = 9;
@@ -30,75 +26,38 @@ pub enum Form {
     Json,
 }
 
-/// Why a call has no reply.
-#[derive(Clone, Copy, Debug, PartialEq, Eq)]
-pub enum CallFault {
-    /// A word of the block isn't UTF-8, or the last word has no 0 byte after it.
-    NoWords,
-    /// There is not enough memory.
-    Memory,
-}
-
-impl From<AllocError> for CallFault {
-    ghost use Rattle.std.specs.Prelude.{◌≡◌};
-    ghost use Rattle.ca_c.specs.declared.calls.CallFault.TheVariants as fault;
-
-    ghost from_gives = { λ _ e. e ≡ fault.Memory };
-
-    fn from(_: AllocError) -> CallFault {
-        CallFault::Memory
-    }
-}
-
-/// The reply to words, as printed lines or as JSON, with its status.
-#[derive(Drop)]
-pub struct FormedReply {
-    /// The status of the reply.
-    pub status: Status,
-    /// The bytes of the whole reply, as printed lines or as JSON.
-    pub output: Output,
-}
-
-/// Runs the command in a block of words over an input, and returns its reply in this form. Fails only if the block
-/// isn't a list of words or if memory runs out, since bytes in memory can always be read.
-pub fn call(alloc: Global, form: Form, block: &[u8], input: &[u8]) -> Result<FormedReply, CallFault>
-    ensures answer { IfOk result (λ answer. IsAnswerIn (bytes_in form) block.now input.now answer.status answer.output) }
-    ensures none { result ≡ Err CallFault.NoWords → (words : List (List ℕ)) → ¬ AreWords block.now words }
-{
-    let words = words(alloc, block)?;
-    let mut tails = TailRoom::new(alloc)?;
-    let mut room = Room::new(alloc)?;
-    let mut source = SliceSource::new(input);
-    let Ok(reply) = reply(alloc, &mut tails, &mut room, &words, &mut source) else {
-        return Err(CallFault::Memory);
-    };
-    right_replies_are_writable();
-    let output = output_in(alloc, form, &reply)?;
-    Ok(FormedReply {
-        status: Status::of(&reply),
-        output,
-    })
-}
-
-/// Returns the bytes of a reply in this form.
-fn output_in(alloc: Global, form: Form, reply: &Reply) -> Result<Output, AllocError>
-    requires { IsWritableReply (reply_of reply.now) }
-    ensures { IfOk result (λ output. output ≡ bytes_in form (reply_of reply.now)) }
-{
-    match form {
-        Form::Text => reply_text(alloc, reply),
-        Form::Json => {
-            let json = reply_json(alloc, reply)?;
-            let mut output = Output::new(alloc)?;
-            output.push(json.as_bytes())?;
-            Ok(output)
-        }
-    }
-}
-
-/// Runs the command in a block of words over an input, and returns its code. Writes the length of the reply to
-/// `output_length`. If the buffer `output` has room for the reply, writes the reply to its beginning.
+/// Runs the command in a block of words over an input with the memory of a room, and returns its code. Writes the length
+/// of the reply to `output_length`. If the buffer `output` has room for the reply, writes the reply to its beginning.
 pub fn hand_back(
+    form: Form,
+    room: &mut Room,
+    words: &[u8],
+    input: &[u8],
+    output: &mut [u8],
+    output_length: &mut usize,
+) -> u8
+    ensures handed_back { IsHandedBack (bytes_in form) words.now input.now output.old result output_length.new output.new }
+    ensures no_fault { (result ≢ 6) × (result ≢ 7) }
+    ensures memory { result ≡ 8 → form ≡ Form.Text → MayLackMemory words.now }
+{
+    *output_length = 0;
+    let Some(words) = FirstWords::of(words) else {
+        return NO_WORDS;
+    };
+    let Ok(status) = answer_in(form, room, words.as_slice(), input) else {
+        return Status::Memory.code();
+    };
+    let bytes = room.output.as_slice();
+    *output_length = bytes.len();
+    if put(bytes, output) {
+        status.code()
+    } else {
+        SHORT
+    }
+}
+
+/// Does what [`hand_back`] does, over a room for this call only.
+pub fn hand_back_once(
     alloc: Global,
     form: Form,
     words: &[u8],
@@ -109,24 +68,57 @@ pub fn hand_back(
     ensures handed_back { IsHandedBack (bytes_in form) words.now input.now output.old result output_length.new output.new }
     ensures no_fault { (result ≢ 6) × (result ≢ 7) }
 {
-    match call(alloc, form, words, input) {
-        Ok(answer) => {
-            let bytes = answer.output.as_slice();
-            *output_length = bytes.len();
-            if put(bytes, output) {
-                answer.status.code()
-            } else {
-                SHORT
-            }
-        }
-        Err(fault) => {
-            *output_length = 0;
-            match fault {
-                CallFault::NoWords => NO_WORDS,
-                CallFault::Memory => Status::Memory.code(),
-            }
-        }
+    let Ok(mut room) = Room::new(alloc) else {
+        *output_length = 0;
+        return Status::Memory.code();
+    };
+    hand_back(form, &mut room, words, input, output, output_length)
+}
+
+/// Answers these words over an input in this form, writes the answer to the room's output, and returns its status. For
+/// printed lines, only `check` and the questions whose answers need other memory can lack it.
+fn answer_in(
+    form: Form,
+    room: &mut Room,
+    words: &[&str],
+    input: &[u8],
+) -> Result<Status, AllocError>
+    ensures answer { IfOk result (λ status. IsAnswerBy (bytes_in form) (map (λ word. word.now) words.now) input.now status room.new.output) }
+    ensures memory { (e : AllocError) → result ≡ Err e → form ≡ Form.Text → NeedMemory (map (λ word. word.now) words.now) }
+{
+    let mut source = SliceSource::new(input);
+    match form {
+        Form::Text => match answer_to(room, words, &mut source) {
+            Ok(status) => Ok(status),
+            Err(InputFault::Memory(fault)) => Err(fault),
+            Err(InputFault::Failed) => Err(AllocError),
+        },
+        Form::Json => json_answer(room, words, &mut source),
     }
+}
+
+/// Answers these words in JSON, writes the answer to the room's output, and returns its status.
+fn json_answer(
+    room: &mut Room,
+    words: &[&str],
+    source: &mut SliceSource,
+) -> Result<Status, AllocError>
+    ensures { IfOk result (λ status. IsAnswerBy json_text (map (λ word. word.now) words.now) source.old.rest.now status room.new.output) }
+{
+    let Ok(reply) = reply(
+        room.alloc,
+        &mut room.tails,
+        &mut room.answers,
+        words,
+        source,
+    ) else {
+        return Err(AllocError);
+    };
+    right_replies_are_writable();
+    let json = reply_json(room.alloc, &reply)?;
+    room.output.clear();
+    room.output.push(json.as_bytes())?;
+    Ok(Status::of(&reply))
 }
 
 /// Writes bytes to the beginning of a buffer, and returns whether the buffer has room for all of them. If it doesn't,

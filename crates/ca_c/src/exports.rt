@@ -17,7 +17,7 @@ ghost use Rattle.c_structs.specs.Images.{IsImageCall};
 ghost use Rattle.c_structs.specs.Reports.{IsReportCall, named_weights, rule_with};
 ghost use Rattle.tail_config.specs.TailValues.{config_of};
 
-use crate::calls::{Form, SHORT, hand_back, put};
+use crate::calls::{Form, SHORT, hand_back_once, put};
 use crate::room_exports::report_over;
 use c_structs::{
     RowRoom, RuleReport, RuleVerdicts, TailParts, fault_number, joined, letters_of, next_rule,
@@ -84,7 +84,7 @@ pub extern "C" fn ca_run(
     ensures handed_back { IsHandedBack reply_text words.now input.now output.old result output_length.new output.new }
     ensures no_fault { (result ≢ 6) × (result ≢ 7) }
 {
-    hand_back(alloc, Form::Text, words, input, output, output_length)
+    hand_back_once(alloc, Form::Text, words, input, output, output_length)
 }
 
 /// Runs the command as [`ca_run`] does, but writes the whole reply as one JSON object. A refused certificate and an
@@ -100,7 +100,7 @@ pub extern "C" fn ca_run_json(
     ensures handed_back { IsHandedBack json_text words.now input.now output.old result output_length.new output.new }
     ensures no_fault { (result ≢ 6) × (result ≢ 7) }
 {
-    hand_back(alloc, Form::Json, words, input, output, output_length)
+    hand_back_once(alloc, Form::Json, words, input, output, output_length)
 }
 
 /// Returns the verdicts on the rule with these states, this width, offset 0 and this table. If there is no such rule,
@@ -204,6 +204,7 @@ pub extern "C" fn ca_verdict_bytes(
     ensures done { result ≡ 0 → AreVerdictBytes states width (first_high * 2 ^ 64 + first_low) bytes.new }
     ensures fault { 1 ≤ length bytes.old → result ≡ number_code (numbers_fault states width (first_high * 2 ^ 64 + first_low) (length bytes.old)) }
     ensures kept { 0 < result → bytes.new ≡ bytes.old }
+    ensures none { length bytes.old ≡ 0 → result ≡ 0 }
 {
     if bytes.is_empty() {
         return 0;

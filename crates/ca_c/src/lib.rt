@@ -36,13 +36,12 @@
 //! the time and the memory of `ca_cli::reply` and **O(n)** more of both. [`ca_run_json`] takes as much memory, and
 //! **O(n log n)** more time than `ca_cli::reply`. For n letters, [`ca_report`] takes the time and the memory of
 //! `ca_answering::report` and **O(n)** more of both. A call over a room takes less memory, since the room has the memory
-//! for long lists. All other calls take no memory, except that [`ca_room_open`] takes the memory of a room, some 9 MB.
+//! for long lists. All other calls take no memory, except that [`ca_room_open`] takes the memory of a room, some 16 MB.
 #![tactic(auto)]
 
 mod blocks;
 mod calls;
 mod exports;
-mod room_calls;
 mod room_exports;
 mod sources;
 

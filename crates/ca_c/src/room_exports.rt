@@ -2,11 +2,10 @@
 ghost use Rattle.std.specs.Prelude.{◌≡◌, ◌≢◌, true, false};
 ghost use Rattle.ca_text.specs.Replies.{reply_text};
 ghost use Rattle.c_structs.specs.Reports.{IsReportCall, named_weights, rule_with};
-ghost use Rattle.ca_c.specs.Calls.{IsHandedBack};
+ghost use Rattle.ca_c.specs.Calls.{IsHandedBack, MayLackMemory};
 
-use crate::calls::{SHORT, put};
+use crate::calls::{Form, SHORT, hand_back, put};
 use crate::exports::{FOUND, MEMORY};
-use crate::room_calls::hand_back_over;
 use c_structs::{RowRoom, RuleReport};
 use room_handles::{CallRoom, RoomHandle};
 use std::alloc::Global;
@@ -14,7 +13,7 @@ use std::alloc::Global;
 /// The code if the handle of a call has no room.
 const NO_ROOM: u8 = 22;
 
-/// Takes the memory of a room, some 9 MB, and puts the room into the handle. Returns 0, or 8 if memory runs out. If the
+/// Takes the memory of a room, some 16 MB, and puts the room into the handle. Returns 0, or 8 if memory runs out. If the
 /// handle had a room, that room's memory is given back once the new room is there. With 8 the handle stays as it was.
 #[unsafe(no_mangle)]
 pub extern "C" fn ca_room_open(alloc: Global, handle: &mut RoomHandle) -> u8
@@ -38,8 +37,9 @@ pub extern "C" fn ca_room_close(alloc: Global, handle: &mut RoomHandle)
     drop(handle.take(alloc));
 }
 
-/// Runs the command as [`ca_run`](crate::ca_run) does, but with the memory of the handle's room. Returns 22 and the
-/// length 0 if the handle has no room. Then the buffer stays as it was.
+/// Runs the command as [`ca_run`](crate::ca_run) does, but with the memory of the handle's room. So it returns 8 only for
+/// `certify`, `brief`, `classes` and `check`. Returns 22 and the length 0 if the handle has no room. Then the buffer stays
+/// as it was.
 #[unsafe(no_mangle)]
 pub extern "C" fn ca_run_in(
     alloc: Global,
@@ -54,13 +54,21 @@ pub extern "C" fn ca_run_in(
     ensures closed { handle.old.is_open ≡ false →
         (result ≡ 22) × (output_length.new ≡ 0) × (output.new ≡ output.old) }
     ensures no_fault { (result ≢ 6) × (result ≢ 7) }
+    ensures memory { result ≡ 8 → MayLackMemory words.now }
     ensures kept { handle.new.is_open ≡ handle.old.is_open }
 {
     let Some(mut room) = handle.take(alloc) else {
         *output_length = 0;
         return NO_ROOM;
     };
-    let code = hand_back_over(alloc, &mut room, words, input, output, output_length);
+    let code = hand_back(
+        Form::Text,
+        &mut room.commands,
+        words,
+        input,
+        output,
+        output_length,
+    );
     handle.put(room);
     code
 }

@@ -13,25 +13,20 @@
 //!   no question: it reads the whole input from the source, or one byte more than the judge accepts, and passes it to
 //!   the judge. No other command reads the source.
 //! 3. [`reply`] returns the result as a value, for callers who want another form than the text.
-//! 4. The text of the reply is written into the memory of a [`Room`] as a whole.
+//! 4. [`answer_to`] writes the text of the reply into the memory of a [`Room`] as a whole.
 //! 5. The text goes to the sink. If a write fails, a sink that tells its bytes (crate ca_io) has taken a part of the
 //!   text, but not all of it.
 //!
 //! [`run`] makes a room for one call. [`run_in`] does the same over a room that can serve many calls. Then only
-//! `certify`, `brief`, `language`, `classes` and `check` can end for lack of memory.
+//! `certify`, `brief`, `classes` and `check` can end for lack of memory.
 //!
 //! The definition `IsAnswer` of specs/RightAnswers.antt says which status and which output are right for the words
-//! and for the bytes that the source has left. The contract of [`run`] is about this definition. These laws follow
-//! from the definition:
+//! and for the bytes that the source has left. The contract of [`run`] is about this definition. The laws of the crate
+//! answer_laws follow from it, and say for each command which status and output are right. Two laws are here, since the
+//! code needs them: [`right_replies_are_writable`] says that each right reply has a text, and [`right_replies_fit`] says
+//! for which words an output has room for it.
 //!
-//! - [`one_status`], [`usage_exactly`], [`rule_fault_exactly`], [`right_exactly`] and [`done_or_not_fit`] say for all
-//!   commands which status and output are right.
-//! - [`check_exactly`] says it for the command `check`.
-//! - [`certified_is_accepted`] says that `check` accepts what `certify` writes.
-//! - [`right_replies_are_writable`] says that each right reply has a text, and [`right_replies_fit`] says for which
-//!   words an output has room for it.
-//!
-//! By these laws:
+//! For example:
 //!
 //! | Words | Status | Code | Output |
 //! |---|---|---|---|
@@ -73,11 +68,9 @@ mod status;
 mod theorems;
 mod top_call;
 
+pub use answers::answer_to;
 pub use replies::reply;
 pub use room::Room;
 pub use status::Status;
-pub use theorems::{
-    certified_is_accepted, check_exactly, done_or_not_fit, one_status, right_exactly,
-    right_replies_are_writable, right_replies_fit, rule_fault_exactly, usage_exactly,
-};
+pub use theorems::{right_replies_are_writable, right_replies_fit};
 pub use top_call::{run, run_in};

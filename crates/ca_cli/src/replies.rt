@@ -1,5 +1,5 @@
 //! The function `reply`, which returns the reply to the words of a command line, as a value and not as text.
-ghost use Rattle.std.specs.Prelude.{◌≡◌, ℕ, List, Option, IfOk, MatchResult, map, string_bytes};
+ghost use Rattle.std.specs.Prelude.{◌≡◌, ℕ, List, Option, IfOk, MatchResult, map};
 ghost use Rattle.ca_commands.specs.Asking.{NeedMemory};
 ghost use Rattle.ca_commands.specs.Commands.{IsCommand, check_command};
 ghost use Rattle.ca_questions.specs.Values.{reply_of};
@@ -14,25 +14,27 @@ use ca_commands::{is_check, question};
 use ca_io::{InputFault, Source};
 use ca_questions::{Found, Reply, Stop};
 use std::alloc::{AllocError, Global};
+use std::convert::AsStr;
 use tail_config::TailRoom;
 
 /// Returns the reply to these words and to the bytes that the source has left, which only `check` reads. The reply lends
-/// its long lists from the room, and `tails` has memory for a configuration among the words. Returns an error if a read fails, or if there is no memory.
-pub fn reply<'r, S: Source>(
+/// its long lists from the room, and `tails` has memory for a configuration among the words. Returns an error if a read
+/// fails, or if there is no memory.
+pub fn reply<'r, W: AsStr, S: Source>(
     alloc: Global,
     tails: &mut TailRoom,
     room: &'r mut Room,
-    words: &[String],
+    words: &[W],
     source: &mut S,
 ) -> Result<Reply<'r>, InputFault>
     ensures reply { IfOk result (λ reply.
-        IsReplyTo (map string_bytes words.now) (S.left source.old) (reply_of reply)) }
+        IsReplyTo (map W.text words.now) (S.left source.old) (reply_of reply)) }
 
-    ensures unread { ¬ IsCommand (map string_bytes words.now) check_command → source.new ≡ source.old }
-    ensures read { IsCommand (map string_bytes words.now) check_command →
+    ensures unread { ¬ IsCommand (map W.text words.now) check_command → source.new ≡ source.old }
+    ensures read { IsCommand (map W.text words.now) check_command →
         IfOk result (λ reply. IsReadFor (reply_status (reply_of reply)) (S.left source.old) (S.left source.new)) }
-    ensures failed { result ≡ Err InputFault.Failed → IsCommand (map string_bytes words.now) check_command }
-    ensures memory { (e : AllocError) → result ≡ Err (InputFault.Memory e) → NeedMemory (map string_bytes words.now) }
+    ensures failed { result ≡ Err InputFault.Failed → IsCommand (map W.text words.now) check_command }
+    ensures memory { (e : AllocError) → result ≡ Err (InputFault.Memory e) → NeedMemory (map W.text words.now) }
     ensures reading { Reading (result ≡ Err InputFault.Failed)
         (S.left source.old) (S.left source.new) (S.faults source.old) (S.faults source.new) }
 {

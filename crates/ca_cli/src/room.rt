@@ -4,16 +4,17 @@ use ca_text::Output;
 use std::alloc::{AllocError, Global};
 use tail_config::TailRoom;
 
-/// The memory that calls of `run_in` use again and again, some 8 MB.
+/// The memory that calls of `run_in` use again and again, some 15 MB.
 #[derive(Drop)]
 pub struct Room {
-    pub(crate) alloc: Global,
+    /// For what an answer needs besides the room.
+    pub alloc: Global,
     /// For the configuration that the words describe.
-    pub(crate) tails: TailRoom,
+    pub tails: TailRoom,
     /// For the long lists of answers.
-    pub(crate) answers: ca_answering::Room,
+    pub answers: ca_answering::Room,
     /// For the text of a reply.
-    pub(crate) output: Output,
+    pub output: Output,
 }
 
 impl Room {

@@ -80,7 +80,7 @@ pub fn run<S: Source, T: Sink>(
 }
 
 /// Does what [`run`] does, but over a room, which may have served other calls before. Returns `Memory` only for the
-/// commands `certify`, `brief`, `language`, `classes` and `check`, if there is no memory for what they find. If an
+/// commands `certify`, `brief`, `classes` and `check`, if there is no memory for what they find. If an
 /// operand is refused, it never returns `Memory`.
 pub fn run_in<S: Source, T: Sink>(
     room: &mut Room,
@@ -118,14 +118,7 @@ pub fn run_in<S: Source, T: Sink>(
     ensures complete_read { S.faults source.new ≡ S.faults source.old → S.faults source.old ≢ 2 ^ 64 - 1 →
         result ≢ Status.ReadFault }
 {
-    match answer_to(
-        room.alloc,
-        &mut room.tails,
-        &mut room.answers,
-        &mut room.output,
-        words,
-        source,
-    ) {
+    match answer_to(room, words, source) {
         Ok(status) => match write_all(sink, room.output.as_slice()) {
             Ok(()) => status,
             Err(Failed) => Status::WriteFault,

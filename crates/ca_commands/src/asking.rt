@@ -1,6 +1,6 @@
 //! The function `question`, which reads the words of a command line into the question that they ask. It reads each
 //! operand once.
-ghost use Rattle.std.specs.Prelude.{◌≡◌, ◌≢◌, ◌∷◌, ◌↔◌, [], ℕ, IsTrue, List, length, map, string_bytes, MatchOption, MatchResult};
+ghost use Rattle.std.specs.Prelude.{◌≡◌, ◌≢◌, ◌∷◌, ◌↔◌, [], ℕ, IsTrue, List, length, map, MatchOption, MatchResult};
 ghost use Rattle.rule_text.specs.RuleTexts.{IsRuleText};
 ghost use Rattle.ca_commands.specs.declared.names.Name.TheVariants as names;
 ghost use Rattle.ca_commands.specs.Commands.{Form, IsCommand, check_command, form_of, rule_count, word_of};
@@ -13,12 +13,13 @@ use crate::short_lists::{colours, weights};
 use ca_questions::{Cause, Drawn, Numbered, Question, ShortList, Stop};
 use cert_values::CertVersion;
 use rule_text::{decimal_number, decimal_offset, is_decimal};
+use std::convert::AsStr;
 use tail_config::{TailRoom, TailTextFault, has_form};
 use word_image::Rule;
 
 /// Returns whether the words are the command `check`.
-pub fn is_check(words: &[String]) -> bool
-    ensures { IsTrue result ↔ IsCommand (map string_bytes words.now) check_command }
+pub fn is_check<W: AsStr>(words: &[W]) -> bool
+    ensures { IsTrue result ↔ IsCommand (map W.text words.now) check_command }
 {
     match one(words) {
         Some(word) => word == "check".as_bytes(),
@@ -29,14 +30,14 @@ pub fn is_check(words: &[String]) -> bool
 /// Returns the question that the words ask. The words must not be the command `check`. Returns `Usage` if they are no
 /// command, or else `RuleFault` for the first operand with a fault, or else `Unfit` if the parts of a configuration
 /// don't fit the rule. The room lends the configuration of a question.
-pub fn question<'w>(room: &'w mut TailRoom, words: &[String]) -> Result<Question<'w>, Stop>
-    requires { ¬ IsCommand (map string_bytes words.now) check_command }
-    ensures { MatchResult result (IsAskedBy (map string_bytes words.now)) (IsStop (map string_bytes words.now)) }
+pub fn question<'w, W: AsStr>(room: &'w mut TailRoom, words: &[W]) -> Result<Question<'w>, Stop>
+    requires { ¬ IsCommand (map W.text words.now) check_command }
+    ensures { MatchResult result (IsAskedBy (map W.text words.now)) (IsStop (map W.text words.now)) }
 {
     let Some((word, rest)) = words.split_first() else {
         return Err(Stop::Usage);
     };
-    match Name::named(word) {
+    match Name::named(word.as_str()) {
         Some(name) => named_question(room, name, rest),
         None => Err(Stop::Usage),
     }
@@ -44,13 +45,13 @@ pub fn question<'w>(room: &'w mut TailRoom, words: &[String]) -> Result<Question
 
 /// Returns the question that a command with this name and these further words asks, or the reason why it asks none.
 #[tactic(auto, using(crate::proofs::laws::Asking::asking))]
-fn named_question<'w>(
+fn named_question<'w, W: AsStr>(
     room: &'w mut TailRoom,
     name: Name,
-    rest: &[String],
+    rest: &[W],
 ) -> Result<Question<'w>, Stop>
     requires { name ≡ names.Check → rest.now ≢ [] }
-    ensures { MatchResult result (IsAskedBy (word_of name ∷ map string_bytes rest.now)) (IsStop (word_of name ∷ map string_bytes rest.now)) }
+    ensures { MatchResult result (IsAskedBy (word_of name ∷ map W.text rest.now)) (IsStop (word_of name ∷ map W.text rest.now)) }
 {
     match name {
         Name::Decide => {
@@ -95,12 +96,12 @@ fn named_question<'w>(
 }
 
 /// Reads the only word after a name as the text of a rule. Returns `Usage` if there isn't exactly one word.
-fn one_rule(name: Name, rest: &[String]) -> Result<Rule, Stop>
+fn one_rule<W: AsStr>(name: Name, rest: &[W]) -> Result<Rule, Stop>
     requires one { rule_count name ≡ 1 }
     requires none { form_of name ≡ Form.Nothing }
     ensures { MatchResult result
-        (λ r. IsCall (word_of name ∷ map string_bytes rest.now) name (r ∷ []) [])
-        (IsStop (word_of name ∷ map string_bytes rest.now)) }
+        (λ r. IsCall (word_of name ∷ map W.text rest.now) name (r ∷ []) [])
+        (IsStop (word_of name ∷ map W.text rest.now)) }
 {
     match one(rest) {
         Some(text) => rule_operand(1, text),
@@ -110,12 +111,12 @@ fn one_rule(name: Name, rest: &[String]) -> Result<Rule, Stop>
 
 /// Reads the two words after a name as the texts of two rules. If both texts have faults, returns the fault of the
 /// first one.
-fn two_rules(name: Name, rest: &[String]) -> Result<(Rule, Rule), Stop>
+fn two_rules<W: AsStr>(name: Name, rest: &[W]) -> Result<(Rule, Rule), Stop>
     requires two { rule_count name ≡ 2 }
     requires none { form_of name ≡ Form.Nothing }
     ensures { MatchResult result
-        (λ rules. IsCall (word_of name ∷ map string_bytes rest.now) name (rules.0 ∷ rules.1 ∷ []) [])
-        (IsStop (word_of name ∷ map string_bytes rest.now)) }
+        (λ rules. IsCall (word_of name ∷ map W.text rest.now) name (rules.0 ∷ rules.1 ∷ []) [])
+        (IsStop (word_of name ∷ map W.text rest.now)) }
 {
     let Some((first, second)) = two(rest) else {
         return Err(Stop::Usage);
@@ -126,12 +127,12 @@ fn two_rules(name: Name, rest: &[String]) -> Result<(Rule, Rule), Stop>
 }
 
 /// Reads the first word after a name as the text of a rule, and the second word, if there is one, as weights.
-fn rule_and_weights(name: Name, rest: &[String]) -> Result<(Rule, Option<ShortList>), Stop>
+fn rule_and_weights<W: AsStr>(name: Name, rest: &[W]) -> Result<(Rule, Option<ShortList>), Stop>
     requires one { rule_count name ≡ 1 }
     requires weights { form_of name ≡ Form.Weights }
     ensures { MatchResult result
-        (λ read. (operands : List (List ℕ)) × IsCall (word_of name ∷ map string_bytes rest.now) name (read.0 ∷ []) operands × (read.1 ≡ weights_in operands))
-        (IsStop (word_of name ∷ map string_bytes rest.now)) }
+        (λ read. (operands : List (List ℕ)) × IsCall (word_of name ∷ map W.text rest.now) name (read.0 ∷ []) operands × (read.1 ≡ weights_in operands))
+        (IsStop (word_of name ∷ map W.text rest.now)) }
 {
     if let Some(text) = one(rest) {
         return Ok((rule_operand(1, text)?, None));
@@ -147,8 +148,8 @@ fn rule_and_weights(name: Name, rest: &[String]) -> Result<(Rule, Option<ShortLi
 }
 
 /// Reads the words after `shift`: a rule R and a number N of cells.
-fn shift(rest: &[String]) -> Result<Question<'static>, Stop>
-    ensures { MatchResult result (IsAskedBy (word_of names.Shift ∷ map string_bytes rest.now)) (IsStop (word_of names.Shift ∷ map string_bytes rest.now)) }
+fn shift<W: AsStr>(rest: &[W]) -> Result<Question<'static>, Stop>
+    ensures { MatchResult result (IsAskedBy (word_of names.Shift ∷ map W.text rest.now)) (IsStop (word_of names.Shift ∷ map W.text rest.now)) }
 {
     let Some((text, by)) = two(rest) else {
         return Err(Stop::Usage);
@@ -161,8 +162,8 @@ fn shift(rest: &[String]) -> Result<Question<'static>, Stop>
 }
 
 /// Reads the words after `widen`: a rule R and a width M.
-fn widen(rest: &[String]) -> Result<Question<'static>, Stop>
-    ensures { MatchResult result (IsAskedBy (word_of names.Widen ∷ map string_bytes rest.now)) (IsStop (word_of names.Widen ∷ map string_bytes rest.now)) }
+fn widen<W: AsStr>(rest: &[W]) -> Result<Question<'static>, Stop>
+    ensures { MatchResult result (IsAskedBy (word_of names.Widen ∷ map W.text rest.now)) (IsStop (word_of names.Widen ∷ map W.text rest.now)) }
 {
     let Some((text, width)) = two(rest) else {
         return Err(Stop::Usage);
@@ -175,8 +176,8 @@ fn widen(rest: &[String]) -> Result<Question<'static>, Stop>
 }
 
 /// Reads the words after `permute`: a rule R, and a digit for the new name of each letter.
-fn permute(rest: &[String]) -> Result<Question<'static>, Stop>
-    ensures { MatchResult result (IsAskedBy (word_of names.Permute ∷ map string_bytes rest.now)) (IsStop (word_of names.Permute ∷ map string_bytes rest.now)) }
+fn permute<W: AsStr>(rest: &[W]) -> Result<Question<'static>, Stop>
+    ensures { MatchResult result (IsAskedBy (word_of names.Permute ∷ map W.text rest.now)) (IsStop (word_of names.Permute ∷ map W.text rest.now)) }
 {
     let Some((text, letters)) = two(rest) else {
         return Err(Stop::Usage);
@@ -189,8 +190,8 @@ fn permute(rest: &[String]) -> Result<Question<'static>, Stop>
 }
 
 /// Reads the words after `preimage`: a rule R and the text of a configuration with periodic tails.
-fn preimage<'w>(room: &'w mut TailRoom, rest: &[String]) -> Result<Question<'w>, Stop>
-    ensures { MatchResult result (IsAskedBy (word_of names.Preimage ∷ map string_bytes rest.now)) (IsStop (word_of names.Preimage ∷ map string_bytes rest.now)) }
+fn preimage<'w, W: AsStr>(room: &'w mut TailRoom, rest: &[W]) -> Result<Question<'w>, Stop>
+    ensures { MatchResult result (IsAskedBy (word_of names.Preimage ∷ map W.text rest.now)) (IsStop (word_of names.Preimage ∷ map W.text rest.now)) }
 {
     let Some((text, tail)) = two(rest) else {
         return Err(Stop::Usage);
@@ -209,10 +210,10 @@ fn preimage<'w>(room: &'w mut TailRoom, rest: &[String]) -> Result<Question<'w>,
 
 /// Reads the words of a command about rules with consecutive numbers: states, width, first number and count. Returns a
 /// fault of the states, of the width or of the last number as a fault of operand 1.
-fn numbered(rest: &[String]) -> Result<Numbered, Stop>
+fn numbered<W: AsStr>(rest: &[W]) -> Result<Numbered, Stop>
     ensures { (n : Name) → rule_count n ≡ 0 → form_of n ≡ Form.Numbers → MatchResult result
-        (AreNumberedBy n (map string_bytes rest.now))
-        (IsStop (word_of n ∷ map string_bytes rest.now)) }
+        (AreNumberedBy n (map W.text rest.now))
+        (IsStop (word_of n ∷ map W.text rest.now)) }
 {
     let Some((states, width, first, count)) = four(rest) else {
         return Err(Stop::Usage);
@@ -233,10 +234,10 @@ fn numbered(rest: &[String]) -> Result<Numbered, Stop>
 
 /// Reads the words after `sample`: states, width, seed and count. Returns a fault of the states or of the width as a
 /// fault of operand 1.
-fn drawn(rest: &[String]) -> Result<Drawn, Stop>
+fn drawn<W: AsStr>(rest: &[W]) -> Result<Drawn, Stop>
     ensures { MatchResult result
-        (AreDrawnBy (map string_bytes rest.now))
-        (IsStop (word_of names.Sample ∷ map string_bytes rest.now)) }
+        (AreDrawnBy (map W.text rest.now))
+        (IsStop (word_of names.Sample ∷ map W.text rest.now)) }
 {
     let Some((states, width, from, count)) = four(rest) else {
         return Err(Stop::Usage);
@@ -264,31 +265,36 @@ fn rule_operand(number: u8, text: &[u8]) -> Result<Rule, Stop>
 }
 
 /// Returns the word of the list if the list has exactly one word.
-fn one(words: &[String]) -> Option<&[u8]>
-    ensures { MatchOption result (length words.now ≢ 1) (λ text. map string_bytes words.now ≡ text.now ∷ []) }
+fn one<W: AsStr>(words: &[W]) -> Option<&[u8]>
+    ensures { MatchOption result (length words.now ≢ 1) (λ text. map W.text words.now ≡ text.now ∷ []) }
 {
     match words {
-        [text] => Some(text.as_bytes()),
+        [text] => Some(text.as_str().as_bytes()),
         _ => None,
     }
 }
 
 /// Returns the words of the list if the list has exactly two words.
-fn two(words: &[String]) -> Option<(&[u8], &[u8])>
-    ensures { MatchOption result (length words.now ≢ 2) (λ texts. map string_bytes words.now ≡ texts.0.now ∷ texts.1.now ∷ []) }
+fn two<W: AsStr>(words: &[W]) -> Option<(&[u8], &[u8])>
+    ensures { MatchOption result (length words.now ≢ 2) (λ texts. map W.text words.now ≡ texts.0.now ∷ texts.1.now ∷ []) }
 {
     match words {
-        [first, second] => Some((first.as_bytes(), second.as_bytes())),
+        [first, second] => Some((first.as_str().as_bytes(), second.as_str().as_bytes())),
         _ => None,
     }
 }
 
 /// Returns the words of the list if the list has exactly four words.
-fn four(words: &[String]) -> Option<(&[u8], &[u8], &[u8], &[u8])>
-    ensures { MatchOption result (length words.now ≢ 4) (λ texts. map string_bytes words.now ≡ texts.0.now ∷ texts.1.now ∷ texts.2.now ∷ texts.3.now ∷ []) }
+fn four<W: AsStr>(words: &[W]) -> Option<(&[u8], &[u8], &[u8], &[u8])>
+    ensures { MatchOption result (length words.now ≢ 4) (λ texts. map W.text words.now ≡ texts.0.now ∷ texts.1.now ∷ texts.2.now ∷ texts.3.now ∷ []) }
 {
     match words {
-        [a, b, c, d] => Some((a.as_bytes(), b.as_bytes(), c.as_bytes(), d.as_bytes())),
+        [a, b, c, d] => Some((
+            a.as_str().as_bytes(),
+            b.as_str().as_bytes(),
+            c.as_str().as_bytes(),
+            d.as_str().as_bytes(),
+        )),
         _ => None,
     }
 }

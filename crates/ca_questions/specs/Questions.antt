@@ -27,10 +27,9 @@ pub data Question : Type 0 where
   Summary : (rules : List LocalRule) → Question
   Classes : (rules : List LocalRule) → Question
 
--- the answer to the question may need memory besides a room: it has a certificate, an automaton or a number of classes
+-- the answer to the question may need memory besides a room: it has a certificate or a number of classes
 abbrev pub AnswerNeedsMemory : Question → Type 0
 AnswerNeedsMemory (Certify version r weights) = ⊤
-AnswerNeedsMemory (Language r) = ⊤
 AnswerNeedsMemory (Classes rules) = ⊤
 AnswerNeedsMemory _ = ⊥
 

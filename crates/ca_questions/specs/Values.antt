@@ -23,7 +23,7 @@ use Rattle.ca_questions.specs.Findings.{Finding, Unfit, IsFinding, IsUnfitFor}
 use Rattle.ca_questions.specs.Replies.{Reply}
 
 abbrev pub automaton_of : automaton.Automaton → languages.Automaton
-automaton_of m = record { states = m.states; classes = m.classes; next = m.next.items; dead = m.dead }
+automaton_of m = record { states = m.states; classes = m.classes; next = m.next.now; dead = m.dead }
 
 abbrev pub counts_of : counted.Counts → Counts
 counts_of t = record {

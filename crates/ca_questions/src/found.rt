@@ -28,7 +28,7 @@ pub enum Found<'r> {
     /// The inverse map of a rule.
     Inverse(Inverse<'r>),
     /// The least automaton of the words that have a preimage.
-    Language(Automaton),
+    Language(Automaton<'r>),
     /// The least word that is an orphan of exactly one of two rules, or None if there is none.
     Same(Option<LentWord<'r>>),
     /// The least erasable pair of a rule, or None if the rule is surjective. An erasable pair is two words that can
@@ -56,10 +56,10 @@ pub struct Inverse<'r> {
 /// class that follows class i on the letter a is at the place i k + a of `next`. `dead` is the class of the orphans, if
 /// there are any.
 #[derive(Drop)]
-pub struct Automaton {
+pub struct Automaton<'r> {
     pub states: u8,
     pub classes: u32,
-    pub next: Vec<u16>,
+    pub next: &'r [u16],
     pub dead: Option<u32>,
 }
 

@@ -1,13 +1,14 @@
 -- An output has room for a text from the start. This file says how long this text may be, and what it means that a text is
 -- appended to an output.
 use Rattle.std.specs.Prelude.{ℕ, ◌≡◌, ◌+◌, ◌≤◌, List, ◌++◌, length, Result, OnOk, IsOk, ⊤}
+use Rattle.word_image.specs.LocalRules.{most_sets}
 use Rattle.tail_preimage.specs.Lengths.{most_stretch}
 use Rattle.ca_questions.specs.Findings.{Finding, Unfit}
 use Rattle.ca_questions.specs.Replies.{Reply}
 
 -- the number of bytes for which an output has room when it is made
 abbrev pub most_text : ℕ
-most_text = 150000
+most_text = 6291600
 
 -- the text is appended to an output, and there is no error if both together fit its room
 abbrev pub IsAppended : {A E : Type 0} → Result A E → List ℕ → List ℕ → List ℕ → Type 0
@@ -17,10 +18,9 @@ IsAppended result old new text = OnOk result (new ≡ old ++ text) × (length ol
 abbrev pub AppendsAtMost : {A E : Type 0} → ℕ → Result A E → List ℕ → List ℕ → Type 0
 AppendsAtMost count result old new = length old + count ≤ most_text → IsOk result × (length new ≤ length old + count)
 
--- the finding is neither a certificate nor an automaton
+-- the finding isn't a certificate
 abbrev pub IsShortFinding : Finding → Type 0
 IsShortFinding (Finding.Written c) = ⊥
-IsShortFinding (Finding.Language m) = ⊥
 IsShortFinding _ = ⊤
 
 -- the reply is a short finding or no finding, and it isn't about a certificate
@@ -41,12 +41,12 @@ IsSmallReply (Reply.Accepted v) = ⊥
 IsSmallReply (Reply.Refused f) = ⊥
 IsSmallReply _ = ⊤
 
--- an output has room for the text of the reply: it is about neither a certificate nor an automaton, and a preimage or a gap has at most 33,792 letters
+-- an output has room for the text of the reply: it isn't about a certificate, an automaton has at most 65,536 classes, and a preimage or a gap has at most 33,792 letters
 abbrev pub FitsRoom : Reply → Type 0
 FitsRoom (Reply.Found (Finding.Preimage p)) = length p.config.left + length p.config.middle + length p.config.right ≤ most_stretch
 FitsRoom (Reply.Found (Finding.Gap before after w)) = length w ≤ most_stretch
 FitsRoom (Reply.Found (Finding.Written c)) = ⊥
-FitsRoom (Reply.Found (Finding.Language m)) = ⊥
+FitsRoom (Reply.Found (Finding.Language m)) = m.classes ≤ most_sets
 FitsRoom (Reply.Accepted v) = ⊥
 FitsRoom (Reply.Refused f) = ⊥
 FitsRoom _ = ⊤

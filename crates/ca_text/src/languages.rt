@@ -1,5 +1,6 @@
 //! The lines of answers about the words that have a preimage. The states of an automaton are called classes.
-ghost use Rattle.std.specs.Prelude.{◌≡◌, ℕ, ◌+◌, ◌<◌, ◌≤◌, ◌++◌, drop, length, slice_index, OnOk};
+ghost use Rattle.std.specs.Prelude.{◌≡◌, ℕ, ◌+◌, ◌*◌, ◌<◌, ◌≤◌, ◌++◌, drop, length, slice_index};
+ghost use Rattle.std.specs.List.{flat_map, range_with_len};
 ghost use Rattle.std.specs.Fmt.{decimal};
 ghost use Rattle.image_minimal.specs.ImageLanguages as languages;
 ghost use Rattle.ca_questions.specs.Values.{automaton_of, pair_of};
@@ -25,21 +26,18 @@ const MOST_LINE: usize = MOST_PIECE * MOST_STATES;
 /// Appends the lines of an automaton: two lines about the whole automaton, and a line for each class.
 pub fn write_automaton(output: &mut Output, automaton: &Automaton) -> Result<(), AllocError>
     requires { HasRows (automaton_of automaton.now) }
-    ensures { OnOk result (output.new ≡ output.old ++ automaton_lines (automaton_of automaton.now)) }
+    ensures appended { IsAppended result output.old output.new (automaton_lines (automaton_of automaton.now)) }
+    ensures few { AppendsAtMost (MOST_LINE * automaton.now.classes + 93) result output.old output.new }
 {
-    let classes = automaton.classes;
-    output.reserve(MOST_PIECE * classes as usize * usize::from(automaton.states))?;
-    output.push_line_with_number("classes ", u128::from(classes))?;
+    output.push_line_with_number("classes ", u128::from(automaton.classes))?;
     write_dead(output, automaton.dead)?;
-    for class in 0..classes {
-        write_class(output, automaton, class)?;
-    }
-    Ok(())
+    write_classes(output, automaton)
 }
 
 /// Appends the line with the class of all orphans, or `dead none` if there is no such class.
 fn write_dead(output: &mut Output, dead: Option<u32>) -> Result<(), AllocError>
-    ensures { OnOk result (output.new ≡ output.old ++ dead_line dead) }
+    ensures appended { IsAppended result output.old output.new (dead_line dead) }
+    ensures few { AppendsAtMost 45 result output.old output.new }
 {
     match dead {
         None => output.push_line("dead none"),
@@ -47,11 +45,24 @@ fn write_dead(output: &mut Output, dead: Option<u32>) -> Result<(), AllocError>
     }
 }
 
+/// Appends a line for each class, with its next class for each letter.
+fn write_classes(output: &mut Output, automaton: &Automaton) -> Result<(), AllocError>
+    requires { HasRows (automaton_of automaton.now) }
+    ensures appended { IsAppended result output.old output.new (flat_map (class_line (automaton_of automaton.now)) (range_with_len 0 automaton.now.classes)) }
+    ensures few { AppendsAtMost (MOST_LINE * automaton.now.classes) result output.old output.new }
+{
+    for class in 0..automaton.classes {
+        write_class(output, automaton, class)?;
+    }
+    Ok(())
+}
+
 /// Appends the line with the next class of this class for each letter.
 fn write_class(output: &mut Output, automaton: &Automaton, class: u32) -> Result<(), AllocError>
     requires rows { HasRows (automaton_of automaton.now) }
     requires class { class < automaton.now.classes }
-    ensures { OnOk result (output.new ≡ output.old ++ class_line (automaton_of automaton.now) class) }
+    ensures appended { IsAppended result output.old output.new (class_line (automaton_of automaton.now) class) }
+    ensures few { AppendsAtMost MOST_LINE result output.old output.new }
 {
     let k = usize::from(automaton.states);
     let first = class as usize * k;
@@ -63,7 +74,9 @@ fn write_row(output: &mut Output, k: u8, row: &[u16]) -> Result<(), AllocError>
     requires some { 0 < k }
     requires most { k ≤ 16 }
     requires long { length row.now ≡ k }
-    ensures { OnOk result ((a : languages.Automaton) (i : ℕ) → a.states ≡ k → ((l : ℕ) → l < k → slice_index row.now l ≡ after_class a i l) → output.new ≡ output.old ++ class_line a i) }
+    ensures appended { (a : languages.Automaton) (i : ℕ) → a.states ≡ k → ((l : ℕ) → l < k → slice_index row.now l ≡ after_class a i l)
+        → IsAppended result output.old output.new (class_line a i) }
+    ensures few { AppendsAtMost MOST_LINE result output.old output.new }
 {
     // The bytes of the line are filled from the end of the line to its start.
     let mut bytes = [b'\n'; MOST_LINE];

@@ -30,8 +30,8 @@
 //! `right_findings_are_writable` of ca_questions says that they are, in each right finding about accepted rules.
 //!
 //! A text is appended to an [`Output`], which has room for [`MOST_TEXT`] bytes from the start. If the text fits, only
-//! the text of a certificate, of an automaton or of a judged certificate can fail for lack of memory. To write a text
-//! of n bytes takes **O(n)** time.
+//! the text of a certificate or of a judged certificate can fail for lack of memory. To write a text of n bytes takes
+//! **O(n)** time.
 #![tactic(auto)]
 
 mod counts;

@@ -14,8 +14,8 @@ use std::marker::Model;
 use tail_config::LentTail;
 use word_image::{Rule, digit};
 
-/// The number of bytes for which an output has room when it is made. The longest report has fewer.
-pub const MOST_TEXT: usize = 150_000;
+/// The number of bytes for which an output has room when it is made. The longest text of an automaton has fewer.
+pub const MOST_TEXT: usize = 6_291_600;
 
 /// The bytes of a text. In contracts it is the list of these bytes.
 ///
@@ -50,13 +50,6 @@ impl Output {
         ensures { self.new ≡ [] }
     {
         self.bytes.clear();
-    }
-
-    /// Makes room for this many bytes more. The only error is lack of memory.
-    pub fn reserve(&mut self, more: usize) -> Result<(), AllocError>
-        ensures { self.new ≡ self.old }
-    {
-        self.bytes.reserve(more)
     }
 
     /// Appends these bytes.

@@ -17,8 +17,8 @@ use cert_format::to_bytes;
 use std::alloc::{AllocError, Global};
 
 /// Appends the text of a finding, which is the answer to a question. The definition `text_of` says what this text is.
-/// The only error is lack of memory. It doesn't come if the output has room for the text of a finding that is neither a
-/// certificate nor an automaton.
+/// The only error is lack of memory. It doesn't come if the output has room for the text of a finding that isn't a
+/// certificate.
 pub fn write_found(alloc: Global, output: &mut Output, found: &Found) -> Result<(), AllocError>
     requires { IsWritable (finding_of found.now) }
     ensures appended { OnOk result (output.new ≡ output.old ++ text_of (finding_of found.now)) }

@@ -1,12 +1,10 @@
 //! The type `SplitRoom`, which decides whether a rule closes on a side, in memory that it allocates once.
 
-ghost use Rattle.std.specs.Prelude.{◌≡◌, ◌≤◌, ◌<◌, length};
+ghost use Rattle.std.specs.Prelude.{◌≡◌, ◌≤◌, ◌<◌};
 ghost use Rattle.word_image.specs.LocalRules.{IsRule, most_states};
 ghost use Rattle.tail_config.specs.Tails.{IsRightClosing};
 ghost use Rattle.tail_config.specs.TailTexts.{IsShortTail};
-ghost use Rattle.tail_config.specs.TailValues.{config_of};
-ghost use Rattle.least_walk.specs.Queues.{most_steps};
-ghost use Rattle.closing_test.specs.Closing.{IsRightAnswer, IsLeftAnswer, IsLeastSplitOf, closing_of, first_word, second_word, tail_over};
+ghost use Rattle.closing_test.specs.Closing.{IsRightAnswer, IsLeftAnswer, IsLeastSplitOf, closing_of, tail_over};
 ghost use Rattle.closing_test.specs.declared.split_room.LentClosing.TheVariants as lent;
 
 use crate::look_ahead::{ahead_left, ahead_right};

@@ -6,41 +6,45 @@
 //! and from which the same words are read. The words of a class have sets of last nodes with the same closure, so this
 //! closure stands for the class.
 
-ghost use Rattle.std.specs.Prelude.{◌≡◌, ◌+◌, ◌*◌, ◌<◌, ◌≤◌, ℕ, length, slice_get, slice_index, Some, IfOk};
+ghost use Rattle.std.specs.Prelude.{◌≡◌, ◌+◌, ◌*◌, ◌<◌, ◌≤◌, ℕ, length, slice_get, slice_index, vec_capacity, Some, IfOk};
 ghost use Rattle.word_image.specs.LocalRules.{LocalRule, IsRule, most_sets};
 ghost use Rattle.image_minimal.specs.ImageLanguages.{Automaton, IsLeastAutomaton};
 ghost use Rattle.image_minimal.specs.Closures.{AreClosures};
 ghost use Rattle.image_minimal.specs.Searches.{HasClasses};
 
-use crate::closures::closures;
-use crate::listed::Listed;
+use crate::closures::find_closures;
+use crate::listed::{Listed, MOST_SETS};
 use crate::subsets::Subsets;
 use std::alloc::{AllocError, Global};
 use std::marker::Model;
+use std::mem::replace;
 use word_image::Rule;
 
 /// The least automaton of a rule: the classes of equivalent words, and the class that follows each class on each
 /// letter. The classes are numbered in the order of their least words. Contracts treat the automaton as the rule, since
-/// a rule has exactly one least automaton.
+/// a rule has exactly one least automaton. Its memory is allocated once, and serves one rule after another.
 #[derive(Debug, Drop)]
 pub struct Minimal {
+    // What allocated the memory.
+    alloc: Global,
     // The steps between the sets of nodes of the rule.
     subsets: Subsets,
-    // The closure of each set of nodes.
+    // The closure of each set of nodes, with capacity for `MOST_SETS` closures.
     closures: Vec<u16>,
     // For each class the closure of the sets of last nodes of its words, in the order of the classes.
     classes: Listed,
 }
 
 impl Model for Minimal {
-    ghost use Rattle.word_image.specs.LocalRules.{LocalRule};
+    ghost use Rattle.std.specs.Prelude.{◌≤◌, vec_capacity};
+    ghost use Rattle.word_image.specs.LocalRules.{LocalRule, most_sets};
     ghost use Rattle.image_minimal.specs.Searches.{HasClasses};
 
     ghost Value = { LocalRule };
 
     ghost view = { λ m. m.subsets };
 
-    ghost invariant = { λ m. HasClasses m.subsets m.closures.items m.classes };
+    ghost invariant = { λ m. HasClasses m.subsets m.closures.items m.classes × (most_sets ≤ vec_capacity m.closures) };
 }
 
 /// Computes the least automaton of this rule. The only error is lack of memory.
@@ -48,14 +52,7 @@ pub fn least(alloc: Global, rule: &Rule) -> Result<Minimal, AllocError>
     ensures rule { IfOk result (λ minimal. minimal ≡ rule.now) }
     ensures some { IfOk result (λ _. (a : Automaton) × IsLeastAutomaton rule.now a) }
 {
-    let subsets = Subsets::of(alloc, rule)?;
-    let closures = closures(alloc, subsets.graph())?;
-    let classes = search(alloc, &subsets, &closures)?;
-    Ok(Minimal {
-        subsets,
-        closures,
-        classes,
-    })
+    Minimal::of(alloc, Subsets::of(alloc, rule)?)
 }
 
 /// Law: a rule has at most one least automaton.
@@ -63,7 +60,42 @@ pub fn one_least_automaton()
     ensures { (r : LocalRule) (a b : Automaton) → IsRule r → IsLeastAutomaton r a → IsLeastAutomaton r b → a ≡ b }
 {}
 
+/// Law: the least automaton of a rule has at most 65,536 classes.
+pub fn few_classes()
+    ensures { (r : LocalRule) (a : Automaton) → IsRule r → IsLeastAutomaton r a → a.classes ≤ most_sets }
+{}
+
 impl Minimal {
+    /// Allocates the memory of a least automaton. It is the one of a rule that gives 0 for all windows. The only error
+    /// is lack of memory.
+    pub fn new(alloc: Global) -> Result<Minimal, AllocError> {
+        Minimal::of(alloc, Subsets::new(alloc)?)
+    }
+
+    /// Computes the least automaton of another rule, in the memory of this one.
+    pub fn set_rule(&mut self, rule: &Rule)
+        ensures { self.new ≡ rule.now }
+    {
+        self.subsets.set_rule(rule);
+        find(&self.subsets, &mut self.closures, &mut self.classes);
+    }
+
+    /// Computes the least automaton of the rule that has these sets of nodes.
+    fn of(alloc: Global, subsets: Subsets) -> Result<Minimal, AllocError>
+        ensures rule { IfOk result (λ minimal. minimal ≡ subsets) }
+        ensures some { IfOk result (λ _. (a : Automaton) × IsLeastAutomaton subsets a) }
+    {
+        let mut closures = Vec::with_capacity(alloc, MOST_SETS)?;
+        let mut classes = Listed::new(alloc)?;
+        find(&subsets, &mut closures, &mut classes);
+        Ok(Minimal {
+            alloc,
+            subsets,
+            closures,
+            classes,
+        })
+    }
+
     /// Returns the number of classes, from 1 to 65,536. The contract also states that the rule has a least automaton.
     pub fn len(&self) -> u32
         ensures automaton { (a : Automaton) × IsLeastAutomaton self.now a }
@@ -79,19 +111,31 @@ impl Minimal {
     pub fn rows(&self, alloc: Global) -> Result<Vec<u16>, AllocError>
         ensures { IfOk result (λ rows. (a : Automaton) → IsLeastAutomaton self.now a → rows.items ≡ a.next) }
     {
-        let classes = self.classes.len();
+        let mut rows = Vec::with_capacity(alloc, self.len() as usize * usize::from(self.k()))?;
+        self.write_rows(&mut rows);
+        Ok(rows)
+    }
+
+    /// Writes the list that `rows` returns into a list that has capacity for it, in place of its numbers.
+    pub fn write_rows(&self, rows: &mut Vec<u16>)
+        requires { (a : Automaton) → IsLeastAutomaton self.now a → a.classes * a.states ≤ vec_capacity rows.old }
+        ensures rows { (a : Automaton) → IsLeastAutomaton self.now a → rows.new.items ≡ a.next }
+        ensures capacity { vec_capacity rows.new ≡ vec_capacity rows.old }
+    {
+        // The list is taken out of `rows`, so that the loop reads and writes less for each letter.
+        let mut list = replace(rows, Vec::new(self.alloc));
+        list.clear();
         // This is borrowed once, so that the loop reads one pointer less for each letter.
         let closures: &[u16] = &self.closures;
-        let mut rows = Vec::with_capacity(alloc, classes as usize * usize::from(self.k()))?;
-        for class in 0..classes {
+        for class in 0..self.classes.len() {
             let set = self.classes.at(class);
             let steps = self.subsets.steps(set);
             for letter in 0..self.subsets.k() {
                 let after = steps[letter as usize];
-                rows.push(class_of(closures, &self.classes, after))?;
+                list.push_reserved(class_of(closures, &self.classes, after));
             }
         }
-        Ok(rows)
+        *rows = list;
     }
 
     /// Returns the class that follows class `i` on the letter `a`: if a word is in class `i`, the word followed by `a`
@@ -137,23 +181,33 @@ fn class_of(closures: &[u16], classes: &Listed, set: u16) -> u16
     class.unwrap()
 }
 
-/// Returns the closures that stand for the classes, in the order of the classes. Finds them breadth first, starting
-/// with the set of all nodes.
-fn search(alloc: Global, subsets: &Subsets, closures: &[u16]) -> Result<Listed, AllocError>
-    requires { AreClosures subsets.now closures.now }
-    ensures { IfOk result (HasClasses subsets.now closures.now) }
+/// Finds the closure of each set of nodes, and then the classes. Before it finds the classes, their list has the unread
+/// sets.
+fn find(subsets: &Subsets, closures: &mut Vec<u16>, classes: &mut Listed)
+    requires { most_sets ≤ vec_capacity closures.old }
+    ensures classes { HasClasses subsets.now closures.new.items classes.new }
+    ensures capacity { most_sets ≤ vec_capacity closures.new }
 {
-    let mut classes = Listed::new(alloc)?;
-    classes.insert(subsets.full())?;
+    find_closures(subsets.graph(), classes, closures);
+    search(subsets, closures, classes);
+}
+
+/// Lists the closures that stand for the classes, in the order of the classes. Finds them breadth first, starting with
+/// the set of all nodes.
+fn search(subsets: &Subsets, closures: &[u16], classes: &mut Listed)
+    requires { AreClosures subsets.now closures.now }
+    ensures { HasClasses subsets.now closures.now classes.new }
+{
+    classes.clear();
+    classes.insert(subsets.full());
     let mut place = 0;
     while place < classes.len() {
         let set = classes.at(place);
         let steps = subsets.steps(set);
         for letter in 0..subsets.k() {
             let after = steps[letter as usize];
-            classes.insert(closures[usize::from(after)])?;
+            classes.insert(closures[usize::from(after)]);
         }
         place += 1;
     }
-    Ok(classes)
 }

@@ -4,31 +4,42 @@
 //! nodes from which some word isn't read. The closure of a set of nodes is the intersection of all unread sets that
 //! contain it.
 
-ghost use Rattle.std.specs.Prelude.{◌+◌, ◌^◌, ◌<◌, IfOk};
-ghost use Rattle.word_image.specs.LocalRules.{node_count};
+ghost use Rattle.std.specs.Prelude.{◌≡◌, ◌+◌, ◌^◌, ◌<◌, ◌≤◌, length, vec_capacity};
+ghost use Rattle.word_image.specs.LocalRules.{node_count, most_sets};
 ghost use Rattle.image_minimal.specs.Closures.{IsBack, IsUnreadSet, IsClosure, AreClosures, AreClosuresFrom};
 ghost use Rattle.image_minimal.specs.Searches.{AreUnreadSets};
 
 use crate::listed::Listed;
 use debruijn::Graph;
-use std::alloc::{AllocError, Global};
 
-/// Returns the closure of each set of nodes, in the order of the numbers of the sets.
-pub fn closures(alloc: Global, graph: &Graph) -> Result<Vec<u16>, AllocError>
-    ensures { IfOk result (λ closures. AreClosures graph.now closures.items) }
+/// Fills `closures` with the closure of each set of nodes, in the order of the numbers of the sets. Lists the unread
+/// sets in `unread`, in place of what was there.
+pub fn find_closures(graph: &Graph, unread: &mut Listed, closures: &mut Vec<u16>)
+    requires { most_sets ≤ vec_capacity closures.old }
+    ensures closures { AreClosures graph.now closures.new.items }
+    ensures capacity { most_sets ≤ vec_capacity closures.new }
 {
-    let unread = unread_sets(alloc, graph)?;
+    find_unread(graph, unread);
+    closures.clear();
+    closures.resize(usize::from(graph.full()) + 1, 0).unwrap();
+    write_closures(graph, unread, closures);
+}
+
+/// Writes the closure of each set of nodes, given the list of the unread sets.
+fn write_closures(graph: &Graph, unread: &Listed, closures: &mut [u16])
+    requires unread { AreUnreadSets graph.now unread.now }
+    requires long { length closures.old ≡ 2 ^ node_count graph.now }
+    ensures { AreClosures graph.now closures.new }
+{
     let all = graph.full();
-    let mut closures = vec![in alloc; 0; usize::from(all) + 1]?;
     for less in 0..closures.len() {
         let set = all - less as u16;
         let closure = match unread.place(set) {
             Some(_) => set,
-            None => closure_above(graph, &closures, set),
+            None => closure_above(graph, closures, set),
         };
         closures[usize::from(set)] = closure;
     }
-    Ok(closures)
 }
 
 /// Returns the closure of a set that isn't unread. It is the intersection of the closures of the sets with one node
@@ -48,21 +59,20 @@ fn closure_above(graph: &Graph, closures: &[u16], set: u16) -> u16
     closure
 }
 
-/// Returns the list of the unread sets, each of them once.
-fn unread_sets(alloc: Global, graph: &Graph) -> Result<Listed, AllocError>
-    ensures { IfOk result (AreUnreadSets graph.now) }
+/// Lists the unread sets, each of them once, in place of what the list had.
+fn find_unread(graph: &Graph, sets: &mut Listed)
+    ensures { AreUnreadSets graph.now sets.new }
 {
-    let mut sets = Listed::new(alloc)?;
-    sets.insert(0)?;
+    sets.clear();
+    sets.insert(0);
     let mut place = 0;
     while place < sets.len() {
         let set = sets.at(place);
         for a in 0..graph.k() {
-            sets.insert(back(graph, set, a))?;
+            sets.insert(back(graph, set, a));
         }
         place += 1;
     }
-    Ok(sets)
 }
 
 /// Returns the set of the nodes whose edges with the label `a` all end in the given set. A node without such edges is

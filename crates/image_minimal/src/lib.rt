@@ -28,10 +28,10 @@
 //! each is its own closure. The classes have the least words (empty), 1, 10 and 101, whose sets of last nodes are 3,
 //! 2, 1 and 0.
 //!
-//! For N nodes, u unread sets and c classes `least` takes time **O(u k N + 2^N N + c k)** and space **O(2^N)**. It
-//! doesn't store the c k classes that follow each class on each letter: `Minimal::rows` computes all of them in time
-//! **O(c k)**. For n sets under both rules together `separate` takes time **O(n k log n)**, in a [`SeparationRoom`] of
-//! 2.8 MB.
+//! For N nodes, u unread sets and c classes `least` takes time **O(u k N + 2^N N + c k)**. A [`Minimal`] takes 528 KB,
+//! which serve one rule after another. It doesn't store the c k classes that follow each class on each letter:
+//! `Minimal::rows` computes all of them in time **O(c k)**. For n sets under both rules together `separate` takes time
+//! **O(n k log n)**, in a [`SeparationRoom`] of 2.8 MB.
 #![tactic(auto)]
 
 mod classes;
@@ -42,5 +42,5 @@ mod listed;
 mod separation;
 mod subsets;
 
-pub use classes::{Minimal, least, one_least_automaton};
+pub use classes::{Minimal, few_classes, least, one_least_automaton};
 pub use separation::{SepFault, SeparationRoom, separate};

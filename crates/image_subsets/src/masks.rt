@@ -1,6 +1,6 @@
 //! A list of different sets of nodes, in the order in which they were inserted.
 
-ghost use Rattle.std.specs.Prelude.{◌≡◌, ◌≢◌, ◌<◌, ◌↔◌, AllPairs, List, ℕ, [], length, slice_index, Contains, IsTrue, IfOk, replicate};
+ghost use Rattle.std.specs.Prelude.{◌≡◌, ◌≢◌, ◌<◌, ◌↔◌, AllPairs, List, ℕ, [], length, slice_index, Contains, IfOk, replicate};
 ghost use Rattle.word_image.specs.LocalRules.{most_sets};
 ghost use Rattle.image_subsets.specs.Masks.{IsInserted};
 ghost use Rattle.image_subsets.specs.Marks.{IsSetMarked};

@@ -10,7 +10,7 @@ use std::mem::{replace, swap};
 use word_image::Rule;
 
 /// The greatest number of words whose images are computed.
-pub(crate) const MOST_IMAGES: usize = 1_048_576;
+pub const MOST_IMAGES: usize = 1_048_576;
 
 /// Fills `images` with the value of the image of each word of n + m - 1 letters, in the order of the values of the
 /// words. It also uses `other`, and what this list then has means nothing. It needs no memory: `alloc` only makes empty

@@ -16,9 +16,10 @@
 //! width 2 that ignores its second cell. For rule 170 this rule has the table 0 0 1 1.
 //!
 //! [`TableRoom::table`] lists the images of all k^(n + m - 1) words, at most 2^20. It computes the image of each word
-//! from the image of the word without its last letter. It takes **O(k^(n + m - 1))** time. A [`TableRoom`] has 4 MB of
-//! memory for these lists, and lends the letters of the map as a [`LentMap`]. [`table`] makes a room for one map, and
-//! copies the letters into an [`InverseMap`]. [`as_rule`] and [`LentMap::as_rule`] take time **O(k^n)** and no memory.
+//! from the image of the word without its last letter. It takes **O(k^(n + m - 1))** time. A [`TableRoom`] has 2 MB of
+//! memory for one of these lists, borrows another such list, and lends the letters of the map as a [`LentMap`]. [`table`]
+//! makes a room for one map, and copies the letters into an [`InverseMap`]. [`as_rule`] and [`LentMap::as_rule`] take
+//! time **O(k^n)** and no memory.
 #![tactic(auto)]
 
 mod cycles;
@@ -29,6 +30,7 @@ mod letters;
 mod table_room;
 mod tables;
 
+pub use image_values::MOST_IMAGES;
 pub use inverse_map::{InverseMap, as_rule};
 pub use lent_map::LentMap;
 pub use table_room::{NoMap, TableRoom};

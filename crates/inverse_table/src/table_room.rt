@@ -30,15 +30,14 @@ pub enum NoMap {
     NotDetermined { x: usize, y: usize },
 }
 
-/// Computes inverse maps in memory that it allocates once, some 4 MB. Contracts say nothing about its contents, because
-/// no map depends on an earlier one.
+/// Computes inverse maps in memory that it allocates once, some 2 MB, and in a list of numbers that it is lent.
+/// Contracts say nothing about its contents, because no map depends on an earlier one.
 #[derive(Debug, Drop)]
 pub struct TableRoom {
     // What allocated the lists.
     alloc: Global,
-    // The values of the images of all words of one length, with capacity for 2^20 of them.
-    images: Vec<u16>,
-    // The same for the words that are one letter shorter. The two lists take turns.
+    // The values of the images of all words of one length, with capacity for `MOST_IMAGES` of them. A list that is lent
+    // has those of the words that are one letter longer or shorter. The two lists take turns.
     other: Vec<u16>,
     // The letters of the last map, with capacity for 65,536 of them.
     letters: Vec<u8>,
@@ -53,7 +52,7 @@ impl Model for TableRoom {
 
     ghost view = { λ r. tt };
 
-    ghost invariant = { λ r. (MOST_IMAGES ≤ vec_capacity r.images) × (MOST_IMAGES ≤ vec_capacity r.other) × (most_map_entries ≤ vec_capacity r.letters) };
+    ghost invariant = { λ r. (MOST_IMAGES ≤ vec_capacity r.other) × (most_map_entries ≤ vec_capacity r.letters) };
 }
 
 impl TableRoom {
@@ -61,7 +60,6 @@ impl TableRoom {
     pub fn new(alloc: Global) -> Result<TableRoom, AllocError> {
         Ok(TableRoom {
             alloc,
-            images: Vec::with_capacity(alloc, MOST_IMAGES)?,
             other: Vec::with_capacity(alloc, MOST_IMAGES)?,
             letters: Vec::with_capacity(alloc, MOST_WORDS as usize)?,
         })
@@ -72,7 +70,15 @@ impl TableRoom {
     ///
     /// Returns `Wide` if there are more than 65,536 words of n letters. Otherwise returns `NotDetermined` if the window
     /// isn't determined, that is, if two words with the same image differ at place c. It needs no memory.
-    pub fn table(&mut self, rule: &Rule, at: WindowAt) -> Result<LentMap<'_>, NoMap>
+    ///
+    /// What `numbers` has before and afterwards means nothing. The list lends its capacity for `MOST_IMAGES` numbers.
+    pub fn table(
+        &mut self,
+        numbers: &mut Vec<u16>,
+        rule: &Rule,
+        at: WindowAt,
+    ) -> Result<LentMap<'_>, NoMap>
+        requires room { MOST_IMAGES ≤ vec_capacity numbers.old }
         requires some { 1 ≤ at.n }
         requires most { at.n ≤ longest_window }
         requires inside { at.c ≤ at.n + rule.now.width - 2 }
@@ -80,12 +86,13 @@ impl TableRoom {
         ensures gives_back { IfOk result (GivesBack rule.now at.n at.c) }
         ensures determined { IsOk result → IsDetermined rule.now at.n at.c }
         ensures fault { MatchResult result (λ _. rule.now.states ^ at.n ≤ most_map_entries) (IsNoMap rule.now at.n at.c) }
+        ensures room { MOST_IMAGES ≤ vec_capacity numbers.new }
     {
         let Some(count) = word_count(rule, at.n) else {
             return Err(NoMap::Wide);
         };
-        write_images(self.alloc, rule, at.n, &mut self.images, &mut self.other);
-        read_back(rule, at, count, &self.images, &mut self.letters)?;
+        write_images(self.alloc, rule, at.n, numbers, &mut self.other);
+        read_back(rule, at, count, numbers, &mut self.letters)?;
         Ok(LentMap::of(rule.k(), at.n, map_offset(rule, at.c), &self.letters))
     }
 }

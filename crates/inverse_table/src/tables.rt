@@ -9,6 +9,7 @@ ghost use Rattle.inverse_table.specs.InverseMaps.{GivesBack};
 ghost use Rattle.inverse_table.specs.InverseFaults.{IsInvFault};
 ghost use Rattle.inverse_table.specs.declared.tables.InvFault.TheVariants.{Memory};
 
+use crate::image_values::MOST_IMAGES;
 use crate::inverse_map::InverseMap;
 use crate::table_room::{NoMap, TableRoom, word_count};
 use inverse_window::WindowAt;
@@ -54,7 +55,8 @@ pub fn table(alloc: Global, rule: &Rule, at: WindowAt) -> Result<InverseMap, Inv
         return Err(InvFault::Wide);
     }
     let mut room = TableRoom::new(alloc)?;
-    match room.table(rule, at) {
+    let mut numbers = Vec::with_capacity(alloc, MOST_IMAGES)?;
+    match room.table(&mut numbers, rule, at) {
         Ok(map) => Ok(InverseMap::of(alloc, &map)?),
         Err(NoMap::Wide) => Err(InvFault::Wide),
         Err(NoMap::NotDetermined { x, y }) => Err(InvFault::NotDetermined {

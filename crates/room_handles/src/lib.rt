@@ -1,6 +1,6 @@
 //! The handle by which C holds a room: the memory that calls use again and again.
 //!
-//! A [`CallRoom`] is some 9 MB of memory for answers, for their text and for reports. It is Rattle's, and C can't hold
+//! A [`CallRoom`] is some 16 MB of memory for answers, for their text and for reports. It is Rattle's, and C can't hold
 //! it: C can hold a [`RoomHandle`], which has the layout of C and says whether there is a room. An *open* handle has a
 //! room, and a *closed* one has none. [`RoomHandle::take`] takes the room out of the handle, and [`RoomHandle::put`]
 //! puts it back. So a call over a room takes the room, uses it, and puts it back at the end.

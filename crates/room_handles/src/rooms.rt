@@ -1,20 +1,14 @@
 //! The type `CallRoom`, which has the memory of calls.
 
 use c_structs::RowRoom;
-use ca_answering::Room;
-use ca_text::Output;
+use ca_cli::Room;
 use std::alloc::{AllocError, Global};
-use tail_config::TailRoom;
 
-/// The memory that calls of the C library use again and again, some 9 MB. No call depends on an earlier one.
+/// The memory that calls of the C library use again and again, some 16 MB. No call depends on an earlier one.
 #[derive(Drop)]
 pub struct CallRoom {
-    /// For the configuration that the words describe.
-    pub tails: TailRoom,
-    /// For the long lists of answers.
-    pub answers: Room,
-    /// For the text of a reply.
-    pub output: Output,
+    /// For commands.
+    pub commands: Room,
     /// For reports and the letters of their words.
     pub reports: RowRoom,
 }
@@ -23,9 +17,7 @@ impl CallRoom {
     /// Takes all the memory of a room. The only error is lack of memory.
     pub fn new(alloc: Global) -> Result<CallRoom, AllocError> {
         Ok(CallRoom {
-            tails: TailRoom::new(alloc)?,
-            answers: Room::new(alloc)?,
-            output: Output::new(alloc)?,
+            commands: Room::new(alloc)?,
             reports: RowRoom::new(alloc)?,
         })
     }

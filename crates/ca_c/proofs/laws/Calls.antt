@@ -1,8 +1,8 @@
 -- What is handed back, in the words of the code.
-use Rattle.std.proofs.Common.{◌≡◌, ◌≢◌, ℕ, ◌≤◌, List, ◌++◌, length, drop, sym, ap, subst, ◌∙◌, arith}
+use Rattle.std.proofs.Common.{◌≡◌, ℕ, ◌≤◌, List, ◌++◌, length, drop, sym, ap, subst, ◌∙◌, arith}
 use Rattle.ca_questions.proofs.Common.{Reply}
 use Rattle.ca_cli.specs.declared.status.Status.{Status}
-use Rattle.ca_cli.specs.Statuses.{code_of, reply_status}
+use Rattle.ca_cli.specs.Statuses.{code_of}
 use Rattle.ca_c.specs.Calls.{IsAnswerIn, IsHandedBack}
 
 -- an output that fits the buffer is handed back whole
@@ -25,20 +25,3 @@ IsHandedBack-short {form = form} {block = block} {input = input} {before = befor
     let short : IsHandedBack form block input before 10 (length output) before = IsHandedBack.Short status output answer (omega (arith, over, ap length same)) in
     let with_length : IsHandedBack form block input before 10 len before = subst (λ (n : ℕ). IsHandedBack form block input before 10 n before) (sym long) short in
     subst (IsHandedBack form block input before 10 len) (sym kept) with_length
-
--- no reply has the status of a failed read or write
-no_fault : (reply : Reply) → (code_of (reply_status reply) ≢ 6) × (code_of (reply_status reply) ≢ 7)
-no_fault (Reply.Found f) = ((λ is. omega (arith, is)), (λ is. omega (arith, is)))
-no_fault (Reply.NoFit u) = ((λ is. omega (arith, is)), (λ is. omega (arith, is)))
-no_fault (Reply.RuleFault operand f) = ((λ is. omega (arith, is)), (λ is. omega (arith, is)))
-no_fault (Reply.Accepted v) = ((λ is. omega (arith, is)), (λ is. omega (arith, is)))
-no_fault (Reply.Refused f) = ((λ is. omega (arith, is)), (λ is. omega (arith, is)))
-no_fault Reply.TooLong = ((λ is. omega (arith, is)), (λ is. omega (arith, is)))
-no_fault Reply.Usage = ((λ is. omega (arith, is)), (λ is. omega (arith, is)))
-
--- the code of a right answer is neither 6 nor 7
-pub no_fault-answer : {form : Reply → List ℕ} {block input output : List ℕ} {status : Status} {code : ℕ} → IsAnswerIn form block input status output → code ≡ code_of status → (code ≢ 6) × (code ≢ 7)
-no_fault-answer answer coded =
-    let none = no_fault answer.reply in
-    let same = coded ∙ ap code_of answer.status_is in
-    ((λ is. none.0 (sym same ∙ is)), (λ is. none.1 (sym same ∙ is)))

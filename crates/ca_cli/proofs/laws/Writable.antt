@@ -11,7 +11,7 @@ use Rattle.ca_commands.specs.Asked.{AreRuleTexts, Asks}
 use Rattle.ca_cli.specs.RightAnswers.{IsReply, IsReplyTo}
 
 -- the question is one of many rules
-abbrev IsOfMany : Question → Type 0
+abbrev pub IsOfMany : Question → Type 0
 IsOfMany (Question.Summary rules) = ⊤
 IsOfMany (Question.Classes rules) = ⊤
 IsOfMany _ = ⊥
@@ -25,7 +25,7 @@ second_rule : {texts : List (List ℕ)} {r s : LocalRule} {rules : List LocalRul
 second_rule (AreRuleTexts.More text texts r rules says rest) = first_rule rest
 
 -- a question is one of many rules, or its rules are accepted ones
-AreRules-asked : {texts : List (List ℕ)} {n : Name} {rules : List LocalRule} {operands : List (List ℕ)} {q : Question} → AreRuleTexts texts rules → Asks n rules operands q → IsOfMany q ⊎ AreRules q
+pub AreRules-asked : {texts : List (List ℕ)} {n : Name} {rules : List LocalRule} {operands : List (List ℕ)} {q : Question} → AreRuleTexts texts rules → Asks n rules operands q → IsOfMany q ⊎ AreRules q
 AreRules-asked are (Asks.Survey k m from count none) = inl tt
 AreRules-asked are (Asks.Sample k m seed count none) = inl tt
 AreRules-asked are (Asks.Classes k m from count none) = inl tt

@@ -1,6 +1,6 @@
--- A rule has one list of classes, so it has one least automaton.
-use Rattle.image_minimal.proofs.Common.{◌≡◌, ℕ, zero, suc, ◌+◌, ◌*◌, ◌/◌, ◌%◌, ◌<◌, List, [], ◌∷◌, ◌++◌, length, slice_index, Option, Some, None, refl, sym, ap, ap₂, ◌∙◌, subst, arith, slice_get, nat_cmp, Equal, ext_get_or, div-lt_iff_lt-mul, mod-lt, mul-zero, mul_comm, slice_cmp, nat_cmp_is, none-some, div-add-mod, LocalRule, IsRule, IsWord, IsOrphan, IsAscending, slice_get-unique, then_equal, exact_bytes, word_number, word_number-le, word_number-less, word_cmp-number, Alike, IsLeastAlike, IsClassList, IsNextClass, IsDeadClass, Automaton, IsLeastAutomaton, node_count, pow_pos, IsBitSet-zero, IsLastSet-orphan}
-use Rattle.image_minimal.proofs.laws.Unread.{IsUnread-some, is_dead-unread, IsOrphan-is_dead}
+-- A rule has one list of classes, so it has one least automaton. It has no more classes than sets of nodes.
+use Rattle.image_minimal.proofs.Common.{◌≡◌, ℕ, zero, suc, ◌+◌, ◌*◌, ◌/◌, ◌%◌, ◌^◌, ◌<◌, ◌≤◌, ⊎_elim, cases_lt, twice_below, pow-le-pow_right, get_or, slice_get-get_or, iff_then, iff_sym, full_set, IsLastSet, IsLastSet-full, List, [], ◌∷◌, ◌++◌, length, slice_index, Option, Some, None, refl, sym, ap, ap₂, ◌∙◌, subst, arith, slice_get, nat_cmp, Equal, ext_get_or, div-lt_iff_lt-mul, mod-lt, mul-zero, mul_comm, slice_cmp, nat_cmp_is, none-some, div-add-mod, LocalRule, IsRule, IsWord, IsOrphan, IsAscending, slice_get-unique, then_equal, exact_bytes, word_number, word_number-le, word_number-less, word_cmp-number, Alike, IsLeastAlike, IsClassList, IsNextClass, IsDeadClass, Automaton, IsLeastAutomaton, node_count, pow_pos, IsBitSet-zero, IsLastSet-orphan}
+use Rattle.image_minimal.proofs.laws.Unread.{end_set, IsLastSet-end, IsUnread-some, is_dead-unread, IsOrphan-is_dead}
 
 -- words of one number are one
 one_number : (k : ℕ) (v w : List ℕ) → IsWord k v → IsWord k w → word_number k v ≡ word_number k w → v ≡ w
@@ -127,3 +127,30 @@ IsLeastAutomaton-unique {r} {a} {b} rule x y =
     ap (slice_index a.next) same ∙ IsNextClass-unique x.list first (subst (λ l. IsNextClass r l _ _ _) (sym words) second) ∙ ap (slice_index b.next) (row ∙ sym same)) in
     ap₂ (λ (k n : ℕ). record { states = k; classes = n; next = a.next; dead = a.dead }) states classes
     ∙ ap₂ (λ (l : List ℕ) (d : Option ℕ). record { states = b.states; classes = b.classes; next = l; dead = d }) next dead
+
+-- words with the same last nodes are alike
+Alike-last : {r : LocalRule} {x y : List ℕ} {s : ℕ} → IsRule r → IsLastSet r x s → IsLastSet r y s → Alike r x y
+Alike-last rule first second z word = iff_then (IsOrphan-is_dead rule first z word) (iff_sym (IsOrphan-is_dead rule second z word))
+
+-- there are no more classes than sets of nodes
+length-class_list-le : {r : LocalRule} {words : List (List ℕ)} → IsRule r → IsClassList r words → length words ≤ 2 ^ node_count r
+length-class_list-le {r} {words} rule list =
+    let word : ℕ → List ℕ = λ i. get_or words i [] in
+    let at : (i : ℕ) → i < length words → slice_get words i ≡ Some (word i) = λ i l. slice_get-get_or words i [] l in
+    let last : (i : ℕ) → i < length words → IsLastSet r (word i) (end_set r (word i) (full_set r)) = λ i l. IsLastSet-end rule (word i) (list.least i (word i) (at i l)).word [] (full_set r) (IsLastSet-full r) in
+    ⊎_elim
+    (λ past.
+    let (i, j, less, most, same) = twice_below (2 ^ node_count r) (λ i. end_set r (word i) (full_set r)) (λ i l. (last i (omega (arith, l, past))).last.within) in
+    let first : i < length words = omega (arith, less, most, past) in
+    let second : j < length words = omega (arith, most, past) in
+    let alike = Alike-last rule (last i first) (subst (IsLastSet r (word j)) (sym same) (last j second)) in
+    let place : i ≡ j = alike_place list i j (word i) (word j) (at i first) (at j second) alike in
+    absurd (omega (arith, place, less)))
+    (λ le. le)
+    (cases_lt (2 ^ node_count r) (length words))
+
+-- the least automaton of a rule has at most 65,536 classes
+pub IsLeastAutomaton-few : {r : LocalRule} {a : Automaton} → IsRule r → IsLeastAutomaton r a → a.classes ≤ 65536
+IsLeastAutomaton-few {r} rule h =
+    let most : 2 ^ node_count r ≤ 2 ^ 16 = pow-le-pow_right (omega arith) rule.shape.most_nodes in
+    omega (arith, h.classes, length-class_list-le rule h.list, most)

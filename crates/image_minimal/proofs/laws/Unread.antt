@@ -11,7 +11,7 @@ abbrev pub is_dead : LocalRule → List ℕ → ℕ → Bool
 is_dead r z s = nat_eq (end_set r z s) 0
 
 -- from the last nodes of a word another leads to those of both in a row
-IsLastSet-end : {r : LocalRule} → IsRule r → (z : List ℕ) → IsWord r.states z → (w : List ℕ) (s : ℕ) → IsLastSet r w s → IsLastSet r (w ++ z) (end_set r z s)
+pub IsLastSet-end : {r : LocalRule} → IsRule r → (z : List ℕ) → IsWord r.states z → (w : List ℕ) (s : ℕ) → IsLastSet r w s → IsLastSet r (w ++ z) (end_set r z s)
 IsLastSet-end rule [] word w s last = rw append-nil last
 IsLastSet-end {r} rule (a ∷ z) word w s last =
     let (after, step) = IsStep-some r s a in

@@ -10,11 +10,11 @@ pub returns-then-is_surjective : goal.returns-then-is_surjective
 returns-then-is_surjective c =
     let r = c.args.rule.now in
     let every : IsSurjective r = subst IsSurjective c.of.ensures (c.is_surjective.ensures.surjective.0 c.if-is_surjective.true) in
-    let same = c.in_ok-one_class.ensures ∙ ap one_class c.k.ensures.states in
+    let same = c.one_class.ensures ∙ ap one_class c.k.ensures.states in
     IsFinding.Language r _ (subst (IsLeastAutomaton r) (sym same) (IsLeastAutomaton-surjective every))
 
 pub returns : goal.returns
 returns c =
     let r = c.args.rule.now in
-    let m = automaton_of c.in_ok-automaton.field-0 in
-    IsFinding.Language r m (subst (λ q. IsLeastAutomaton q m) c.in_ok-minimal.ensures.rule c.in_ok-automaton.ensures)
+    let m = automaton_of c.automaton.result in
+    IsFinding.Language r m (subst (λ q. IsLeastAutomaton q m) c.set_rule.ensures c.automaton.ensures)

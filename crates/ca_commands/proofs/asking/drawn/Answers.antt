@@ -5,7 +5,7 @@ use Rattle.ca_commands.proofs.laws.Asking.{command}
 use Rattle.ca_commands.proofs.asking.drawn.Goals as goal
 
 pub returns-in-Ok : goal.returns-in-Ok
-returns-in-Ok c =
+returns-in-Ok g c =
     let s = c.in-Some-Some-Some-Some in
     let operands = c.in-Some.states.now ∷ c.in-Some.width.now ∷ c.in-Some.from.now ∷ c.in-Some.count.now ∷ [] in
     let is = command name.Sample [] operands c.in-Some.ensures refl (s.ensures.0, s.ensures'.0, s.ensures''.0, s.ensures'''.0) in
@@ -21,7 +21,7 @@ returns-in-Ok c =
     }
 
 pub returns-in-Err : goal.returns-in-Err
-returns-in-Err c =
+returns-in-Err g c =
     let s = c.in-Some-Some-Some-Some in
     let operands = c.in-Some.states.now ∷ c.in-Some.width.now ∷ c.in-Some.from.now ∷ c.in-Some.count.now ∷ [] in
     let is = command name.Sample [] operands c.in-Some.ensures refl (s.ensures.0, s.ensures'.0, s.ensures''.0, s.ensures'''.0) in

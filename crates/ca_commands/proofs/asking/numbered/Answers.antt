@@ -6,7 +6,7 @@ use Rattle.ca_commands.proofs.laws.Numbered.{begins}
 use Rattle.ca_commands.proofs.asking.numbered.Goals as goal
 
 pub returns-in-Ok : goal.returns-in-Ok
-returns-in-Ok c n none is_form =
+returns-in-Ok g c n none is_form =
     let s = c.in-Some-Some-true-Some in
     let operands = c.in-Some.states.now ∷ c.in-Some.width.now ∷ c.in-Some.first.now ∷ c.in-Some.count.now ∷ [] in
     let are = subst (λ f. AreOperands f operands) (sym is_form) (s.ensures.0, s.ensures'.0, s.ensures''.0 refl, s.ensures'''.0) in
@@ -22,7 +22,7 @@ returns-in-Ok c n none is_form =
     }
 
 pub returns-in-Err : goal.returns-in-Err
-returns-in-Err c n none is_form =
+returns-in-Err g c n none is_form =
     let s = c.in-Some-Some-true-Some in
     let operands = c.in-Some.states.now ∷ c.in-Some.width.now ∷ c.in-Some.first.now ∷ c.in-Some.count.now ∷ [] in
     let are = subst (λ f. AreOperands f operands) (sym is_form) (s.ensures.0, s.ensures'.0, s.ensures''.0 refl, s.ensures'''.0) in

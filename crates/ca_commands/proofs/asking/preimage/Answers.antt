@@ -27,21 +27,21 @@ no_memory : {k : ℕ} {words : List ℕ} {e : _} → IsTailTextFault k words (te
 no_memory h = elim h [ ]
 
 pub returns-in_err-rule : goal.returns-in_err-rule
-returns-in_err-rule c = failed _ _ _ c.from_residual.result (first_refused name.Preimage [] _ c.in-Some.ensures refl (c.has_form.ensures.0 c.if-not-has_form.false) c.in_err-rule.ensures) c.from_residual.ensures.1
+returns-in_err-rule g c = failed _ _ _ c.from_residual.result (first_refused name.Preimage [] _ c.in-Some.ensures refl (c.has_form.ensures.0 c.if-not-has_form.false) c.in_err-rule.ensures) c.from_residual.ensures.1
 
 pub returns-in-Ok : goal.returns-in-Ok
-returns-in-Ok c =
+returns-in-Ok g c =
     let call = read_one name.Preimage c.in-Some.ensures refl (c.has_form.ensures.0 c.if-not-has_form.false) c.in_ok-rule.ensures in
     (asks refl call (Asks.Preimage _ c.in-Some.tail.now _ c.in-Ok.ensures.1.parts), sym (c.in-Ok.ensures.0 ∙ c.k.ensures.states))
 
 pub returns-in-Err-Tail : goal.returns-in-Err-Tail
-returns-in-Err-Tail c =
+returns-in-Err-Tail g c =
     let fault = subst (λ (f : TailTextFault). IsTailTextFault c.in_ok-rule.rule.states c.in-Some.tail.now f) c.in-Err-Tail.field-0-is (rw c.k.ensures.states at c.in-Err-Tail.ensures) in
     rw c.in-Err-Tail.fault-is (unfits (read_one name.Preimage c.in-Some.ensures refl (c.has_form.ensures.0 c.if-not-has_form.false) c.in_ok-rule.ensures) fault)
 
 pub unreachable-requires : goal.unreachable-requires
-unreachable-requires c =
+unreachable-requires g c =
     no_form (c.has_form.ensures.0 c.if-not-has_form.false) (subst (IsTailTextFault c.k.result c.in-Some.tail.now) c.in-Err-Form.field-0-is c.in-Err-Form.ensures)
 
 pub unreachable-requires-in-Err-Memory : goal.unreachable-requires-in-Err-Memory
-unreachable-requires-in-Err-Memory c = no_memory (subst (IsTailTextFault c.k.result c.in-Some.tail.now) c.in-Err-Memory.field-0-is c.in-Err-Memory.ensures)
+unreachable-requires-in-Err-Memory g c = no_memory (subst (IsTailTextFault c.k.result c.in-Some.tail.now) c.in-Err-Memory.field-0-is c.in-Err-Memory.ensures)

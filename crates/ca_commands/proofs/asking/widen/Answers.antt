@@ -5,8 +5,8 @@ use Rattle.ca_commands.proofs.laws.Asking.{asks, failed, first_refused, read_one
 use Rattle.ca_commands.proofs.asking.widen.Goals as goal
 
 pub returns-in_err-rule : goal.returns-in_err-rule
-returns-in_err-rule c = failed _ _ _ c.from_residual.result (first_refused name.Widen [] _ c.in-Some.ensures refl c.in-Some-small.ensures.0 c.in_err-rule.ensures) c.from_residual.ensures.1
+returns-in_err-rule g c = failed _ _ _ c.from_residual.result (first_refused name.Widen [] _ c.in-Some.ensures refl c.in-Some-small.ensures.0 c.in_err-rule.ensures) c.from_residual.ensures.1
 
 pub returns : goal.returns
-returns c =
+returns g c =
     (rw c.in-Some-small.ensures.1 (asks refl (read_one name.Widen c.in-Some.ensures refl c.in-Some-small.ensures.0 c.in_ok-rule.ensures) (Asks.Widen _ c.in-Some.width.now)), tt)

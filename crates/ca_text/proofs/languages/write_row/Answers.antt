@@ -1,8 +1,10 @@
-use Rattle.std.proofs.Common.{◌≡◌, ℕ, ◌+◌, ◌-◌, ◌≤◌, List, [], ◌∷◌, ◌++◌, length-drop, drop, take, sym, ap, ap₂, ◌∙◌, arith, add-one, append_assoc, codes, flat_map, decimal}
-use Rattle.word_image.proofs.Common.{range_with_len, drop-set, on_ok_weaker}
+use Rattle.std.proofs.Common.{◌≡◌, ℕ, ◌+◌, ◌-◌, ◌≤◌, List, [], ◌∷◌, ◌++◌, length, length-drop, drop, take, sym, subst, ap, ap₂, ◌∙◌, arith, add-one, append_assoc, codes, flat_map, decimal}
+use Rattle.word_image.proofs.Common.{range_with_len, drop-set}
 use Rattle.std.proofs.lemmas.List.{take_all}
 use Rattle.image_minimal.specs.ImageLanguages.{Automaton}
-use Rattle.ca_text.specs.Lines.{after_class}
+use Rattle.ca_text.specs.Lines.{after_class, class_line}
+use Rattle.ca_text.specs.Rooms.{IsAppended}
+use Rattle.ca_text.proofs.laws.Appended.{AppendsAtMost-appended}
 use Rattle.ca_text.proofs.languages.write_row.Goals as goal
 
 -- what is written for a letter
@@ -37,9 +39,12 @@ loop-letter-preserved c =
           ∙ ap (λ (x : List ℕ). x ++ 10 ∷ []) (sym (flat_map-before (next_text a i) letter (k - letter) (letter - 1) (k - (letter - 1)) next more));
     }
 
-pub returns : goal.returns
-returns c =
-    on_ok_weaker c.push.result (λ written a i states row.
+-- the bytes that are pushed are those from the first digit on
+whole : (n place : ℕ) (bytes : List ℕ) → length bytes ≡ n → take (n - place) (drop place bytes) ≡ drop place bytes
+whole n place bytes long = take_all (n - place) (drop place bytes) (omega (arith, length-drop place bytes, long))
+
+pub returns-clause-appended : goal.returns-clause-appended
+returns-clause-appended c a i states row =
     let k : ℕ = c.args.k in
     let letter : ℕ = c.loop-letter.letter in
     let first : letter ≡ 1 = omega (arith, c.loop-letter-test.false, c.loop-letter.invariant.some) in
@@ -48,8 +53,14 @@ returns c =
     let all : k - letter ≡ a.states - 1 = omega (arith, first, states) in
     let place : ℕ = c.write_short-first-2.result in
     let bytes = c.write_short-first-2.new.bytes in
-    let whole : take (96 - place) (drop place bytes) ≡ drop place bytes = take_all (96 - place) (drop place bytes) (omega (arith, length-drop place bytes, c.write_short-first-2.auto.bytes)) in
-    written ∙ ap (λ (x : List ℕ). c.args.output.now ++ x) (whole ∙ c.write_short-first-2.ensures.digits
+    let pushed : take (96 - place) (drop place bytes) ≡ class_line a i = whole 96 place bytes (omega (arith, c.write_short-first-2.auto.bytes)) ∙ c.write_short-first-2.ensures.digits
     ∙ ap₂ (λ (n : ℕ) (x : List ℕ). decimal n ++ x) number (c.loop-letter.invariant.written a i states row ∙ ap₂ (λ (l n : ℕ). others l n ++ 10 ∷ []) first all)
-    ∙ sym (append_assoc (decimal (after_class a i 0)) (others 1 (a.states - 1)) (10 ∷ []))))
-    c.push.ensures.0
+    ∙ sym (append_assoc (decimal (after_class a i 0)) (others 1 (a.states - 1)) (10 ∷ [])) in
+    subst (IsAppended c.push.result c.args.output.now c.push.new.self) pushed c.push.ensures
+
+pub returns-clause-few : goal.returns-clause-few
+returns-clause-few c =
+    let place : ℕ = c.write_short-first-2.result in
+    let bytes = c.write_short-first-2.new.bytes in
+    AppendsAtMost-appended 96 c.push.result c.args.output.now c.push.new.self _ c.push.ensures
+    (omega (arith, ap length (whole 96 place bytes (omega (arith, c.write_short-first-2.auto.bytes))), length-drop place bytes, c.write_short-first-2.auto.bytes))

@@ -1,4 +1,4 @@
-use Rattle.image_minimal.proofs.Common.{slice_index, arith}
+use Rattle.image_minimal.proofs.Common.{arith}
 use Rattle.image_minimal.proofs.Joins.{IsOnWay-start, IsOnWay-next}
 use Rattle.image_minimal.proofs.joined.root.Goals as goal
 

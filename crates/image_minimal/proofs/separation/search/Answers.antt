@@ -1,4 +1,4 @@
-use Rattle.image_minimal.proofs.Common.{◌≡◌, ℕ, ◌+◌, ◌*◌, ◌^◌, [], ◌∷◌, ◌++◌, slice_index, nat_eq, Some, refl, sym, ap, ap₂, ◌∙◌, subst, arith, slice_get, mul-le-mul_right, suc-mul, range_with_len, slice_get_read, node_count, TreeSpells-some, mapped_at, Link, IsJoin, link_place, IsLinkSearch, SpellsLink, set_count, vec_capacity, HasRows-tables, ◌<◌}
+use Rattle.image_minimal.proofs.Common.{◌≡◌, ◌+◌, ◌*◌, ◌^◌, [], ◌∷◌, ◌++◌, slice_index, nat_eq, Some, refl, sym, ap, ◌∙◌, subst, arith, slice_get, mul-le-mul_right, suc-mul, range_with_len, slice_get_read, node_count, TreeSpells-some, mapped_at, Link, IsJoin, link_place, IsLinkSearch, SpellsLink, set_count, vec_capacity, HasRows-tables, ◌<◌}
 use Rattle.image_minimal.proofs.laws.LinkWords.{link-below}
 use Rattle.image_minimal.proofs.laws.Separations.{HaveSameOrphans-closed, Separates-conflict}
 use Rattle.image_minimal.proofs.Joins.{IsFalling-numbers}

@@ -1,8 +1,0 @@
-use Rattle.std.proofs.Common.{refl}
-use Rattle.ca_questions.proofs.Common.{Reply}
-use Rattle.ca_cli.specs.RightAnswers.{IsReplyTo}
-use Rattle.ca_cli.proofs.laws.RightAnswers.{usage_says}
-use Rattle.ca_cli.proofs.theorems.usage_exactly.Goals as goal
-
-pub returns : goal.returns
-returns c words input out = (usage_says, (λ (none, line). record { reply = Reply.Usage; right = IsReplyTo.Usage none; status_is = refl; output_is = line }))
