@@ -6,8 +6,8 @@
 //! and from which the same words are read. The words of a class have sets of last nodes with the same closure, so this
 //! closure stands for the class.
 
-ghost use Rattle.std.specs.Prelude.{◌≡◌, ◌+◌, ◌*◌, ◌<◌, ◌≤◌, ℕ, length, slice_get, slice_index, vec_capacity, Some, IfOk};
-ghost use Rattle.word_image.specs.LocalRules.{LocalRule, IsRule, most_sets};
+ghost use Rattle.std.specs.Prelude.{◌≡◌, ◌+◌, ◌*◌, ◌^◌, ◌<◌, ◌≤◌, ℕ, length, slice_get, slice_index, vec_capacity, Some, IfOk};
+ghost use Rattle.word_image.specs.LocalRules.{LocalRule, IsRule, node_count, most_sets};
 ghost use Rattle.image_minimal.specs.ImageLanguages.{Automaton, IsLeastAutomaton};
 ghost use Rattle.image_minimal.specs.Closures.{AreClosures};
 ghost use Rattle.image_minimal.specs.Searches.{HasClasses};
@@ -36,15 +36,15 @@ pub struct Minimal {
 }
 
 impl Model for Minimal {
-    ghost use Rattle.std.specs.Prelude.{◌≤◌, vec_capacity};
-    ghost use Rattle.word_image.specs.LocalRules.{LocalRule, most_sets};
+    ghost use Rattle.std.specs.Prelude.{◌≡◌, ◌^◌, ◌≤◌, vec_capacity};
+    ghost use Rattle.word_image.specs.LocalRules.{LocalRule, node_count, most_sets};
     ghost use Rattle.image_minimal.specs.Searches.{HasClasses};
 
     ghost Value = { LocalRule };
 
     ghost view = { λ m. m.subsets };
 
-    ghost invariant = { λ m. HasClasses m.subsets m.closures.items m.classes × (most_sets ≤ vec_capacity m.closures) };
+    ghost invariant = { λ m. HasClasses m.subsets m.closures.items m.classes.sets × (m.classes.limit ≡ 2 ^ node_count m.subsets) × (most_sets ≤ vec_capacity m.closures) };
 }
 
 /// Computes the least automaton of this rule. The only error is lack of memory.
@@ -174,8 +174,9 @@ impl Minimal {
 /// Returns the number of the class for a set of last nodes. This is the class whose closure is the closure of the set.
 fn class_of(closures: &[u16], classes: &Listed, set: u16) -> u16
     requires set { set < length closures.now }
-    requires class { (j : ℕ) × (slice_get classes.now j ≡ Some (slice_index closures.now set)) }
-    ensures { (j : ℕ) → slice_get classes.now j ≡ Some (slice_index closures.now set) → result ≡ j }
+    requires limit { slice_index closures.now set < classes.now.limit }
+    requires class { (j : ℕ) × (slice_get classes.now.sets j ≡ Some (slice_index closures.now set)) }
+    ensures { (j : ℕ) → slice_get classes.now.sets j ≡ Some (slice_index closures.now set) → result ≡ j }
 {
     let class = classes.place(closures[usize::from(set)]);
     class.unwrap()
@@ -185,7 +186,8 @@ fn class_of(closures: &[u16], classes: &Listed, set: u16) -> u16
 /// sets.
 fn find(subsets: &Subsets, closures: &mut Vec<u16>, classes: &mut Listed)
     requires { most_sets ≤ vec_capacity closures.old }
-    ensures classes { HasClasses subsets.now closures.new.items classes.new }
+    ensures classes { HasClasses subsets.now closures.new.items classes.new.sets }
+    ensures limit { classes.new.limit ≡ 2 ^ node_count subsets.now }
     ensures capacity { most_sets ≤ vec_capacity closures.new }
 {
     find_closures(subsets.graph(), classes, closures);
@@ -196,9 +198,10 @@ fn find(subsets: &Subsets, closures: &mut Vec<u16>, classes: &mut Listed)
 /// the set of all nodes.
 fn search(subsets: &Subsets, closures: &[u16], classes: &mut Listed)
     requires { AreClosures subsets.now closures.now }
-    ensures { HasClasses subsets.now closures.now classes.new }
+    ensures classes { HasClasses subsets.now closures.now classes.new.sets }
+    ensures limit { classes.new.limit ≡ 2 ^ node_count subsets.now }
 {
-    classes.clear();
+    classes.clear(subsets.count());
     classes.insert(subsets.full());
     let mut place = 0;
     while place < classes.len() {

@@ -18,6 +18,7 @@ pub fn find_closures(graph: &Graph, unread: &mut Listed, closures: &mut Vec<u16>
     requires { most_sets ≤ vec_capacity closures.old }
     ensures closures { AreClosures graph.now closures.new.items }
     ensures capacity { most_sets ≤ vec_capacity closures.new }
+    ensures limit { unread.new.limit ≡ 2 ^ node_count graph.now }
 {
     find_unread(graph, unread);
     closures.clear();
@@ -27,7 +28,8 @@ pub fn find_closures(graph: &Graph, unread: &mut Listed, closures: &mut Vec<u16>
 
 /// Writes the closure of each set of nodes, given the list of the unread sets.
 fn write_closures(graph: &Graph, unread: &Listed, closures: &mut [u16])
-    requires unread { AreUnreadSets graph.now unread.now }
+    requires unread { AreUnreadSets graph.now unread.now.sets }
+    requires limit { unread.now.limit ≡ 2 ^ node_count graph.now }
     requires long { length closures.old ≡ 2 ^ node_count graph.now }
     ensures { AreClosures graph.now closures.new }
 {
@@ -61,9 +63,10 @@ fn closure_above(graph: &Graph, closures: &[u16], set: u16) -> u16
 
 /// Lists the unread sets, each of them once, in place of what the list had.
 fn find_unread(graph: &Graph, sets: &mut Listed)
-    ensures { AreUnreadSets graph.now sets.new }
+    ensures sets { AreUnreadSets graph.now sets.new.sets }
+    ensures limit { sets.new.limit ≡ 2 ^ node_count graph.now }
 {
-    sets.clear();
+    sets.clear(u32::from(graph.full()) + 1);
     sets.insert(0);
     let mut place = 0;
     while place < sets.len() {

@@ -18,7 +18,7 @@ loop-less-preserved c =
     let small : s < 2 ^ node_count r = omega (arith, c.full-all.ensures.set, pow_pos (node_count r)) in
     let here : IsClosure r s c.match-place.closure = elim c.match-place.branch [
       | in-Some w ↦
-          rw w.closure-is (IsClosure-unread ((c.requires.unread s).0 (Contains-slice_get c.args.unread.now _ s ((c.place.ensures _).0 w.in-Some.is))))
+          rw w.closure-is (IsClosure-unread ((c.requires.unread s).0 (Contains-slice_get c.args.unread.now.sets _ s ((c.place.ensures _).0 w.in-Some.is))))
       | in-None w ↦ rw w.closure-is w.closure_above-closure.ensures
     ] in
     let from : 2 ^ node_count r - c.loop-less.less ≡ s + 1 = omega (arith, c.full-all.ensures.set, inside) in

@@ -1,4 +1,4 @@
-use Rattle.image_minimal.proofs.Common.{◌≡◌, ◌+◌, ◌*◌, ◌^◌, [], ◌∷◌, ◌++◌, slice_index, nat_eq, Some, refl, sym, ap, ◌∙◌, subst, arith, slice_get, mul-le-mul_right, suc-mul, range_with_len, slice_get_read, node_count, TreeSpells-some, mapped_at, Link, IsJoin, link_place, IsLinkSearch, SpellsLink, set_count, vec_capacity, HasRows-tables, ◌<◌}
+use Rattle.image_minimal.proofs.Common.{◌≡◌, ◌+◌, ◌*◌, ◌^◌, [], ◌∷◌, ◌++◌, slice_index, nat_eq, Some, refl, sym, ap, ◌∙◌, subst, arith, slice_get, mul-le-mul_right, suc-mul, range_with_len, slice_get_read, slice_get_within, length, node_count, TreeSpells-some, mapped_at, Link, IsJoin, link_place, IsLinkSearch, SpellsLink, set_count, vec_capacity, HasRows-tables, ◌<◌}
 use Rattle.image_minimal.proofs.laws.LinkWords.{link-below}
 use Rattle.image_minimal.proofs.laws.Separations.{HaveSameOrphans-closed, Separates-conflict}
 use Rattle.image_minimal.proofs.Joins.{IsFalling-numbers}
@@ -48,6 +48,9 @@ loop-letter-init c =
       capacity = c.loop-place.invariant.capacity;
     }
 
+pub write_word-requires-clause-at : goal.write_word-requires-clause-at
+write_word-requires-clause-at c = let h = c.loop-letter.invariant.search in omega (arith, slice_get_within c.loop-letter.links.items c.loop-place.place h.link h.here, ap length c.deref.ensures.value)
+
 pub write_word-requires-clause-earlier : goal.write_word-requires-clause-earlier
 write_word-requires-clause-earlier c i x positive at =
     (c.loop-letter.invariant.search.search.fills.branches i (link_place x) positive (mapped_at link_place c.loop-letter.links.items i x (subst (λ l. slice_get l i ≡ Some x) c.deref.ensures.value at))).earlier
@@ -61,6 +64,14 @@ returns-then-s-t-clause-found c = λ _.
     let word = c.write_word.ensures.word way.0 (subst (λ l. SpellsLink l c.loop-place.place way.0) (sym c.deref.ensures.value) way.1) in
     rw word (Separates-conflict c.full.ensures.rule c.full-2.ensures.rule c.requires.states h.search way.1 h.here (omega arith) (h.first letter (omega arith)) (h.second letter (omega arith))
     (uneven (slice_index c.steps-firsts.result letter) (slice_index c.steps-seconds.result letter) c.if-s-t.true))
+
+pub join-requires-clause-first : goal.join-requires-clause-first
+join-requires-clause-first c = let h = c.loop-letter.invariant.search in omega (arith, h.search.long, (h.first c.loop-letter.letter (omega arith)).within, c.from.ensures)
+
+pub join-requires-clause-second : goal.join-requires-clause-second
+join-requires-clause-second c =
+    let h = c.loop-letter.invariant.search in
+    omega (arith, h.search.long, (h.second c.loop-letter.letter (omega arith)).within, c.from-in-loop-letter.ensures, c.count_sets-below.ensures.count)
 
 pub loop-letter-preserved : goal.loop-letter-preserved
 loop-letter-preserved c =

@@ -7,5 +7,5 @@ placed : (sets : List ℕ) (set : ℕ) (place : Option ℕ) → IsPlaceOf sets s
 placed sets set None at some = absurd (true≢false (sym some))
 placed sets set (Some i) at some = Contains-slice_get sets i set ((at i).0 refl)
 
-pub returns-else-is_none : goal.returns-else-is_none
-returns-else-is_none c = inl (refl, placed c.args.self.now c.args.set c.place.result c.place.ensures (c.is_none.ensures ∙ ap not c.if-is_none.false))
+pub returns-else-is_none-clause-sets : goal.returns-else-is_none-clause-sets
+returns-else-is_none-clause-sets c = inl (refl, placed c.args.self.now.sets c.args.set c.place.result c.place.ensures (c.is_none.ensures ∙ ap not c.if-is_none.false))
