@@ -1,21 +1,19 @@
 -- What a search through rows of sets of nodes has found: steps from one node at a time, and in the end whether the rule is surjective.
-use Rattle.std.proofs.Common.{◌≡◌, ◌≢◌, ℕ, ◌+◌, ◌-◌, ◌*◌, ◌%◌, ◌^◌, ◌<◌, ◌≤◌, inl, inr, ◌↔◌, List, length, Some, IsBitSet, bit_or, slice_index, slice_set, refl, sym, ap, ap₂, ◌∙◌, subst, subst₂, ⊎_elim, arith, mod-lt, lit<, bit_and}
-use Rattle.word_image.proofs.Common.{cases_eq, le_or_l, or_lt, LocalRule, IsRule, node_count, IsSurjective, next, label, pair_of, first_of, second_of, pair_count, HasBit, IsBitSet-zero, next-below, IsEnds, IsStep}
+use Rattle.std.proofs.Common.{◌≡◌, ◌≢◌, ℕ, ◌+◌, ◌-◌, ◌*◌, ◌%◌, ◌^◌, ◌<◌, ◌≤◌, inl, inr, ◌↔◌, List, length, Some, IsBitSet, bit_or, slice_index, slice_set, refl, sym, ap, ap₂, ◌∙◌, subst, ⊎_elim, arith, mod-lt, lit<, bit_and, below_more}
+use Rattle.word_image.proofs.Common.{cases_eq, le_or_l, or_lt, LocalRule, IsRule, node_count, IsSurjective, next, label, pair_of, first_of, second_of, pair_count, HasBit, next-below, IsEnds, IsStep}
 use Rattle.std.proofs.lemmas.List.{length-set}
-use Rattle.pair_laws.proofs.Common.{next-digits, row_cases, HasBit-or, IsBitSet-minus, IsBitSet-shl, first_of-pair_of, second_of-pair_of, first_of-below, second_of-below, follow-pair_of, follow-some, follow-below}
+use Rattle.pair_laws.proofs.Common.{next-digits, row_cases, HasBit-or, IsBitSet-minus, IsBitSet-shl, pair_of-below, first_of-pair_of, second_of-pair_of, first_of-below, second_of-below, follow-pair_of, follow-some}
 use Rattle.word_image.specs.declared.side.Side.TheVariants.{Right}
 use Rattle.garden_laws.specs.ReachedPairs.{IsReached}
 use Rattle.garden_laws.specs.ReachedPairs.IsReached.{First, On}
-use Rattle.garden_laws.proofs.ReachedPairs.{IsSurjective-reached, IsReached-below, holds-reached}
-use Rattle.eden_law.specs.ReachedRows.{LeadsApart, LeadsBeside, AreNodeRows, AreAdded, IsRowSearch}
+use Rattle.garden_laws.proofs.ReachedPairs.{IsSurjective-reached, holds-reached}
+use Rattle.eden_law.specs.ReachedRows.{LeadsApart, LeadsBeside, AreAdded, IsRowSearch}
 
--- with no letter nothing is added
-pub AreAdded-start : {r : LocalRule} {node : ℕ} (Has : ℕ → ℕ → Type 0) {rows : List ℕ} → AreNodeRows r rows → AreAdded r node Has 0 rows rows
-AreAdded-start Has h = record {
-  rows = h;
-  grown = λ u l. omega arith;
-  pairs = λ u v hu hv. (λ old. inl old, λ either. ⊎_elim (λ old. old) (λ new. absurd (omega (arith, new.1))) either);
-}
+-- if a property holds of the first n rows, and of a value at place i, it still holds of these rows after the value is written at i
+after_write : (P : ℕ → ℕ → Type 0) (rows : List ℕ) (i row n : ℕ) → i < length rows → P i row
+    → ((u : ℕ) → u < n → P u (slice_index rows u)) → (u : ℕ) → u < n → P u (slice_index (slice_set rows i row) u)
+after_write P rows i row n inside new old u l =
+    ⊎_elim (λ here. rw (here.1, here.0) new) (λ there. rw there.1 (old u l)) (row_cases rows i row u inside)
 
 -- one letter more is added
 pub AreAdded-step : {r : LocalRule} {node n : ℕ} {Has : ℕ → ℕ → Type 0} {old new : List ℕ} → IsRule r → (i set : ℕ) → AreAdded r node Has n old new → i ≡ next r node n → set < 2 ^ node_count r
@@ -28,21 +26,17 @@ AreAdded-step {r} {node} {n} {Has} {old} {new} rule i set h at small has =
     record {
       rows = record {
         long = length-set new i row ∙ h.rows.long;
-        within = λ u hu. ⊎_elim
-            (λ here. subst (λ x. x < 2 ^ node_count r) (sym here.1) (or_lt (node_count r) (slice_index new i) set (h.rows.within i below) small))
-            (λ there. subst (λ x. x < 2 ^ node_count r) (sym there.1) (h.rows.within u hu))
-            (row_cases new i row u inside);
+        within = after_write (λ u x. x < 2 ^ node_count r)
+            new i row (node_count r) inside (or_lt (node_count r) (slice_index new i) set (h.rows.within i below) small) h.rows.within;
       };
-      grown = λ u hu. ⊎_elim
-          (λ here. omega (arith, here.1, le_or_l (slice_index new i) set, h.grown u hu, ap (slice_index new) here.0))
-          (λ there. omega (arith, there.1, h.grown u hu))
-          (row_cases new i row u inside);
+      grown = after_write (λ u x. slice_index old u ≤ x)
+          new i row (node_count r) inside (omega (arith, le_or_l (slice_index new i) set, h.grown i below)) h.grown;
       pairs = λ u v hu hv.
           let before = h.pairs u v hu hv in
           let more = HasBit-or new i set inside u v in (
             (λ some. ⊎_elim
                 (λ (here, one). inr (n, omega arith, sym at ∙ sym here, (has v hv).0 one))
-                (λ o. ⊎_elim (λ first. inl first) (λ (a, l, e, one). inr (a, omega (arith, l), e, one)) (before.0 o))
+                (λ o. ⊎_elim inl (λ (a, l, e, one). inr (a, omega (arith, l), e, one)) (before.0 o))
                 (more.0 some)),
             (λ either. more.1 (⊎_elim
                 (λ o. inr (before.1 (inl o)))
@@ -96,19 +90,6 @@ LeadsBeside-set r node set a label_a others labelled h v hv = (
   (λ leads. (h.nodes v hv).1 (leads.other, leads.in_nodes, (leads.in_set, (leads.b, leads.letter, (sym leads.one_label ∙ sym labelled, leads.leads))))),
 )
 
--- at the beginning nothing was found
-pub IsRowSearch-start : {r : LocalRule} {rows : List ℕ} → AreNodeRows r rows → ((u : ℕ) → u < node_count r → slice_index rows u ≡ 0) → IsRowSearch r rows rows
-IsRowSearch-start {r} {rows} h none =
-    let empty : (u v : ℕ) → u < node_count r → ¬ HasBit rows u v = λ u v hu some. IsBitSet-zero v (subst (λ x. IsBitSet x v) (none u hu) some) in
-    record {
-      rows = h;
-      long = h.long;
-      behind = λ u l. omega arith;
-      reached = λ u v hu hv some. absurd (empty u v hu some);
-      apart = λ u hu some. empty u u hu some;
-      steps = λ u v a b hu hv some ha hb e. absurd (empty u v hu some);
-    }
-
 -- with the first pairs of one node more
 pub IsRowSearch-firsts : {r : LocalRule} {node : ℕ} {found followed new : List ℕ} → IsRule r → node < node_count r → IsRowSearch r found followed
     → AreAdded r node (LeadsApart r node) r.states found new → IsRowSearch r new followed
@@ -150,15 +131,12 @@ pub IsRowSearch-steps : {r : LocalRule} {node : ℕ} {found followed new : List 
     → ((a : ℕ) → a < r.states → ¬ LeadsBeside r node (slice_index found node) a (next r node a)) → IsRowSearch r new (slice_set followed node (slice_index found node))
 IsRowSearch-steps {r} {node} {found} {followed} {new} rule inside h added none =
     let row : ℕ = slice_index found node in
-    let few : node_count r ≤ 16 = rule.shape.most_nodes in
-    let written = λ (u : ℕ). row_cases followed node row u (omega (arith, h.long)) in
+    let here : node < length followed = omega (arith, h.long, rule.shape.most_nodes) in
     record {
       rows = added.rows;
       long = length-set followed node row ∙ h.long;
-      behind = λ u hu. ⊎_elim
-          (λ here. omega (arith, here.1, added.grown u hu, ap (slice_index found) here.0))
-          (λ there. omega (arith, there.1, h.behind u hu, added.grown u hu))
-          (written u);
+      behind = after_write (λ u x. x ≤ slice_index new u)
+          followed node row (node_count r) here (added.grown node inside) (λ u hu. omega (arith, h.behind u hu, added.grown u hu));
       reached = λ u v hu hv some. ⊎_elim
           (h.reached u v hu hv)
           (λ (a, ha, e, leads). subst (λ w. IsReached r (pair_of r w v)) e (IsReached-beside rule inside h a v ha leads))
@@ -167,23 +145,12 @@ IsRowSearch-steps {r} {node} {found} {followed} {new} rule inside h added none =
           (h.apart u hu)
           (λ (a, ha, e, leads). none a ha (subst (LeadsBeside r node row a) (sym e) leads))
           ((added.pairs u u hu hu).0 some);
-      steps = λ u v a b hu hv some ha hb e. ⊎_elim
-          (λ here. (added.pairs (next r u a) (next r v b) (next-below rule u a) (next-below rule v b)).1 (inr (
-            a,
-            ha,
-            ap (λ w. next r w a) (sym here.0),
-            record {
-              other = v;
-              b = b;
-              in_nodes = hv;
-              in_set = subst (λ x. IsBitSet x v) here.1 some;
-              letter = hb;
-              one_label = ap (λ w. label r w a) (sym here.0) ∙ e;
-              leads = refl;
-            },
-          )))
-          (λ there. HasBit-added added (next r u a) (next r v b) (next-below rule u a) (next-below rule v b) (h.steps u v a b hu hv (subst (λ x. IsBitSet x v) there.1 some) ha hb e))
-          (written u);
+      steps = λ u v a b hu hv some ha hb e. after_write
+          (λ u x. IsBitSet x v → label r u a ≡ label r v b → HasBit new (next r u a) (next r v b)) followed node row (node_count r) here
+          (λ some e. (added.pairs _ _ (next-below rule node a) (next-below rule v b)).1
+          (inr (a, ha, refl, record { other = v; b = b; in_nodes = hv; in_set = some; letter = hb; one_label = e; leads = refl })))
+          (λ u hu some e. HasBit-added added _ _ (next-below rule u a) (next-below rule v b) (h.steps u v a b hu hv some ha hb e))
+          u hu some e;
     }
 
 -- where a step leads to a pair of two equal nodes, the rule isn't surjective
@@ -200,45 +167,29 @@ HasFirsts r n rows = (u a b : ℕ) → u < n → a < r.states → b < r.states �
 
 -- the first pairs of one node more are in the rows, once they are added
 pub HasFirsts-added : {r : LocalRule} {node : ℕ} {found new : List ℕ} → IsRule r → HasFirsts r node found → AreAdded r node (LeadsApart r node) r.states found new → HasFirsts r (node + 1) new
-HasFirsts-added {r} {node} {found} {new} rule firsts added u a b hu ha hb other e =
-    let v : ℕ = next r u a in
-    let w : ℕ = next r u b in
-    let hv : v < node_count r = next-below rule u a in
-    let hw : w < node_count r = next-below rule u b in
-    ⊎_elim
-    (λ last. (added.pairs v w hv hw).1 (inr (
-      a,
-      ha,
-      ap (λ i. next r i a) (sym last),
-      record { b = b; letter = hb; different = other; one_label = ap (λ i. label r i a) (sym last) ∙ e ∙ ap (λ i. label r i b) last; leads = ap (λ i. next r i b) (sym last) },
-    )))
-    (λ less. HasBit-added added v w hv hw (firsts u a b (omega (arith, hu, less)) ha hb other e))
-    (cases_eq u node)
+HasFirsts-added {r} {node} {found} {new} rule firsts added u a b =
+    below_more (λ u. a < r.states → b < r.states → a ≢ b → label r u a ≡ label r u b → HasBit new (next r u a) (next r u b)) node
+    (λ u l ha hb other e. HasBit-added added _ _ (next-below rule u a) (next-below rule u b) (firsts u a b l ha hb other e))
+    (λ ha hb other e. (added.pairs _ _ (next-below rule node a) (next-below rule node b)).1
+    (inr (a, ha, refl, record { b = b; letter = hb; different = other; one_label = e; leads = refl })))
+    u
 
 -- once the first pairs of all nodes were found, and all steps from what was found were followed, it is
 pub IsSurjective-rows : {r : LocalRule} {found followed : List ℕ} → IsRule r → IsRowSearch r found followed → ((u : ℕ) → u < node_count r → slice_index followed u ≡ slice_index found u)
     → HasFirsts r (node_count r) found → IsSurjective r
 IsSurjective-rows {r} {found} {followed} rule h all firsts =
-    let Has : ℕ → Type 0 = λ p. HasBit found (first_of r p) (second_of r p) in
-    let pair : (u v : ℕ) → v < node_count r → HasBit found u v → Has (pair_of r u v) = λ u v hv some.
-    subst₂ (HasBit found) (sym (first_of-pair_of r u v hv)) (sym (second_of-pair_of r u v hv)) some in
-    let has : (p : ℕ) → IsReached r p → (p < pair_count r) × Has p = λ p reached. holds-reached (λ p. (p < pair_count r) × Has p)
-    (λ q first. (
-      IsReached-below rule (First q first),
-      subst Has (sym first.pair) (pair (next r first.node first.a) (next r first.node first.b) (next-below rule first.node first.b)
-          (firsts first.node first.a first.b first.in_nodes first.a_letter first.b_letter first.different first.one_label)),
-    ))
-    (λ q a b s here ha hb f.
+    let Has : ℕ → Type 0 = λ p. (p < pair_count r) × HasBit found (first_of r p) (second_of r p) in
+    let pair : (u v : ℕ) → u < node_count r → v < node_count r → HasBit found u v → Has (pair_of r u v) = λ u v hu hv some.
+    (pair_of-below r u v hu hv, rw (first_of-pair_of r u v hv, second_of-pair_of r u v hv) some) in
+    (IsSurjective-reached rule).1 (λ p reached same.
+    let here : Has p = holds-reached Has
+    (λ q first. rw first.pair (pair _ _ (next-below rule first.node first.a) (next-below rule first.node first.b)
+    (firsts first.node first.a first.b first.in_nodes first.a_letter first.b_letter first.different first.one_label)))
+    (λ q a b s there ha hb f.
     let u : ℕ = first_of r q in
     let v : ℕ = second_of r q in
-    let hu : u < node_count r = first_of-below rule q here.0 in
-    let edges = follow-some r q a b s f in (
-      follow-below rule q a b s f,
-      subst Has edges.1 (pair (next r u a) (next r v b) (next-below rule v b)
-          (h.steps u v a b hu (second_of-below rule q) (subst (λ x. IsBitSet x v) (sym (all u hu)) here.1) ha hb edges.0)),
-    ))
+    let hu : u < node_count r = first_of-below rule q there.0 in
+    let edges = follow-some r q a b s f in
+    subst Has edges.1 (pair _ _ (next-below rule u a) (next-below rule v b) (h.steps u v a b hu (second_of-below rule q) (rw (all u hu) there.1) ha hb edges.0)))
     reached in
-    (IsSurjective-reached rule).1 (λ p reached same.
-    let here = has p reached in
-    let u : ℕ = first_of r p in
-    h.apart u (first_of-below rule p here.0) (subst (HasBit found u) (sym same) here.1))
+    h.apart (first_of r p) (first_of-below rule p here.0) (subst (HasBit found (first_of r p)) (sym same) here.1))

@@ -1,10 +1,11 @@
 -- A list of different sets with a mark on each, one set more at a time, and emptied.
 use Rattle.std.proofs.Common.{◌≡◌, ◌≢◌, ℕ, ◌*◌, ◌/◌, ◌%◌, ◌^◌, ◌<◌, ◌≤◌, ◌↔◌, ◌⊎◌, inl, inr, List, [], ◌∷◌, ◌++◌, length, replicate, slice_index, slice_set, Contains, IsBitSet, bit_or, refl, sym, ap, ◌∙◌, subst, arith, ⊎_elim}
 use Rattle.std.proofs.lemmas.List.Quantifiers.{all_pairs_push}
+use Rattle.std.proofs.lemmas.List.Elements.{All-nil, All-push, All-contains}
 use Rattle.std.proofs.lemmas.Map.Made.{IsDistinct-from_AllPairs}
 use Rattle.std.proofs.lemmas.Map.Steps.{length-le_from_distinct_below}
 use Rattle.std.proofs.lemmas.Map.Views.{Contains-from_any}
-use Rattle.word_image.proofs.Common.{cases_eq, Decides-eqb, length_push, length-replicate, get_or_append_left, get_or_at, get_or_default, Contains-push, Contains-append_left, Contains-push_cases, one_shl, IsBitSet-pow}
+use Rattle.word_image.proofs.Common.{Decides-eqb, length_push, length-replicate, get_or_default, Contains-push, Contains-append_left, Contains-push_cases, one_shl, IsBitSet-pow}
 use Rattle.std.proofs.lemmas.List.{length-set}
 use Rattle.pair_laws.proofs.Common.{HasBit-or, HasBit-none}
 use Rattle.image_subsets.specs.Marks.{IsSetMarked}
@@ -14,32 +15,19 @@ use Rattle.image_subsets.specs.Masks.{AreMembers}
 pub AreMembers-none : (rows : List ℕ) → rows ≡ replicate 1024 0 → AreMembers [] rows
 AreMembers-none rows zeros = record {
   long = ap length zeros ∙ length-replicate {A = ℕ} 1024 0;
-  below = λ i less. absurd (omega (arith, less));
+  below = All-nil (λ s. s < 65536);
   apart = λ i j d less within. absurd (omega (arith, within));
-  marked = λ x small. (
-    (λ some. absurd (HasBit-none 1024 (x / 64) (x % 64) (subst (λ l. IsSetMarked l x) zeros some))),
-    (λ has. absurd (let within = has.1 in omega (arith, within))),
-  );
+  marked = λ x small. ((λ some. absurd (HasBit-none 1024 (x / 64) (x % 64) (rw (← zeros) some))), (λ has. absurd (omega (arith, has.1))));
 }
 
 -- rows with a mark more
-pub IsSetMarked-more : (rows : List ℕ) (set i v : ℕ) → i < length rows → i ≡ set / 64 → v ≡ set % 64 → (x : ℕ)
+IsSetMarked-more : (rows : List ℕ) (set i v : ℕ) → i < length rows → i ≡ set / 64 → v ≡ set % 64 → (x : ℕ)
     → IsSetMarked (slice_set rows i (bit_or (slice_index rows i) (1 * 2 ^ v % 2 ^ 64))) x ↔ ((x ≡ set) ⊎ IsSetMarked rows x)
 IsSetMarked-more rows set i v inside row bit x =
     let more = HasBit-or rows i (1 * 2 ^ v % 2 ^ 64) inside (x / 64) (x % 64) in
-    let narrow : v < 64 = omega (arith, bit) in
-    let mask : 1 * 2 ^ v % 2 ^ 64 ≡ 2 ^ v = one_shl v 64 narrow in
-    let one = IsBitSet-pow v (x % 64) in (
-      (λ some. ⊎_elim
-          (λ new.
-          let same = one.0 (subst (λ n. IsBitSet n (x % 64)) mask new.1) in
-          inl (omega (arith, new.0, same, row, bit)))
-          (λ old. inr old)
-          (more.0 some)),
-      (λ either. more.1 (⊎_elim
-          (λ same. inl (ap (λ y. y / 64) same ∙ sym row, subst (λ n. IsBitSet n (x % 64)) (sym mask) (one.1 (ap (λ y. y % 64) same ∙ sym bit))))
-          (λ old. inr old)
-          either)),
+    let one : IsBitSet (1 * 2 ^ v % 2 ^ 64) (x % 64) ↔ (x % 64 ≡ v) = rw (one_shl v 64 (omega (arith, bit))) (IsBitSet-pow v (x % 64)) in (
+      (λ some. ⊎_elim (λ (at, new). inl (omega (arith, at, one.0 new, row, bit))) (λ old. inr old) (more.0 some)),
+      (λ either. more.1 (⊎_elim (λ same. inl (omega (arith, same, row), one.1 (omega (arith, same, bit)))) (λ old. inr old) either)),
     )
 
 -- a new set is put in at the end
@@ -47,12 +35,7 @@ pub AreMembers-push : {sets rows : List ℕ} → AreMembers sets rows → (set i
     → AreMembers (sets ++ set ∷ []) (slice_set rows i (bit_or (slice_index rows i) (1 * 2 ^ v % 2 ^ 64)))
 AreMembers-push {sets} {rows} h set i v row bit small new = record {
   long = length-set rows i (bit_or (slice_index rows i) (1 * 2 ^ v % 2 ^ 64)) ∙ h.long;
-  below = λ k within. ⊎_elim
-      (λ same. subst (λ s. s < 65536) (sym (get_or_at sets set [] 0 k (sym same))) small)
-      (λ other.
-      let before : k < length sets = omega (arith, within, length_push sets set, other) in
-      subst (λ s. s < 65536) (sym (get_or_append_left sets (set ∷ []) 0 k before)) (h.below k before))
-      (cases_eq k (length sets));
+  below = All-push (λ s. s < 65536) sets set h.below small;
   apart = all_pairs_push (λ s t. s ≢ t) sets set h.apart (λ k d within same. new (k, within, get_or_default sets k set d within ∙ same));
   marked = λ x below.
       let more = IsSetMarked-more rows set i v (omega (arith, row, small, h.long)) row bit x in (
@@ -68,8 +51,7 @@ AreMembers-push {sets} {rows} h set i v row bit small new = record {
 length-masks-le : {sets rows : List ℕ} → AreMembers sets rows → length sets ≤ 65536
 length-masks-le {sets} h =
     length-le_from_distinct_below sets 65536 (IsDistinct-from_AllPairs Decides-eqb sets h.apart) (λ s any.
-    let (i, within, same) = Contains-from_any (λ x y same. (Decides-eqb x y).0 same) s sets any in
-    subst (λ z. z < 65536) (get_or_default sets i 0 s within ∙ same) (h.below i within))
+    All-contains (λ z. z < 65536) sets s h.below (Contains-from_any (λ x y same. (Decides-eqb x y).0 same) s sets any))
 
 -- before a new set is put in, there are fewer than all
 pub few_before_new : {sets rows : List ℕ} → AreMembers sets rows → (set : ℕ) → set < 65536 → ¬ Contains sets set → length sets < 65536

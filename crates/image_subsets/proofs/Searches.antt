@@ -2,16 +2,10 @@
 use Rattle.std.proofs.Common.{◌≡◌, ◌≢◌, ℕ, ◌+◌, ◌-◌, ◌*◌, ◌^◌, ◌<◌, ◌≤◌, List, [], ◌∷◌, ◌++◌, length, slice_index, Option, Some, None, MatchOption, Contains, false, refl, sym, ap, ◌∙◌, subst, subst₂, arith, ⊎_elim, slice_get, pow_mono}
 use Rattle.word_image.proofs.Common.{slice_get_within, slice_get-get_or, get_or_from_slice_get, get_or_append_left, length_push, Contains-push_cases, LocalRule, IsRule, node_count, full_set, IsStep, IsFamily, node_count_pos, slice_get-append, slice_get-push, slice_get-push_cases, only_place}
 use Rattle.std.proofs.lemmas.Nat.{pow_pos}
-use Rattle.search_laws.proofs.Common.{Place, states_of, mapped_at, IsSearch-start, IsSearch-there, IsSearch-new, search_place, search-below, length-search, IsSetOf-unique, IsFamily-closed, IsFamily-stopped}
-use Rattle.search_laws.proofs.Searches.{length-search-le as length-listed-le}
+use Rattle.search_laws.proofs.Common.{Place, states_of, mapped_at, IsSearch-start, IsSearch-there, IsSearch-new, search_place, search-below, length-search, length-search-le, IsSetOf-unique, IsFamily-closed, IsFamily-stopped}
 use Rattle.search_laws.proofs.LeastSteps.{parent-least}
 use Rattle.image_subsets.specs.FamilyTrees.{IsTree, IsLeastParent, IsFamilyTree}
 use Rattle.image_subsets.specs.Searches.{IsWay, IsTreeSearch, EndsEmpty, IsExpanded}
-
--- the place of a set that is listed
-set_place : {r : LocalRule} {sets : List ℕ} {parents : List (Option (ℕ × ℕ))} {e : ℕ} → (h : IsTreeSearch r sets parents e) → (i : ℕ) → i < length sets
-    → (x : Place ℕ) × (slice_get h.search.tree i ≡ Some x) × (x.state ≡ slice_index sets i)
-set_place {sets = sets} h i below = search_place h.search i (slice_index sets i) (slice_get-get_or sets i 0 below)
 
 -- the set that stands at a place
 state_at : {r : LocalRule} {sets : List ℕ} {parents : List (Option (ℕ × ℕ))} {e : ℕ} → (h : IsTreeSearch r sets parents e) → (i : ℕ) (x : Place ℕ) → slice_get h.search.tree i ≡ Some x
@@ -19,12 +13,6 @@ state_at : {r : LocalRule} {sets : List ℕ} {parents : List (Option (ℕ × ℕ
 state_at {sets = sets} h i x at =
     let there : slice_get sets i ≡ Some x.state = subst (λ l. slice_get l i ≡ Some x.state) h.search.lists (mapped_at (λ y. y.state) h.search.tree i x at) in
     (slice_get_within sets i x.state there, get_or_from_slice_get sets i x.state 0 there)
-
--- at the beginning the full set stands alone
-IsTreeSearch-start : (r : LocalRule) → IsTreeSearch r (full_set r ∷ []) (None ∷ []) 0
-IsTreeSearch-start r =
-    let search = IsSearch-start (IsStep r) r.states (full_set r) in
-    record { search = search; one_each = refl; ways = λ i way at. let only = only_place None way i at in subst (IsWay search.tree i) only.1 only.0 }
 
 -- a way stays one where places are added
 IsWay-more : (tree more : List (Place ℕ)) (i : ℕ) (way : Option (ℕ × ℕ)) → IsWay tree i way → IsWay (tree ++ more) i way
@@ -34,8 +22,9 @@ IsWay-more tree more i (Some (p, a)) (x, later, at, from, by) = (x, later, slice
 -- the full set alone is a search that has just begun, and it isn't empty
 pub IsExpanded-start : {r : LocalRule} → IsRule r → IsExpanded r (full_set r ∷ []) (None ∷ []) (0 * r.states) false
 IsExpanded-start {r} rule =
-    let none : 0 * r.states ≡ 0 = omega arith in (
-      subst (IsTreeSearch r (full_set r ∷ []) (None ∷ [])) (sym none) (IsTreeSearch-start r),
+    let none : 0 * r.states ≡ 0 = omega arith in
+    let search = IsSearch-start (IsStep r) r.states (full_set r) in (
+      rw none (record { search = search; one_each = refl; ways = λ i way at. let only = only_place None way i at in subst (IsWay search.tree i) only.1 only.0 }),
       λ has. ⊎_elim (λ before. omega (arith, before.1)) (λ empty. omega (arith, empty, pow_mono {i = 1} {j = node_count r} (node_count_pos rule)))
           (Contains-push_cases [] (full_set r) 0 has),
     )
@@ -45,13 +34,11 @@ pub set-below : {r : LocalRule} {sets : List ℕ} {parents : List (Option (ℕ �
 set-below {r} {sets} h i below =
     search-below h.search (2 ^ node_count r) (omega (arith, pow_pos (node_count r))) (λ s a t step. step.within) i (slice_index sets i) (slice_get-get_or sets i 0 below)
 
--- there are no more sets than subsets of the nodes
-pub length-subset_search-le : {r : LocalRule} {sets : List ℕ} {parents : List (Option (ℕ × ℕ))} {e : ℕ} → IsTreeSearch r sets parents e → length sets ≤ 2 ^ node_count r
-length-subset_search-le {r} h = length-listed-le h.search (2 ^ node_count r) (omega (arith, pow_pos (node_count r))) (λ s a t step. step.within)
-
 -- a search of the sets of at most 16 nodes has at most 65,536 sets
 pub length-search-most : {r : LocalRule} {sets : List ℕ} {parents : List (Option (ℕ × ℕ))} {e : ℕ} → IsRule r → IsTreeSearch r sets parents e → length sets ≤ 65536
-length-search-most {r} rule h = omega (arith, length-subset_search-le h, pow_mono {i = node_count r} {j = 16} rule.shape.most_nodes)
+length-search-most {r} rule h =
+    let few = length-search-le h.search (2 ^ node_count r) (omega (arith, pow_pos (node_count r))) (λ s a t step. step.within) in
+    omega (arith, few, pow_mono {i = node_count r} {j = 16} rule.shape.most_nodes)
 
 -- the parents of a search are the least ones
 IsLeastParent-search : {r : LocalRule} {sets : List ℕ} {parents : List (Option (ℕ × ℕ))} {e : ℕ} → IsTreeSearch r sets parents e
@@ -63,7 +50,7 @@ IsLeastParent-search {r} {sets} {parents} h i p a way =
     let branch = h.search.queue.fills.branches i x positive at in
     let from = state_at h x.parent branch.parent branch.stands in
     let least = λ (q b : ℕ) (less : q < length sets) (letter : b < r.states) (step : IsStep r (slice_index sets q) b set).
-    let (y, there, other) = set_place h q less in
+    let (y, there, other) = search_place h.search q (slice_index sets q) (slice_get-get_or sets q 0 less) in
     parent-least h.search.queue i q b x y positive at there letter (subst₂ (λ s t. IsStep r s b t) (sym other) (sym state) step) in
     subst₂ (λ q b. IsLeastParent r sets i q b) from_p by_a (record {
       earlier = branch.earlier;
@@ -140,13 +127,16 @@ pub record IsExpanding (r : LocalRule) (sets : List ℕ) (parents : List (Option
 head_at : {r : LocalRule} {sets : List ℕ} {parents : List (Option (ℕ × ℕ))} {h set n : ℕ} → IsExpanding r sets parents h set n → slice_get sets h ≡ Some set
 head_at {sets = sets} {h = h} x = slice_get-get_or sets h 0 x.within ∙ ap Some x.here
 
+-- the number of the edge after the edge of the letter n from place h
+edge : (h k n : ℕ) → h * k + (n + 1) ≡ h * k + n + 1
+edge h k n = omega arith
+
 -- the next step leads to a set that is there
 pub IsExpanding-there : {r : LocalRule} {sets : List ℕ} {parents : List (Option (ℕ × ℕ))} {h set n : ℕ} → IsExpanding r sets parents h set n
     → (after : ℕ) → n < r.states → IsStep r set n after → Contains sets after → IsExpanding r sets parents h set (n + 1)
 IsExpanding-there {r} {sets} {parents} {h} {set} {n} x after letter step has =
-    let edge : h * r.states + n + 1 ≡ h * r.states + (n + 1) = omega arith in
     record {
-      so_far = subst (IsTreeSearch r sets parents) edge (record {
+      so_far = rw (edge h r.states n) (record {
         search = IsSearch-there h n set x.so_far.search letter (head_at x) (λ t other. subst (Contains sets) (IsSetOf-unique step other) has);
         one_each = x.so_far.one_each;
         ways = x.so_far.ways;
@@ -160,11 +150,10 @@ IsExpanding-there {r} {sets} {parents} {h} {set} {n} x after letter step has =
 pub IsTreeSearch-expanding : {r : LocalRule} {sets : List ℕ} {parents : List (Option (ℕ × ℕ))} {h set n : ℕ} → IsExpanding r sets parents h set n
     → (after : ℕ) → n < r.states → IsStep r set n after → ¬ Contains sets after → IsTreeSearch r (sets ++ after ∷ []) (parents ++ Some (h, n) ∷ []) (h * r.states + (n + 1))
 IsTreeSearch-expanding {r} {sets} {parents} {h} {set} {n} x after letter step new =
-    let edge : h * r.states + n + 1 ≡ h * r.states + (n + 1) = omega arith in
     let old = x.so_far in
     let z : Place ℕ = record { state = after; parent = h; letter = n } in
     let tree = old.search.tree in
-    subst (IsTreeSearch r (sets ++ after ∷ []) (parents ++ Some (h, n) ∷ [])) edge (record {
+    rw (edge h r.states n) (record {
       search = IsSearch-new h n set after old.search letter (head_at x) step (λ t other. IsSetOf-unique other step) new;
       one_each = omega (arith, length_push parents (Some (h, n)), length_push sets after, old.one_each);
       ways = λ i way at. ⊎_elim

@@ -1,5 +1,5 @@
 -- Steps of sets, part by part, and the tables that are made of them.
-use Rattle.std.proofs.Common.{◌≡◌, ℕ, ◌+◌, ◌-◌, ◌*◌, ◌/◌, ◌%◌, ◌^◌, ◌<◌, List, [], ◌++◌, length, map, get_or, slice_index, min, inl, inr, bit_or, refl, sym, ap, ap₂, ◌∙◌, subst, subst₂, arith, ⊎_elim, pow_mono}
+use Rattle.std.proofs.Common.{◌≡◌, ℕ, ◌+◌, ◌-◌, ◌*◌, ◌/◌, ◌%◌, ◌^◌, ◌<◌, ◌≤◌, List, [], ◌++◌, length, map, get_or, slice_index, min, inl, inr, bit_or, refl, sym, ap, ap₂, ◌∙◌, subst, subst₂, arith, ⊎_elim, pow_mono}
 use Rattle.std.proofs.lemmas.Simd.{get_or-zip2, length-zip2}
 use Rattle.std.specs.Int.Bits.{or_shifted_r}
 use Rattle.std.specs.Simd.Lanes.{zip2}
@@ -81,27 +81,15 @@ AreSteps-double {r} {first} {count} {rows} rule h u ends last node wide leads =
           (cases_lt x (2 ^ count));
     }
 
--- the places of a set in the tables
+-- the lower eight bits of a set of n nodes are a row of the low table
 low_below : (n set : ℕ) → set < 2 ^ n → set % 256 < 2 ^ min 8 n
-low_below n set within = ⊎_elim
-    (λ few.
-    let all : min 8 n ≡ n = omega arith in
-    subst (λ i. set % 256 < 2 ^ i) (sym all) (omega (arith, within, mod-add-div set 256)))
-    (λ many.
-    let eight : min 8 n ≡ 8 = omega arith in
-    subst (λ i. set % 256 < 2 ^ i) (sym eight) (omega arith))
-    (cases_lt n 8)
+low_below n set within = grind (arith, cases_lt n 8)
 
+-- the other bits of a set of n nodes are a row of the high table
 high_below : (n set : ℕ) → set < 2 ^ n → set / 256 < 2 ^ (n - 8)
-high_below n set within = ⊎_elim
-    (λ few.
-    let none : n - 8 ≡ 0 = omega arith in
-    let small : set < 1 * 256 = omega (arith, within, pow_mono {i = n} {j = 8} (omega arith)) in
-    subst (λ i. set / 256 < 2 ^ i) (sym none) (div_below set 256 1 (omega arith) small))
-    (λ many.
-    let parts : 2 ^ n ≡ 2 ^ (n - 8) * 256 = ap (λ i. 2 ^ i) (omega arith) ∙ pow-add 2 (n - 8) 8 in
-    div_below set 256 (2 ^ (n - 8)) (omega arith) (subst (λ i. set < i) parts within))
-    (cases_lt n 8)
+high_below n set within =
+    let more : 2 ^ n ≤ 2 ^ (8 + (n - 8)) = pow_mono (omega arith) in
+    div_below set 256 (2 ^ (n - 8)) (omega arith) (omega (arith, within, more, pow-add 2 8 (n - 8)))
 
 -- the tables have rows for each set of nodes
 pub HasRows-tables : {r : LocalRule} {rows : Rows} → AreTables r rows → (set : ℕ) → set < 2 ^ node_count r → HasRows rows set

@@ -1,6 +1,6 @@
 //! A list of different sets of nodes, in the order in which they were inserted.
 
-ghost use Rattle.std.specs.Prelude.{◌≡◌, ◌≢◌, ◌<◌, ◌↔◌, AllPairs, List, ℕ, [], length, slice_index, Contains, IfOk, replicate};
+ghost use Rattle.std.specs.Prelude.{◌≡◌, ◌≢◌, ◌<◌, ◌↔◌, AllPairs, List, ℕ, [], length, slice_index, Contains, IfOk};
 ghost use Rattle.word_image.specs.LocalRules.{most_sets};
 ghost use Rattle.image_subsets.specs.Masks.{IsInserted};
 ghost use Rattle.image_subsets.specs.Marks.{IsSetMarked};
@@ -12,9 +12,6 @@ use word_image::MOST_NODES;
 
 /// The number of different sets of 16 nodes.
 pub const MOST_SETS: usize = 1 << MOST_NODES;
-
-/// The number of pieces in which rows are cleared.
-const PIECES: usize = 8;
 
 /// A list of different sets of nodes. Contracts treat it as the plain list of the sets. `new` allocates all memory.
 ///
@@ -46,7 +43,7 @@ impl Masks {
     {
         Ok(Masks {
             sets: Vec::with_capacity(alloc, MOST_SETS)?,
-            members: unmarked(alloc)?,
+            members: Vec::from_elem(alloc, 0, MOST_ROWS)?,
         })
     }
 
@@ -101,16 +98,4 @@ impl Masks {
         self.sets.push_reserved(set);
         true
     }
-}
-
-/// Allocates rows for all sets of sixteen nodes. No set is marked. The rows are cleared in pieces of 1 KB, since to clear
-/// more than 2 KB at once costs an instruction per byte.
-fn unmarked(alloc: Global) -> Result<Vec<u64>, AllocError>
-    ensures { IfOk result (λ rows. rows.items ≡ replicate MOST_ROWS 0) }
-{
-    let mut rows = Vec::with_capacity(alloc, MOST_ROWS)?;
-    for piece in 0..PIECES {
-        rows.resize(MOST_ROWS / PIECES * (piece + 1), 0)?;
-    }
-    Ok(rows)
 }

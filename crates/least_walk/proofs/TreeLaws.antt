@@ -1,8 +1,6 @@
 -- The tree of a search that has ended with all that is reached.
-use Rattle.std.proofs.Common.{append-nil, ◌≡◌, ◌≢◌, ℕ, ◌+◌, ◌*◌, ◌<◌, ◌≤◌, List, [], ◌∷◌, ◌++◌, length, map, reverse, Option, Some, None, slice_index, slice_set, sym, ap, ◌∙◌, subst, subst₂, arith, ⊎_elim, slice_get, IfSome, IfNone, All, Contains, slice_index_or}
-use Rattle.word_image.proofs.Common.{cases_eq, get_or-set_at, length-map, All-map, none-some, slice_get-get_or, slice_get_within, get_or_from_slice_get, LocalRule, IsRule, node_count, pair_count, marked, pairs_cmp, word_cmp, slice_get-unique}
-use Rattle.std.proofs.lemmas.List.{get_or-set_other}
-use Rattle.std.proofs.Math.Nat.{mul-le-mul_right}
+use Rattle.std.proofs.Common.{append-nil, ◌≡◌, ◌≢◌, ℕ, ◌*◌, ◌<◌, ◌≤◌, List, [], ◌∷◌, length, map, Option, Some, None, sym, ap, ◌∙◌, arith, slice_get, IfSome, IfNone, All, Contains, slice_index_or}
+use Rattle.word_image.proofs.Common.{length-map, All-map, none-some, slice_get-get_or, LocalRule, pair_count, marked, pairs_cmp, word_cmp, Contains-slice_get}
 use Rattle.search_laws.proofs.Common.{TreeSpells, mapped_at, TreeSpells-some, PairWalk-leads, ArePairs-walk, pairs_cmp-codes, codes-uncode, code, Leads-walk, PairWalk, IsLeastWalkTo, uncode}
 use Rattle.search_laws.proofs.LeastFirst.{IsLeastTo-spelled, reached_all}
 use Rattle.least_walk.specs.declared.queue.Reached.{Reached}
@@ -10,14 +8,7 @@ use Rattle.least_walk.specs.declared.breadth_first.Arrival.{Arrival}
 use Rattle.least_walk.specs.declared.breadth_first.Ends.{Ends}
 use Rattle.least_walk.specs.Queues.{places_of, place_of, SpellsBefore, IsWalking, IsEnded, IsArrival}
 use Rattle.least_walk.specs.Trees.{AreApart, IsWalkTree, pairs_of}
-use Rattle.least_walk.proofs.Walking.{place_at, reached_at, length-walking-le, length-walked, no_walk-edge, queued-below, all_followed}
-
--- marked pairs are below 512
-pub states-few : {r : LocalRule} → IsRule r → 2 * pair_count r ≤ 512
-states-few {r} rule =
-    let few : node_count r ≤ 16 = rule.shape.most_nodes in
-    let square : node_count r * node_count r ≤ 16 * node_count r = mul-le-mul_right (node_count r) few in
-    omega arith
+use Rattle.least_walk.proofs.Walking.{place_at, reached_at, IsListed, states-few, length-walking-le, length-walked, no_walk-edge, queued-below, all_followed}
 
 -- a search without a goal doesn't arrive
 pub ended : {r : LocalRule} {start : ℕ} {queue : List Reached} {most : ℕ} → (found : Option Arrival)
@@ -33,18 +24,6 @@ AreApart-walking {queue = queue} w = record {
   below = λ i x at. omega (arith, queued-below w i x at, states-few w.rule);
   apart = λ i j x y at there same. w.filled.apart i j (place_of x) (place_of y) (place_at queue i x at) (place_at queue j y there) same;
 }
-
--- one place more in the index
-pub index-next : (queue : List Reached) (places : List ℕ) (i : ℕ) (y : Reached) → AreApart queue → length places ≡ 512 → slice_get queue i ≡ Some y
-    → ((j : ℕ) (x : Reached) → j < i → slice_get queue j ≡ Some x → slice_index places x.pair ≡ j)
-    → (j : ℕ) (x : Reached) → j < i + 1 → slice_get queue j ≡ Some x → slice_index (slice_set places y.pair i) x.pair ≡ j
-index-next queue places i y apart long here before j x less at =
-    ⊎_elim
-    (λ same.
-    let alike : x ≡ y = slice_get-unique queue i x y (subst (λ n. slice_get queue n ≡ Some x) same at) here in
-    get_or-set_at places y.pair x.pair i 0 (ap (λ z. z.pair) alike) (omega (arith, apart.below i y here)) ∙ sym same)
-    (λ other. get_or-set_other places y.pair x.pair i 0 (λ same. other (apart.apart j i x y at here same)) ∙ before j x (omega (arith, other)) at)
-    (cases_eq j i)
 
 -- the steps to a place are the least walk to what stands there
 pub IsLeastWalkTo-spelled : {r : LocalRule} {ends : Ends} {queue : List Reached} {e i : ℕ} {w : List ℕ} → IsWalking r ends queue e → TreeSpells (places_of queue) i w
@@ -76,17 +55,20 @@ no_walk-absent {queue = queue} tree absent (ab ∷ w) short walk =
     absent j x stands (ap (λ p. p.state) alike ∙ state ∙ same))
     (ab ∷ w) (omega arith) short walk
 
--- with a bound of 512 what a walk leads to stands among them
-pub Contains-walk : {r : LocalRule} {start most t : ℕ} {queue : List Reached} {places : List ℕ} {w : List (ℕ × ℕ)} → IsWalkTree r start most queue places → 512 ≤ most → PairWalk (marked r) r.states start w t
-    → Contains (pairs_of queue) t
-Contains-walk {t = t} {queue = queue} {w = w} tree large walk =
+-- with a bound of 512 all marked pairs to which walks lead are in the queue
+walked : {r : LocalRule} {start most t : ℕ} {queue : List Reached} {places : List ℕ} {w : List (ℕ × ℕ)} → IsWalkTree r start most queue places → 512 ≤ most → PairWalk (marked r) r.states start w t → IsListed queue t
+walked {t = t} {queue = queue} {w = w} tree large walk =
     let walking = tree.ended.walking in
     let reached = reached_all walking.filled (all_followed large tree.ended) (map (code 16) w) t (Leads-walk 16 walking.rule.shape.most_states walk) in
-    let (x, at, alike) = reached_at queue reached.at reached.place reached.stands in (
-      reached.at,
-      omega (arith, slice_get_within queue reached.at x at, length-map queue (λ (y : Reached). y.pair)),
-      get_or_from_slice_get (map (λ (y : Reached). y.pair) queue) reached.at x.pair t (mapped_at (λ (y : Reached). y.pair) queue reached.at x at) ∙ ap (λ z. z.state) alike ∙ reached.of_state,
-    )
+    let (x, at, alike) = reached_at queue reached.at reached.place reached.stands in
+    (reached.at, x, at, ap (λ z. z.state) alike ∙ reached.of_state)
+
+-- with a bound of 512 all marked pairs to which walks lead are reached
+pub Contains-walk : {r : LocalRule} {start most t : ℕ} {queue : List Reached} {places : List ℕ} {w : List (ℕ × ℕ)} → IsWalkTree r start most queue places → 512 ≤ most → PairWalk (marked r) r.states start w t
+    → Contains (pairs_of queue) t
+Contains-walk {t = t} {queue = queue} tree large walk =
+    let (i, x, at, same) = walked tree large walk in
+    Contains-slice_get (pairs_of queue) i t (mapped_at (λ (y : Reached). y.pair) queue i x at ∙ ap Some same)
 
 -- each pair that a walk tree has reached is a marked pair
 pub All-pairs : {r : LocalRule} {start most : ℕ} {queue : List Reached} {places : List ℕ} → IsWalkTree r start most queue places → All (λ t. t < 2 * pair_count r) (pairs_of queue)
@@ -94,28 +76,17 @@ All-pairs {r} {queue = queue} tree =
     All-map (λ t. t < 2 * pair_count r) (λ (x : Reached). x.pair) queue
     (λ i d l. queued-below tree.ended.walking i (slice_index_or queue i d) (slice_get-get_or queue i d l))
 
--- with a bound of 512 no walk at all
+-- with a bound of 512 no walk at all leads to a marked pair that isn't in the queue
 pub no_walk-absent_all : {r : LocalRule} {start most t : ℕ} {queue : List Reached} {places : List ℕ} → IsWalkTree r start most queue places → ((i : ℕ) (x : Reached) → slice_get queue i ≡ Some x → x.pair ≢ t)
     → 512 ≤ most → (w : List (ℕ × ℕ)) → ¬ PairWalk (marked r) r.states start w t
-no_walk-absent_all {t = t} {queue} tree absent large w walk =
+no_walk-absent_all tree absent large w walk = let (i, x, at, same) = walked tree large walk in absent i x at same
+
+-- the steps that spell the way to a place, written before nothing, are the least walk to its pair, and at most as many as the bound
+pub IsLeastWalkTo-steps : {r : LocalRule} {start most : ℕ} {queue : List Reached} {places : List ℕ} {i : ℕ} {steps : List ℕ} → IsWalkTree r start most queue places
+    → (x : Reached) → slice_get queue i ≡ Some x → SpellsBefore queue i [] steps → IsLeastWalkTo (marked r) r.states start x.pair (map (uncode 16) steps) × (length steps ≤ most)
+IsLeastWalkTo-steps {i = i} tree x at (w, spells, whole) =
     let walking = tree.ended.walking in
-    let reached = reached_all walking.filled (all_followed large tree.ended) (map (code 16) w) t (Leads-walk 16 walking.rule.shape.most_states walk) in
-    let (x, at, alike) = reached_at queue reached.at reached.place reached.stands in
-    absent reached.at x at (ap (λ z. z.state) alike ∙ reached.of_state)
-
--- the steps that spell the way to a place, written before nothing, are the least walk to its pair
-pub IsLeastWalkTo-steps : {r : LocalRule} {start most : ℕ} {queue : List Reached} {places : List ℕ} {i : ℕ} {old steps : List ℕ} → IsWalkTree r start most queue places
-    → (x : Reached) (t : ℕ) → slice_get queue i ≡ Some x → x.pair ≡ t → old ≡ [] → SpellsBefore queue i old steps → IsLeastWalkTo (marked r) r.states start t (map (uncode 16) steps)
-IsLeastWalkTo-steps {r} {start} {steps = steps} tree x t at same none (w, spells, whole) =
-    let alone : steps ≡ w = whole ∙ ap (λ o. w ++ reverse o) none ∙ append-nil w in
-    subst₂ (λ u s. IsLeastWalkTo (marked r) r.states start u (map (uncode 16) s)) same (sym alone) (IsLeastWalkTo-spelled tree.ended.walking spells x at)
-
--- the steps to a place are at most as many as the bound
-pub length-steps : {r : LocalRule} {start most : ℕ} {queue : List Reached} {places : List ℕ} {i : ℕ} {old steps : List ℕ} → IsWalkTree r start most queue places
-    → (x : Reached) → slice_get queue i ≡ Some x → old ≡ [] → SpellsBefore queue i old steps → length steps ≤ most
-length-steps {i = i} {steps = steps} tree x at none (w, spells, whole) =
-    let alone : steps ≡ w = whole ∙ ap (λ o. w ++ reverse o) none ∙ append-nil w in
-    omega (arith, ap length alone, length-walked tree.ended.walking spells x at, tree.ended.near i x at)
+    rw (whole, append-nil w) (IsLeastWalkTo-spelled walking spells x at, omega (arith, length-walked walking spells x at, tree.ended.near i x at))
 
 -- the least walk to what stands at a place has as many steps as lead there, and no more than the bound
 pub steps-place : {r : LocalRule} {start most : ℕ} {queue : List Reached} {places : List ℕ} (i : ℕ) → IsWalkTree r start most queue places → (x : Reached) → slice_get queue i ≡ Some x

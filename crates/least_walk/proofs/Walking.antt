@@ -1,20 +1,16 @@
 -- A breadth first search through the marked pairs, one step more at a time.
-use Rattle.std.proofs.Common.{◌≡◌, ◌≢◌, ℕ, zero, suc, ◌+◌, ◌-◌, ◌*◌, ◌/◌, ◌%◌, ◌<◌, ◌≤◌, ◌↔◌, ◌⊎◌, inl, inr, List, [], ◌∷◌, ◌++◌, length, get_or, map, reverse, zero-mul, Option, Some, None, Bool, true, false, true≢false, refl, sym, ap, ap₂, ◌∙◌, subst, subst₂, arith, ⊎_elim, slice_get, ◌==◌}
+use Rattle.std.proofs.Common.{◌≡◌, ◌≢◌, ℕ, zero, suc, ◌+◌, ◌-◌, ◌*◌, ◌/◌, ◌%◌, ◌<◌, ◌≤◌, ◌↔◌, ◌⊎◌, inl, inr, List, [], ◌∷◌, ◌++◌, length, get_or, map, zero-mul, Option, Some, None, Bool, true, false, true≢false, refl, sym, ap, ◌∙◌, subst, subst₂, arith, ⊎_elim, slice_get, ◌==◌}
 use Rattle.std.specs.Option.{option_eq}
 use Rattle.word_image.proofs.Common.{cases_lt, Decides-eqb, map-append, length-map, length_push, slice_get_within, slice_get-get_or, get_or_from_slice_get, none-some, same_Some, LocalRule, IsRule, node_count, pair_count, marked, slice_get-append, slice_get-push, slice_get-push_cases, only_place}
-use Rattle.std.proofs.Math.Nat.{mul-le-mul_right, suc-mul}
-use Rattle.search_laws.proofs.Common.{Place, TreeSpells, IsQueue, NoEdgeBefore, Root, Branch, HaveMet-next, HaveMet-push, edge-within, IsQueue-start, IsQueue-there, IsQueue-new, mapped_at, unmapped_at, length-queue-le, state-below, letter_before, TreeSpells-some, length-spelled-le, uncode-code, code, Leads-walk, CodeStep-some, CodeStep-follows, IsLeastWalk-steps, no_walk, PairWalk, IsLeastWalk, uncode}
-use Rattle.search_laws.proofs.LeastSteps.{IsLeastStepsTo, IsLeastStepsTo-edge, no_steps_to}
+use Rattle.std.proofs.Math.Nat.{mul-le-mul_right}
+use Rattle.search_laws.proofs.Common.{Place, TreeSpells, NoEdgeBefore, Root, Branch, HaveMet-next, HaveMet-push, edge-within, IsQueue-start, IsQueue-there, IsQueue-new, mapped_at, unmapped_at, length-queue-le, state-below, TreeSpells-some, length-spelled-le, code, Leads-walk, CodeStep-some, IsLeastWalk-steps, PairWalk, IsLeastWalk, uncode}
+use Rattle.search_laws.proofs.LeastSteps.{IsLeastStepsTo, IsLeastStepsTo-edge}
 use Rattle.search_laws.proofs.QueueDepths.{AreDepths, depths-ascending, no_word_within}
 use Rattle.pair_laws.proofs.Common.{marked-below}
 use Rattle.least_walk.specs.declared.queue.Reached.{Reached}
 use Rattle.least_walk.specs.declared.breadth_first.Ends.{Ends}
 use Rattle.least_walk.specs.Marks.{HasPair}
-use Rattle.least_walk.specs.Queues.{MarkedStep, step_count, place_of, places_of, HasDepths, IsWalking, IsWalkSearch, IsEnded, IsArrival, IsNearStart, IsOldBut, IsBackward, SpellsBefore}
-
--- the places of a longer queue
-places_of-push : (queue : List Reached) (x : Reached) → places_of (queue ++ x ∷ []) ≡ places_of queue ++ place_of x ∷ []
-places_of-push queue x = map-append place_of queue (x ∷ [])
+use Rattle.least_walk.specs.Queues.{MarkedStep, step_count, place_of, places_of, HasDepths, IsWalking, IsWalkSearch, IsEnded, IsArrival, IsNearStart, IsBackward, SpellsBefore}
 
 -- what stands at a place stands there as a place
 pub place_at : (queue : List Reached) (i : ℕ) (x : Reached) → slice_get queue i ≡ Some x → slice_get (places_of queue) i ≡ Some (place_of x)
@@ -31,44 +27,35 @@ MarkedStep-below rule s c t step = marked-below rule s (c / 16) (c % 16) t step.
 MarkedStep-unique : (r : LocalRule) (s c t u : ℕ) → MarkedStep r s c t → MarkedStep r s c u → t ≡ u
 MarkedStep-unique r s c t u first second = let here = first.follows in let there = second.follows in cc
 
+-- there are at most 512 marked pairs
+pub states-few : {r : LocalRule} → IsRule r → 2 * pair_count r ≤ 512
+states-few {r} rule = omega (arith, rule.shape.most_nodes, mul-le-mul_right (node_count r) rule.shape.most_nodes)
+
 -- there are no more places than marked pairs
 pub length-walking-le : {r : LocalRule} {ends : Ends} {queue : List Reached} {e : ℕ} → IsWalking r ends queue e → length queue ≤ 512
 length-walking-le {r} {queue = queue} w =
-    let few : node_count r ≤ 16 = w.rule.shape.most_nodes in
-    let square : node_count r * node_count r ≤ 16 * node_count r = mul-le-mul_right (node_count r) few in
-    omega (arith, length-queue-le w.filled (2 * pair_count r) w.start_in (MarkedStep-below w.rule), length-map queue place_of)
-
--- the start alone is a search
-pub IsWalking-start : {r : LocalRule} {ends : Ends} → IsRule r → ends.start < 2 * pair_count r
-    → (x : Reached) → x.pair ≡ ends.start → x.depth ≡ 0 → IsWalking r ends (x ∷ []) 0
-IsWalking-start {r} {ends} rule start x at none = record {
-  rule = rule;
-  start_in = start;
-  filled = IsQueue-start (place_of x) at;
-  depths = record {
-    root = λ y there. ap (λ z. z.depth) (sym (only_place x y 0 there).1) ∙ none;
-    more = λ i y some there. absurd (omega (arith, some, (only_place x y i there).0));
-  };
-  none = λ t sought i a u y there letter less step. absurd (omega (arith, less));
-}
+    omega (arith, states-few w.rule, length-queue-le w.filled (2 * pair_count r) w.start_in (MarkedStep-below w.rule), length-map queue place_of)
 
 -- a marked pair has been reached
 abbrev pub IsListed : List Reached → ℕ → Type 0
 IsListed queue t = (i : ℕ) × (x : Reached) × (slice_get queue i ≡ Some x) × (x.pair ≡ t)
 
+-- the number of the edge after the edge n from place h
+edge : (h k n : ℕ) → h * k + (n + 1) ≡ h * k + n + 1
+edge h k n = omega arith
+
 -- a search stays one where one more edge leads nowhere, or to what has been reached and isn't the goal
 pub IsWalking-old : {r : LocalRule} {ends : Ends} {queue : List Reached} → (h n : ℕ) → IsWalking r ends queue (h * step_count r + n) → (x : Reached) → slice_get queue h ≡ Some x → n < step_count r
     → ((t : ℕ) → MarkedStep r x.pair n t → (ends.goal ≢ Some t) × IsListed queue t) → IsWalking r ends queue (h * step_count r + (n + 1))
 IsWalking-old {r} {ends} {queue} h n w x at letter old =
-    let more : h * step_count r + n + 1 ≡ h * step_count r + (n + 1) = omega arith in
     let there = place_at queue h x at in
     record {
       rule = w.rule;
       start_in = w.start_in;
-      filled = subst (IsQueue (MarkedStep r) (step_count r) ends.start (places_of queue)) more
+      filled = rw (edge h (step_count r) n)
           (IsQueue-there w.filled h n (place_of x) refl letter there (λ t step. let (i, y, here, same) = (old t step).1 in (i, place_of y, place_at queue i y here, same)));
       depths = w.depths;
-      none = λ t sought. subst (λ e. NoEdgeBefore (MarkedStep r) (step_count r) (places_of queue) e t) more
+      none = λ t sought. rw (edge h (step_count r) n)
           (HaveMet-next (MarkedStep r) (λ u _. u ≢ t) (step_count r) (places_of queue) (h * step_count r + n) h n (place_of x) (w.none t sought) refl letter there
           (λ u step same. (old u step).0 (sought ∙ ap Some (sym same))));
     }
@@ -103,71 +90,38 @@ pub IsWalking-new : {r : LocalRule} {ends : Ends} {queue : List Reached} → (h 
     → y.parent ≡ h → y.step ≡ n → y.depth ≡ x.depth + 1 → MarkedStep r x.pair n y.pair → ends.goal ≢ Some y.pair → ¬ IsListed queue y.pair
     → IsWalking r ends (queue ++ y ∷ []) (h * step_count r + (n + 1))
 IsWalking-new {r} {ends} {queue} h n w x y at letter parent by deeper step other new =
-    let more : h * step_count r + n + 1 ≡ h * step_count r + (n + 1) = omega arith in
     let there = place_at queue h x at in
-    let longer = places_of-push queue y in
+    let longer = map-append place_of queue (y ∷ []) in
     record {
       rule = w.rule;
       start_in = w.start_in;
-      filled = subst₂ (IsQueue (MarkedStep r) (step_count r) ends.start) (sym longer) more
+      filled = rw (longer, edge h (step_count r) n)
           (IsQueue-new w.filled h n (place_of x) (place_of y) refl letter there parent by step (λ t also. MarkedStep-unique r x.pair n t y.pair also step)
           (λ j z here same. let (x', there', alike) = reached_at queue j z here in new (j, x', there', ap (λ p. p.state) alike ∙ same)));
       depths = HasDepths-push w.depths x y (ap (slice_get queue) parent ∙ at) deeper;
-      none = λ t sought. subst₂ (λ (tree : List (Place ℕ)) (e : ℕ). NoEdgeBefore (MarkedStep r) (step_count r) tree e t) (sym longer) more
+      none = λ t sought. rw (longer, edge h (step_count r) n)
           (HaveMet-push (MarkedStep r) (λ u _. u ≢ t) (step_count r) (places_of queue) (h * step_count r + n + 1) (place_of y)
           (HaveMet-next (MarkedStep r) (λ u _. u ≢ t) (step_count r) (places_of queue) (h * step_count r + n) h n (place_of x) (w.none t sought) refl letter there
           (λ u also same. other (sought ∙ ap Some (sym same ∙ MarkedStep-unique r x.pair n u y.pair also step))))
           (omega (arith, edge-within (step_count r) (places_of queue) h (n + 1) (place_of x) there (omega arith))));
     }
 
--- what has been reached stays so
-IsListed-push : (queue : List Reached) (y : Reached) (t : ℕ) → IsListed queue t → IsListed (queue ++ y ∷ []) t
-IsListed-push queue y t (i, x, at, same) = (i, x, slice_get-append queue (y ∷ []) i x at, same)
-
--- what has been reached, but for the goal, is in the rows
-listed_in_rows : {r : LocalRule} {ends : Ends} {queue : List Reached} {rows : List ℕ} {e : ℕ} → IsWalkSearch r ends queue rows e → (t : ℕ) → ends.goal ≢ Some t → IsListed queue t → HasPair r rows t
-listed_in_rows {r} {rows = rows} s t other (i, x, at, same) = subst (HasPair r rows) same (s.all i x at (λ e. other (e ∙ ap Some same)))
-
 -- what a search has reached is a marked pair
 pub queued-below : {r : LocalRule} {ends : Ends} {queue : List Reached} {e : ℕ} → IsWalking r ends queue e → (i : ℕ) (x : Reached) → slice_get queue i ≡ Some x → x.pair < 2 * pair_count r
 queued-below {r} {queue = queue} w i x at =
     state-below w.filled (2 * pair_count r) w.start_in (MarkedStep-below w.rule) i (place_of x) (place_at queue i x at)
 
--- the steps with first letter a, from second letter b on, lead to nothing that the rows don't have
-pub IsWalkSearch-rest : {r : LocalRule} {ends : Ends} {queue : List Reached} {rows : List ℕ} → (h a b : ℕ) → IsWalkSearch r ends queue rows (h * step_count r + (a * 16 + b)) → (x : Reached) → slice_get queue h ≡ Some x
-    → a < r.states → b ≤ 16 → ((c t : ℕ) → b ≤ c → c < r.states → marked r x.pair a c ≡ Some t → HasPair r rows t) → IsWalkSearch r ends queue rows (h * step_count r + (a + 1) * 16)
-IsWalkSearch-rest {r} {ends} {queue} {rows} h a b s x at letter small old =
-    let more : h * step_count r + (a * 16 + b + (16 - b)) ≡ h * step_count r + (a + 1) * 16 = omega arith in
-    record {
-      walking = subst (IsWalking r ends queue) more (IsWalking-skip h (a * 16 + b) (16 - b) s.walking x at (omega arith) (λ c t least less step.
-          let place : a * 16 + (c - a * 16) ≡ c = omega arith in
-          let parts = uncode-code 16 a (c - a * 16) (omega arith) in
-          let first : c / 16 ≡ a = ap (λ z. z / 16) (sym place) ∙ parts.0 in
-          let second : c % 16 ≡ c - a * 16 = ap (λ z. z % 16) (sym place) ∙ parts.1 in
-          let below : c % 16 < r.states = step.second in
-          let leads : marked r x.pair a (c - a * 16) ≡ Some t = ap₂ (marked r x.pair) (sym first) (sym second) ∙ step.follows in
-          let in_rows = old (c - a * 16) t (omega arith) (omega arith) leads in
-          s.listed t (MarkedStep-below s.walking.rule x.pair c t step) in_rows));
-      listed = s.listed;
-      all = s.all;
-    }
-
--- the next step leads to nothing that the rows don't have
-pub IsWalkSearch-old : {r : LocalRule} {ends : Ends} {queue : List Reached} {rows : List ℕ} → (h a b : ℕ) → IsWalkSearch r ends queue rows (h * step_count r + (a * 16 + b)) → (x : Reached) → slice_get queue h ≡ Some x
-    → a < r.states → b < r.states → ((t : ℕ) → marked r x.pair a b ≡ Some t → HasPair r rows t) → IsWalkSearch r ends queue rows (h * step_count r + (a * 16 + (b + 1)))
-IsWalkSearch-old {r} {ends} {queue} {rows} h a b s x at first second old =
-    let states : r.states ≤ 16 = s.walking.rule.shape.most_states in
-    let more : h * step_count r + (a * 16 + b + 1) ≡ h * step_count r + (a * 16 + (b + 1)) = omega arith in
-    record {
-      walking = subst (IsWalking r ends queue) more (IsWalking-old h (a * 16 + b) s.walking x at (omega arith)
-          (λ t step. s.listed t (MarkedStep-below s.walking.rule x.pair (a * 16 + b) t step) (old t (CodeStep-follows a b (omega arith) step))));
-      listed = s.listed;
-      all = s.all;
-    }
-
--- the step on two letters
-pub MarkedStep-letters : {r : LocalRule} → IsRule r → (s a b t : ℕ) → a < r.states → b < r.states → marked r s a b ≡ Some t → MarkedStep r s (a * 16 + b) t
-MarkedStep-letters {r} rule s a b t first second leads = CodeStep-some (marked r) r.states 16 s a b t rule.shape.most_states first second leads
+-- some more steps on the first letter a, from the second letter b on, lead to nothing that the rows don't have
+pub IsWalkSearch-skip : {r : LocalRule} {ends : Ends} {queue : List Reached} {rows : List ℕ} → (h a b d n : ℕ) → IsWalkSearch r ends queue rows (h * step_count r + (a * 16 + b)) → (x : Reached) → slice_get queue h ≡ Some x
+    → a < r.states → b + d ≤ 16 → n ≡ a * 16 + b + d → ((c t : ℕ) → b ≤ c → c < b + d → c < r.states → marked r x.pair a c ≡ Some t → HasPair r rows t) → IsWalkSearch r ends queue rows (h * step_count r + n)
+IsWalkSearch-skip {r} h a b d n s x at letter small reach old = record {
+  walking = rw reach (IsWalking-skip h (a * 16 + b) d s.walking x at (omega arith) (λ c t least less step.
+      let parts : (c / 16 ≡ a) × (c % 16 ≡ c - a * 16) = (omega arith, omega arith) in
+      let leads : marked r x.pair a (c - a * 16) ≡ Some t = rw (← parts.1, ← parts.0) step.follows in
+      s.listed t (MarkedStep-below s.walking.rule x.pair c t step) (old (c - a * 16) t (omega arith) (omega arith) (omega (arith, step.second, parts.1)) leads)));
+  listed = s.listed;
+  all = s.all;
+}
 
 -- the next step leads to a marked pair that the rows don't have and that isn't the goal
 pub IsWalkSearch-new : {r : LocalRule} {ends : Ends} {queue : List Reached} {rows : List ℕ} → (h a b : ℕ) → IsWalkSearch r ends queue rows (h * step_count r + (a * 16 + b)) → (x y : Reached) → slice_get queue h ≡ Some x
@@ -176,41 +130,40 @@ pub IsWalkSearch-new : {r : LocalRule} {ends : Ends} {queue : List Reached} {row
     → IsWalkSearch r ends (queue ++ y ∷ []) after (h * step_count r + (a * 16 + (b + 1)))
 IsWalkSearch-new {r} {ends} {queue} {rows} h a b s x y at first second parent by deeper leads other new after more_rows =
     let rule = s.walking.rule in
-    let states : r.states ≤ 16 = rule.shape.most_states in
-    let step = MarkedStep-letters rule x.pair a b y.pair first second leads in
+    let step = CodeStep-some (marked r) r.states 16 x.pair a b y.pair rule.shape.most_states first second leads in
     let below = MarkedStep-below rule x.pair (a * 16 + b) y.pair step in
-    let more : h * step_count r + (a * 16 + b + 1) ≡ h * step_count r + (a * 16 + (b + 1)) = omega arith in
+    let more : a * 16 + (b + 1) ≡ a * 16 + b + 1 = omega arith in
     record {
-      walking = subst (IsWalking r ends (queue ++ y ∷ [])) more
-          (IsWalking-new h (a * 16 + b) s.walking x y at (omega arith) parent by deeper step other (λ listed. new (listed_in_rows s y.pair other listed)));
+      walking = rw more (IsWalking-new h (a * 16 + b) s.walking x y at (omega (arith, rule.shape.most_states, first, second)) parent by deeper step other
+          (λ (j, z, there, same). new (subst (HasPair r rows) same (s.all j z there (λ e. other (e ∙ ap Some same))))));
       listed = λ t inside some. ⊎_elim
           (λ same. (λ e. other (e ∙ ap Some same), (length queue, y, slice_get-push queue y, sym same)))
-          (λ old. let before = s.listed t inside old in (before.0, IsListed-push queue y t before.1))
+          (λ old. let (apart, (j, z, there, same)) = s.listed t inside old in (apart, (j, z, slice_get-append queue (y ∷ []) j z there, same)))
           ((more_rows t inside).0 some);
       all = λ i z there apart. ⊎_elim
-          (λ before.
-          let in_rows = s.all i z before apart in
-          (more_rows z.pair (queued-below s.walking i z before)).1 (inr in_rows))
-          (λ last. (more_rows z.pair (subst (λ w. w.pair < 2 * pair_count r) last.1 below)).1 (inl (ap (λ w. w.pair) (sym last.1))))
+          (λ before. (more_rows z.pair (queued-below s.walking i z before)).1 (inr (s.all i z before apart)))
+          (λ last. let same = ap (λ w. w.pair) last.1 in (more_rows z.pair (omega (arith, same, below))).1 (inl (sym same)))
           (slice_get-push_cases queue y i z there);
     }
-
--- what leads to nothing new still does where the rows have more and the place is the same
-pub IsOldBut-more : {r : LocalRule} → IsRule r → (queue longer : List Reached) (rows after : List ℕ) (h a letters : ℕ) → IsOldBut r queue rows h a letters → slice_get longer h ≡ slice_get queue h
-    → ((t : ℕ) → t < 2 * pair_count r → HasPair r rows t → HasPair r after t) → IsOldBut r longer after h a letters
-IsOldBut-more rule queue longer rows after h a letters old same more x b q at letter absent leads =
-    more q (marked-below rule x.pair a b q leads) (old x b q (sym same ∙ at) letter absent leads)
 
 -- the start alone, which counts as reached unless it is the goal
 pub IsWalkSearch-start : {r : LocalRule} {ends : Ends} → IsRule r → ends.start < 2 * pair_count r → (x : Reached) → x.pair ≡ ends.start → x.depth ≡ 0 → (rows : List ℕ)
     → ((t : ℕ) → t < 2 * pair_count r → (HasPair r rows t ↔ ((t ≡ ends.start) × (ends.goal ≢ Some ends.start)))) → IsWalkSearch r ends (x ∷ []) rows (0 * step_count r)
 IsWalkSearch-start {r} {ends} rule start x at none rows exact = record {
-  walking = subst (IsWalking r ends (x ∷ [])) (sym (zero-mul (step_count r))) (IsWalking-start rule start x at none);
+  walking = rw (zero-mul (step_count r)) (record {
+    rule = rule;
+    start_in = start;
+    filled = IsQueue-start (place_of x) at;
+    depths = record {
+      root = λ y there. ap (λ z. z.depth) (sym (only_place x y 0 there).1) ∙ none;
+      more = λ i y some there. absurd (omega (arith, some, (only_place x y i there).0));
+    };
+    none = λ t sought i a u y there letter less step. absurd (omega (arith, less));
+  });
   listed = λ t inside some. let (same, apart) = (exact t inside).0 some in ((λ e. apart (e ∙ ap Some same)), (0, x, refl, at ∙ sym same));
   all = λ i y there apart.
-      let alike : x ≡ y = (only_place x y i there).1 in
-      let same : y.pair ≡ ends.start = ap (λ z. z.pair) (sym alike) ∙ at in
-      (exact y.pair (subst (λ t. t < 2 * pair_count r) (sym same) start)).1 (same, (λ e. apart (e ∙ ap Some (sym same))));
+      let same : y.pair ≡ ends.start = ap (λ z. z.pair) (sym (only_place x y i there).1) ∙ at in
+      (exact y.pair (omega (arith, same, start))).1 (same, (λ e. apart (e ∙ ap Some (sym same))));
 }
 
 -- the test whether the goal is this marked pair
@@ -218,14 +171,6 @@ pub goal-tells : (goal : Option ℕ) (q : ℕ) (b : Bool) → b ≡ option_eq (�
 goal-tells None q b e = (λ yes. absurd (true≢false (sym yes ∙ e)), λ no same. none-some q same)
 goal-tells (Some x) q b e =
     let test = Decides-eqb x q in (λ yes. ap Some (test.0 (sym e ∙ yes)), λ no same. true≢false (sym (test.1 (same_Some x q same)) ∙ sym e ∙ no))
-
--- all first letters from a place are done
-pub IsWalkSearch-next : {r : LocalRule} {ends : Ends} {queue : List Reached} {rows : List ℕ} (h a : ℕ) → a ≡ r.states → IsWalkSearch r ends queue rows (h * step_count r + a * 16) → IsWalkSearch r ends queue rows ((h + 1) * step_count r)
-IsWalkSearch-next {r} {ends} {queue} {rows} h a all s =
-    let one : a * 16 ≡ step_count r = ap (λ z. z * 16) all in
-    let next : suc h * step_count r ≡ (h + 1) * step_count r = ap (λ i. i * step_count r) (omega arith) in
-    let more : h * step_count r + a * 16 ≡ (h + 1) * step_count r = omega (arith, suc-mul h (step_count r)) in
-    subst (IsWalkSearch r ends queue rows) more s
 
 -- a search that has reached a place leads back from it
 pub IsBackward-walking : {r : LocalRule} {ends : Ends} {queue : List Reached} {e : ℕ} → IsWalking r ends queue e → IsBackward queue
@@ -256,18 +201,16 @@ length-spelled : {tree : List (Place ℕ)} {depth : ℕ → ℕ} → AreDepths t
 length-spelled d _ _ Root = sym d.root
 length-spelled d _ _ (Branch i x w some at spells) = length_push w x.letter ∙ ap (λ n. n + 1) (length-spelled d x.parent w spells) ∙ sym (d.more i x some at)
 
+-- the word that is spelled to a place has as many letters as steps lead there
+pub length-walked : {r : LocalRule} {ends : Ends} {queue : List Reached} {e i : ℕ} {w : List ℕ} → IsWalking r ends queue e → TreeSpells (places_of queue) i w
+    → (x : Reached) → slice_get queue i ≡ Some x → length w ≡ x.depth
+length-walked {queue = queue} {i = i} {w = w} walking spells x at = length-spelled (AreDepths-queue walking) i w spells ∙ depth_at-place queue i x at
+
 -- fewer than 512 steps lead to a place, since there are at most 512 places
 pub depth-below : {r : LocalRule} {ends : Ends} {queue : List Reached} {e : ℕ} → IsWalking r ends queue e → (i : ℕ) (x : Reached) → slice_get queue i ≡ Some x → x.depth < 512
 depth-below {queue = queue} w i x at =
     let (v, spells) = TreeSpells-some w.filled.fills i (place_of x) (place_at queue i x at) in
-    omega (
-      arith,
-      length-spelled-le w.filled.fills spells,
-      length-spelled (AreDepths-queue w) i v spells,
-      depth_at-place queue i x at,
-      slice_get_within queue i x at,
-      length-walking-le w,
-    )
+    omega (arith, length-spelled-le w.filled.fills spells, length-walked w spells x at, slice_get_within queue i x at, length-walking-le w)
 
 -- later places are no nearer
 pub deeper : {r : LocalRule} {ends : Ends} {queue : List Reached} {e : ℕ} → IsWalking r ends queue e
@@ -293,16 +236,10 @@ near-all {r} {ends} {queue} {most} h w near (suc i) x at =
     (cases_lt x.parent h) in
     omega (arith, near x.parent p before stands, further)
 
--- the word that is spelled to a place has as many letters as steps lead there
-pub length-walked : {r : LocalRule} {ends : Ends} {queue : List Reached} {e i : ℕ} {w : List ℕ} → IsWalking r ends queue e → TreeSpells (places_of queue) i w
-    → (x : Reached) → slice_get queue i ≡ Some x → length w ≡ x.depth
-length-walked {queue = queue} {i = i} {w = w} walking spells x at = length-spelled (AreDepths-queue walking) i w spells ∙ depth_at-place queue i x at
-
 -- the steps to the place where a search arrives, and the last one, are the least walk
 pub IsLeastWalk-arrival : {r : LocalRule} {ends : Ends} {queue : List Reached} {place step goal : ℕ} {steps : List ℕ} → IsArrival r ends queue place step → ends.goal ≡ Some goal
     → SpellsBefore queue place (step ∷ []) steps → IsLeastWalk (marked r) r.states ends.start goal (map (uncode 16) steps)
-IsLeastWalk-arrival {r} {ends} {queue} {place} {step} {goal} {steps} a sought spelled =
-    let (w, spells, whole) = spelled in
+IsLeastWalk-arrival {r} {ends} {queue} {place} {step} {goal} a sought (w, spells, whole) =
     let one : a.goal ≡ goal = same_Some a.goal goal (sym a.sought ∙ sought) in
     let first = IsLeastStepsTo-edge a.walking.filled spells (place_of a.from) (place_at queue place a.from a.stands) step a.letters refl a.goal (a.walking.none a.goal a.sought) a.arrives in
     IsLeastWalk-steps a.walking.rule.shape.most_states (subst₂ (IsLeastStepsTo (MarkedStep r) (step_count r) ends.start) one (sym whole) first)
@@ -310,15 +247,8 @@ IsLeastWalk-arrival {r} {ends} {queue} {place} {step} {goal} {steps} a sought sp
 -- the walk to where a search arrives has at most one step more than the place is away
 pub length-arrival : {r : LocalRule} {ends : Ends} {queue : List Reached} {place step most : ℕ} {steps : List ℕ} → IsArrival r ends queue place step → IsNearStart queue place most
     → SpellsBefore queue place (step ∷ []) steps → length steps ≤ most
-length-arrival {queue = queue} {place} {step} a near (w, spells, whole) =
-    omega (
-      arith,
-      near a.from a.stands,
-      depth_at-place queue place a.from a.stands,
-      length-spelled (AreDepths-queue a.walking) place w spells,
-      length_push w step,
-      ap length whole,
-    )
+length-arrival {step = step} a near (w, spells, whole) =
+    omega (arith, near a.from a.stands, length-walked a.walking spells a.from a.stands, length_push w step, ap length whole)
 
 -- a search that stops at places `most` steps away, and found no edge to a marked pair, has not missed a walk of at most `most` steps to it
 pub no_walk-edge : {r : LocalRule} {ends : Ends} {queue : List Reached} {most goal : ℕ} → (x : IsEnded r ends queue most) → NoEdgeBefore (MarkedStep r) (step_count r) (places_of queue) x.edges goal
@@ -333,11 +263,6 @@ no_walk-edge {r} {ends} {queue} {most} {goal} x none w some short walk =
     none (map (code 16) w) (omega (arith, length-map w (code 16))) (omega (arith, length-map w (code 16)))
     (Leads-walk 16 x.walking.rule.shape.most_states walk)
 
--- no walk of as few steps as the bound leads to the goal of an ended search
-pub no_walk-ended : {r : LocalRule} {ends : Ends} {queue : List Reached} {most goal : ℕ} → IsEnded r ends queue most → ends.goal ≡ Some goal
-    → (w : List (ℕ × ℕ)) → 0 < length w → length w ≤ most → ¬ PairWalk (marked r) r.states ends.start w goal
-no_walk-ended {goal = goal} x sought = no_walk-edge x (x.walking.none goal sought)
-
 -- with a bound of 512 an ended search has followed all edges
 pub all_followed : {r : LocalRule} {ends : Ends} {queue : List Reached} {most : ℕ} → 512 ≤ most → (x : IsEnded r ends queue most) → length (places_of queue) * step_count r ≤ x.edges
 all_followed {r} {ends} {queue} large x =
@@ -350,15 +275,3 @@ all_followed {r} {ends} {queue} large x =
     (cases_lt x.head (length queue)) in
     let rows : length queue * step_count r ≤ x.head * step_count r = mul-le-mul_right (step_count r) all in
     omega (arith, rows, ap (λ n. n * step_count r) (length-map queue place_of), x.followed)
-
--- with a bound of 512 an ended search shows that no walk at all leads to its goal
-pub no_walk-all : {r : LocalRule} {ends : Ends} {queue : List Reached} {most goal : ℕ} → IsEnded r ends queue most → ends.goal ≡ Some goal → 512 ≤ most
-    → (w : List (ℕ × ℕ)) → 0 < length w → ¬ PairWalk (marked r) r.states ends.start w goal
-no_walk-all {goal = goal} x sought large =
-    no_walk 16 goal x.walking.rule.shape.most_states (no_steps_to x.walking.filled (all_followed large x) goal (x.walking.none goal sought))
-
--- the steps behind a place, and the step to it, are the steps behind the place of its parent
-pub SpellsBefore-parent : (queue : List Reached) (at i : ℕ) (x : Reached) (old steps longer : List ℕ) → 0 < i → slice_get queue i ≡ Some x → longer ≡ steps ++ x.step ∷ []
-    → ((w : List ℕ) → TreeSpells (places_of queue) i w → SpellsBefore queue at old (w ++ reverse steps)) → (w : List ℕ) → TreeSpells (places_of queue) x.parent w → SpellsBefore queue at old (w ++ reverse longer)
-SpellsBefore-parent queue at i x old steps longer positive here more completes w spells =
-    subst (SpellsBefore queue at old) (letter_before w steps longer x.step more) (completes (w ++ x.step ∷ []) (Branch i (place_of x) w positive (place_at queue i x here) spells))

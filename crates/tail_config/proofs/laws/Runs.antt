@@ -1,6 +1,6 @@
 -- The runs of letters of a configuration, and their images.
 use Rattle.std.proofs.Common.{◌≡◌, ℕ, suc, ◌+◌, ◌-◌, ◌<◌, ◌≤◌, List, [], ◌∷◌, ◌++◌, length, take, drop, get_or, slice_range, ℤ, pos, ◌+ℤ◌, refl, sym, ap, ap₂, ◌∙◌, arith, length-drop, take-append-drop, length-take, get_or-take, get_or-drop}
-use Rattle.word_image.proofs.Common.{range_with_len, ints, length-map-range_with_len, map-range_with_len_more, get_or-map-range_with_len, fill_by_all, All-map, LocalRule, IsRule, IsWord, local_map, image, HaveOneImage, image-by_letters}
+use Rattle.word_image.proofs.Common.{range_with_len, ints, length-map-range_with_len, map-range_with_len_more, take-map-range_with_len, get_or-map-range_with_len, fill_by_all, All-map, LocalRule, IsRule, IsWord, local_map, image, HaveOneImage, image-by_letters}
 use Rattle.tail_config.specs.Configs.{Config, IsConfig, run, image_of}
 
 -- a run of n letters has n letters
@@ -35,9 +35,7 @@ slice_range-run x i j n a b l e =
 
 -- the first letters of a run are a run
 pub take-run : (x : Config) (i : ℤ) (n a : ℕ) → a ≤ n → take a (run x i n) ≡ run x i a
-take-run x i n a l =
-    run-by_letters x i a (take a (run x i n)) (omega (arith, length-take a (run x i n), length-run x i n))
-    (λ c h. get_or-take a (run x i n) c 0 h ∙ get_or-run x i _ n c (omega arith) refl)
+take-run x i n a l = take-map-range_with_len (λ b. x (i +ℤ pos b)) 0 n a l
 
 -- what is left of a run is a run
 pub drop-run : (x : Config) (i j : ℤ) (a n : ℕ) → i +ℤ pos a ≡ j → drop a (run x i (a + n)) ≡ run x j n

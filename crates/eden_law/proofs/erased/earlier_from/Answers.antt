@@ -1,8 +1,8 @@
-use Rattle.std.proofs.Common.{◌≡◌, ℕ, ◌+◌, ◌-◌, ◌*◌, ◌<◌, ◌≤◌, List, ◌++◌, length, map, sym, ap, ap₂, ◌∙◌, subst, subst₂, arith, MatchOption}
-use Rattle.word_image.proofs.Common.{div_below, LocalRule, IsRule, word_of, node_count, first_of, second_of, pair_of, pair_count, marked}
+use Rattle.std.proofs.Common.{◌≡◌, ℕ, ◌+◌, ◌*◌, ◌<◌, ◌≤◌, List, length, map, sym, ap, ap₂, ◌∙◌, subst, arith}
+use Rattle.std.proofs.Math.Nat.{add-mul, one-mul}
+use Rattle.word_image.proofs.Common.{div_below, LocalRule, IsRule, node_count, first_of, second_of, pair_count, marked}
 use Rattle.search_laws.proofs.Common.{PairWalk, IsLeastWalkTo, uncode}
 use Rattle.pair_laws.proofs.Common.{first_of-pair_of, second_of-pair_of, pair_of-below}
-use Rattle.least_walk.specs.Trees.{WalkSource}
 use Rattle.eden_law.specs.Erasures.{IsErasure}
 use Rattle.tail_laws.proofs.Common.{IsLeastOf, IsFirstFound, IsFirstFound-next}
 use Rattle.eden_law.proofs.LeastErasures.{start_of, goal_of, erasure_letters, IsLeastOf-walk, IsFirstFound-within}
@@ -27,38 +27,35 @@ loop-to-preserved c =
     let below : p < pair_count r = pair_of-below r u v c.requires.node hv in
     let first : first_of r p ≡ u = first_of-pair_of r u v hv in
     let second : second_of r p ≡ v = second_of-pair_of r u v hv in
-    let start : c.pair_of.result ≡ start_of r p = c.pair_of.ensures.pair ∙ ap₂ (λ (s : LocalRule) n. pair_of s n n) same (sym first) in
+    let start : c.pair_of.result ≡ start_of r p = rw first (rw same at c.pair_of.ensures.pair) in
     let end : c.pair_of-in-loop-to.result + c.count-count.result ≡ goal_of r p =
-    ap₂ (λ q n. q + n) (c.pair_of-in-loop-to.ensures.pair ∙ ap₂ (λ (s : LocalRule) n. pair_of s n n) same (sym second)) c.count-count.ensures.count in
-    let tree = c.limited-walks.ensures in
+    ap₂ (λ q n. q + n) (rw second (rw same at c.pair_of-in-loop-to.ensures.pair)) c.count-count.ensures.count in
     subst (λ n. IsFirstFound (IsErasure r) n c.match-walk_to.first) (omega arith)
     (elim c.match-walk_to.branch [
       | in-Some w ↦
           let walk : List ℕ = w.in-Some.walk in
           let least : IsLeastWalkTo (marked r) r.states (start_of r p) (goal_of r p) (map (uncode 16) walk) =
-          subst₂ (λ s t. IsLeastWalkTo (marked r) r.states s t (map (uncode 16) walk)) start end
-          (subst (λ (s : WalkSource). IsLeastWalkTo (marked s.rule) s.rule.states s.start (c.pair_of-in-loop-to.result + c.count-count.result) (map (uncode 16) walk)) tree w.in-Some.ensures.walk) in
+          rw (c.limited-walks.ensures, start, end) at w.in-Some.ensures.walk in
           let bytes : map (uncode 16) w.behind_node-steps.result ≡ erasure_letters r p (map (uncode 16) walk) =
-          ap (map (uncode 16)) (w.behind_node-steps.ensures ∙ ap (λ l. map (λ a. 16 * a + a) (word_of c.rule-rule.result.now.states (c.rule-rule.result.now.width - 1) u) ++ l) w.as_slice.ensures.letters ∙ ap₂ (λ (s : LocalRule) n. map (λ a. 16 * a + a) (word_of s.states (s.width - 1) n) ++ walk) same (sym first)) ∙ uncode-node rule below walk in
+          rw (w.behind_node-steps.ensures, w.as_slice.ensures.letters, same, first) (uncode-node rule u c.requires.node walk) in
           subst (IsFirstFound (IsErasure r) (p + 1)) (sym w.first-is)
           (IsFirstFound-next (λ q abs l e. ArePairs-erasure rule (omega (arith, l, below)) e) c.loop-to.first w.behind_node-steps.result w.earlier.result w.earlier.ensures c.loop-to.invariant
           (subst (IsLeastOf (IsErasure r) p) (sym bytes) (IsLeastOf-walk least)))
       | in_default w ↦
-          let goal : ℕ = c.pair_of-in-loop-to.result + c.count-count.result in
+          let earlier : (q : ℕ) → q < u * node_count r → first_of r q < first_of r p =
+          λ q less. rw first (div_below q (node_count r) u (omega (arith, hv)) less) in
+          let none : (v : List (ℕ × ℕ)) → length v ≤ c.most_steps-most.result → ¬ PairWalk (marked r) r.states (start_of r p) v (goal_of r p) =
+          rw (c.limited-walks.ensures, start, end) at w.in_default.ensures.walk in
+          let all : 512 ≤ c.most_steps-most.result → (v : List (ℕ × ℕ)) → ¬ PairWalk (marked r) r.states (start_of r p) v (goal_of r p) =
+          rw (c.limited-walks.ensures, start, end) at w.in_default.ensures.all in
           subst (IsFirstFound (IsErasure r) (p + 1)) (sym w.first-is)
-          (IsFirstFound-within c.args.before c.loop-to.first rule below (omega arith)
-          (λ q less. subst (λ n. first_of r q < n) (sym first) (div_below q (node_count r) u (omega (arith, hv)) less))
-          (subst (λ (s : LocalRule). MatchOption c.args.before (c.most_steps-most.result ≡ 512) (λ steps. c.most_steps-most.result ≡ length steps - s.width)) same c.most_steps-most.ensures)
-          c.requires.before c.loop-to.invariant
-          (subst₂ (λ s t. (v : List (ℕ × ℕ)) → length v ≤ c.most_steps-most.result → ¬ PairWalk (marked r) r.states s v t) start end
-          (subst (λ (s : WalkSource). (v : List (ℕ × ℕ)) → length v ≤ s.most → ¬ PairWalk (marked s.rule) s.rule.states s.start v goal) tree w.in_default.ensures.walk))
-          (subst₂ (λ s t. 512 ≤ c.most_steps-most.result → (v : List (ℕ × ℕ)) → ¬ PairWalk (marked r) r.states s v t) start end
-          (subst (λ (s : WalkSource). 512 ≤ s.most → (v : List (ℕ × ℕ)) → ¬ PairWalk (marked s.rule) s.rule.states s.start v goal) tree w.in_default.ensures.all)))
+          (IsFirstFound-within c.args.before c.loop-to.first rule below (omega arith) earlier (rw same at c.most_steps-most.ensures) c.requires.before c.loop-to.invariant none all)
     ])
 
 pub returns : goal.returns
 returns c =
     let r : LocalRule = c.args.pairs.now in
     let nodes = c.nodes-to-end.ensures.nodes ∙ ap node_count c.rule-rule.ensures in
-    let all : c.loop-to.to ≡ node_count r = omega (arith, c.loop-to-test.false, nodes, c.loop-to.auto.to-end) in
-    subst (λ n. IsFirstFound (IsErasure r) n c.loop-to.first) (ap (λ n. c.args.node * node_count r + n) all ∙ omega arith) c.loop-to.invariant
+    let all : c.args.node * node_count r + c.loop-to.to ≡ (c.args.node + 1) * node_count r =
+    grind (arith, add-mul, one-mul, nodes) in
+    rw all at c.loop-to.invariant

@@ -1,11 +1,7 @@
 use Rattle.std.proofs.Common.{ℕ, ◌-◌, ◌*◌, ◌%◌, ◌^◌, ◌<◌, bit_and, ◌∙◌, arith}
 use Rattle.word_image.proofs.Common.{and_le_l, LocalRule, IsRule}
-use Rattle.eden_law.proofs.ReachedRows.{AreAdded-start, AreAdded-step, LeadsApart-set}
-use Rattle.eden_law.specs.ReachedRows.{LeadsApart}
+use Rattle.eden_law.proofs.ReachedRows.{AreAdded-step, LeadsApart-set}
 use Rattle.eden_law.proofs.surjective.add_firsts.Goals as goal
-
-pub loop-a-init : goal.loop-a-init
-loop-a-init c = AreAdded-start (LeadsApart c.args.graph.now c.args.node) c.requires.rows
 
 pub loop-a-preserved : goal.loop-a-preserved
 loop-a-preserved c =

@@ -1,20 +1,8 @@
-use Rattle.std.proofs.Common.{◌≡◌, ℕ, ◌<◌, ◌≤◌, replicate, slice_index, refl, subst, arith}
-use Rattle.word_image.proofs.Common.{get_or-replicate, LocalRule, IsRule, node_count, next-below}
-use Rattle.std.proofs.lemmas.Nat.{pow_pos}
+use Rattle.std.proofs.Common.{◌≡◌, refl, arith}
+use Rattle.word_image.proofs.Common.{IsRule, node_count, next-below}
 use Rattle.garden_laws.proofs.Preinjective.{IsSurjective-injective, IsSurjective-right_closing, IsSurjective-left_closing}
-use Rattle.eden_law.proofs.ReachedRows.{IsRowSearch-start, IsRowSearch-firsts, HasFirsts, HasFirsts-added, IsSurjective-rows}
+use Rattle.eden_law.proofs.ReachedRows.{IsRowSearch-firsts, HasFirsts-added, IsSurjective-rows}
 use Rattle.eden_law.proofs.surjective.is_surjective.Goals as goal
-
-pub loop-node-init : goal.loop-node-init
-loop-node-init c =
-    let rule : IsRule c.args.graph.now = c.nodes-node-end.ensures.rule in
-    let few : node_count c.args.graph.now ≤ 16 = rule.shape.most_nodes in
-    let none : (u : ℕ) → u < node_count c.args.graph.now → slice_index (replicate 16 0) u ≡ 0 = λ u l. get_or-replicate 16 u 0 0 (omega arith) in
-    record {
-      search = IsRowSearch-start (record { long = refl; within = λ u l. omega (arith, none u l, pow_pos (node_count c.args.graph.now)) }) none;
-      all = λ u l. refl;
-      firsts = λ u a b l. absurd (omega arith);
-    }
 
 pub follow_all-requires : goal.follow_all-requires
 follow_all-requires c =
@@ -41,6 +29,7 @@ loop-node-preserved c =
 
 pub returns-clause-surjective : goal.returns-clause-surjective
 returns-clause-surjective c =
-    let r : LocalRule = c.args.graph.now in
-    let all : c.loop-node.node ≡ node_count r = omega (arith, c.loop-node-test.false, c.loop-node.auto.node-end, c.nodes-node-end.ensures.nodes) in
-    (λ yes. IsSurjective-rows c.nodes-node-end.ensures.rule c.loop-node.invariant.search c.loop-node.invariant.all (subst (λ n. HasFirsts r n c.loop-node.found) all c.loop-node.invariant.firsts), λ every. refl)
+    let all : c.loop-node.node ≡ node_count c.args.graph.now =
+    omega (arith, c.loop-node-test.false, c.loop-node.auto.node-end, c.nodes-node-end.ensures.nodes) in
+    let here = c.loop-node.invariant in
+    (λ yes. IsSurjective-rows c.nodes-node-end.ensures.rule here.search here.all (rw all at here.firsts), λ every. refl)

@@ -1,10 +1,10 @@
 use Rattle.std.proofs.Common.{◌*◌, length, refl, subst, arith}
 use Rattle.image_subsets.specs.Marks.{AreMarksTo}
-use Rattle.image_subsets.proofs.MarkSpreads.{AreMarksTo-start, AreMarksTo-next, AreAbove-all}
+use Rattle.image_subsets.proofs.MarkSpreads.{AreMarksTo-start, AreMarksTo-next}
 use Rattle.image_subsets.proofs.marks.mark_above.Goals as goal
 
 pub loop-u-init : goal.loop-u-init
-loop-u-init c = record { long = refl; marks = λ sets listed. AreMarksTo-start listed }
+loop-u-init c = record { long = refl; marks = λ sets listed. AreMarksTo-start sets c.args.n c.args.rows.now listed }
 
 pub loop-u-preserved : goal.loop-u-preserved
 loop-u-preserved c =
@@ -17,5 +17,4 @@ loop-u-preserved c =
 
 pub returns : goal.returns
 returns c sets listed =
-    AreAbove-all sets c.args.n c.loop-u.rows
-    (subst (λ m. AreMarksTo sets c.args.n m c.loop-u.rows) (omega (arith, c.loop-u.auto.u-end, c.loop-u-test.false)) (c.loop-u.invariant.marks sets listed))
+    subst (λ m. AreMarksTo sets c.args.n m c.loop-u.rows) (omega (arith, c.loop-u.auto.u-end, c.loop-u-test.false)) (c.loop-u.invariant.marks sets listed)

@@ -1,16 +1,7 @@
-use Rattle.std.proofs.Common.{◌↔◌, ◌⊎◌, inl, inr, refl, subst, arith, ⊎_elim}
+use Rattle.std.proofs.Common.{inl, inr, subst, arith, ⊎_elim}
 use Rattle.word_image.proofs.Common.{cases_eq}
-use Rattle.image_subsets.specs.Marks.{IsSetMarked, HoldsWithout, HoldsSmaller}
+use Rattle.image_subsets.specs.Marks.{HoldsWithout}
 use Rattle.image_subsets.proofs.marks.mark_beyond.Goals as goal
-
-pub loop-u-init : goal.loop-u-init
-loop-u-init c = record {
-  long = refl;
-  marks = λ x inside. (
-    (λ marked. inl marked),
-    (λ either. ⊎_elim (λ marked. marked) (λ none. absurd (let less = none.1 in omega (arith, less))) either),
-  );
-}
 
 pub loop-u-preserved : goal.loop-u-preserved
 loop-u-preserved c =
@@ -33,7 +24,3 @@ loop-u-preserved c =
                 either)),
           );
     }
-
-pub returns : goal.returns
-returns c x inside =
-    subst (λ m. IsSetMarked c.loop-u.rows x ↔ (IsSetMarked c.args.rows.now x ⊎ HoldsSmaller c.args.others.now m x)) (omega (arith, c.loop-u.auto.u-end, c.loop-u-test.false)) (c.loop-u.invariant.marks x inside)

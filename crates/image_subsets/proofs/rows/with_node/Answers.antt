@@ -1,6 +1,5 @@
-use Rattle.std.proofs.Common.{◌≡◌, ℕ, ◌+◌, ◌-◌, ◌*◌, ◌%◌, ◌^◌, ◌<◌, ◌↔◌, slice_index, IsBitSet, bit_and, sym, subst, arith}
+use Rattle.std.proofs.Common.{◌≡◌, ℕ, ◌+◌, ◌-◌, ◌*◌, ◌%◌, ◌^◌, ◌<◌, ◌↔◌, slice_index, IsBitSet, sym, subst, arith}
 use Rattle.word_image.proofs.Common.{one_shl, bit_set_by_shift, pow_below}
-use Rattle.image_subsets.specs.declared.rows.TheConstants.{WITH_LOW_NODE}
 use Rattle.image_subsets.specs.Marks.{HoldsWithout}
 use Rattle.image_subsets.proofs.RowMarks.{pow-le, with_low_node, with_high_node, with_no_node}
 use Rattle.image_subsets.proofs.rows.with_node.Goals as goal
@@ -18,28 +17,22 @@ overflow_sub-result-then-i-u-eq1 c =
 
 pub returns-then-u-lt-LOW_NODES : goal.returns-then-u-lt-LOW_NODES
 returns-then-u-lt-LOW_NODES c b inside =
-    let rows = c.args.rows.now in
-    let u : ℕ = c.args.u in
-    let s : ℕ = 1 * 2 ^ u % 256 in
-    let low : u < 6 = c.if-u-lt-LOW_NODES.true in
-    subst (λ m. IsBitSet (bit_and (slice_index rows c.args.i * 2 ^ s % 2 ^ 64) (slice_index WITH_LOW_NODE m)) b ↔ HoldsWithout rows u (64 * c.args.i + b)) (sym c.from.ensures)
-    (with_low_node rows c.args.i b u s c.requires.most inside low (one_shl u 8 (omega (arith, low))))
+    let low : c.args.u < 6 = c.if-u-lt-LOW_NODES.true in
+    rw c.from.ensures (with_low_node c.args.rows.now c.args.i b c.args.u _ inside low (one_shl c.args.u 8 (omega (arith, low))))
 
 pub returns-then-i-u-eq1 : goal.returns-then-i-u-eq1
 returns-then-i-u-eq1 c b inside =
-    let rows = c.args.rows.now in
     let i : ℕ = c.args.i in
     let v : ℕ = c.args.u - 6 in
-    let back : 6 + v ≡ c.args.u = omega (arith, c.if-u-lt-LOW_NODES.false) in
+    let back : c.args.u ≡ 6 + v = omega (arith, c.if-u-lt-LOW_NODES.false) in
     let some : IsBitSet i v = (bit_set_by_shift i v).0 c.if-i-u-eq1.true in
     let at : i - 1 * 2 ^ v % 2 ^ 64 + 2 ^ v ≡ i = omega (arith, one_shl v 64 (omega (arith, c.requires.node)), pow-le i v some) in
-    subst (λ w. IsBitSet (slice_index rows (i - 1 * 2 ^ v % 2 ^ 64)) b ↔ HoldsWithout rows w (64 * i + b)) back
-    (with_high_node rows i b v (i - 1 * 2 ^ v % 2 ^ 64) c.requires.most inside (omega (arith, c.requires.node)) some at)
+    subst (λ w. IsBitSet (slice_index c.args.rows.now (i - 1 * 2 ^ v % 2 ^ 64)) b ↔ HoldsWithout c.args.rows.now w (64 * i + b)) (sym back)
+    (with_high_node c.args.rows.now i b v _ inside some at)
 
 pub returns-else-i-u-eq1 : goal.returns-else-i-u-eq1
 returns-else-i-u-eq1 c b inside =
-    let rows = c.args.rows.now in
     let i : ℕ = c.args.i in
     let v : ℕ = c.args.u - 6 in
-    let back : 6 + v ≡ c.args.u = omega (arith, c.if-u-lt-LOW_NODES.false) in
-    subst (λ w. IsBitSet 0 b ↔ HoldsWithout rows w (64 * i + b)) back (with_no_node rows i b v inside (λ some. c.if-i-u-eq1.false ((bit_set_by_shift i v).1 some)))
+    let back : c.args.u ≡ 6 + v = omega (arith, c.if-u-lt-LOW_NODES.false) in
+    rw back (with_no_node c.args.rows.now i b v inside (λ some. c.if-i-u-eq1.false ((bit_set_by_shift i v).1 some)))

@@ -2,10 +2,6 @@ use Rattle.std.proofs.Common.{arith}
 use Rattle.word_image.proofs.Common.{bit_set_by_shift}
 use Rattle.least_walk.proofs.breadth_first.new_step.Goals as goal
 
-pub overflow_shr-letters : goal.overflow_shr-letters
-overflow_shr-letters c = omega (arith, c.requires.rule.shape.most_states)
-
 pub returns-then-letters-b-eq0-clause-none : goal.returns-then-letters-b-eq0-clause-none
 returns-then-letters-b-eq0-clause-none c q step =
-    let test = c.if-letters-b-eq0.true in
-    c.requires.old q (λ some. absurd (omega (arith, test, (bit_set_by_shift c.args.letters c.args.b).1 some))) step
+    c.requires.old q (λ some. omega (arith, c.if-letters-b-eq0.true, (bit_set_by_shift c.args.letters c.args.b).1 some)) step

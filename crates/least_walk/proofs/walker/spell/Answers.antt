@@ -1,9 +1,9 @@
-use Rattle.std.proofs.Common.{◌≡◌, [], length, get_or, sym, ap, subst, arith}
+use Rattle.std.proofs.Common.{◌≡◌, [], ◌∷◌, ◌++◌, length, get_or, sym, ap, subst, arith}
 use Rattle.word_image.proofs.Common.{length_push, slice_get-get_or}
-use Rattle.search_laws.proofs.Common.{TreeSpells, Root}
+use Rattle.search_laws.proofs.Common.{TreeSpells, Root, Branch, letter_before}
 use Rattle.least_walk.specs.declared.queue.Reached.{Reached}
-use Rattle.least_walk.specs.Queues.{places_of, SpellsBefore}
-use Rattle.least_walk.proofs.Walking.{SpellsBefore-parent}
+use Rattle.least_walk.specs.Queues.{place_of, places_of, SpellsBefore}
+use Rattle.least_walk.proofs.Walking.{place_at}
 use Rattle.least_walk.proofs.walker.spell.Goals as goal
 
 pub loop-place-preserved : goal.loop-place-preserved
@@ -19,8 +19,8 @@ loop-place-preserved c =
     record {
       within = omega (arith, earlier, place, inv.within);
       few = omega (arith, earlier, place, inv.few, ap length longer, length_push c.loop-place.steps x.step);
-      completes = λ w spells. SpellsBefore-parent queue c.args.place i x c.args.steps.now c.loop-place.steps c.push.new.self c.loop-place-test.true here longer inv.completes w
-          (subst (λ p. TreeSpells (places_of queue) p w) place spells);
+      completes = λ w spells. rw (← letter_before w c.loop-place.steps c.push.new.self x.step longer)
+          (inv.completes (w ++ x.step ∷ []) (Branch i (place_of x) w c.loop-place-test.true (place_at queue i x here) (rw place at spells)));
     }
 
 pub returns-clause-spelled : goal.returns-clause-spelled

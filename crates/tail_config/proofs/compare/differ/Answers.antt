@@ -27,21 +27,27 @@ returns-in-None-Some-clause-same c = (λ e. absurd (cc), λ same. absurd (c.in-N
 
 pub returns-in-None-Some-clause-nearest : goal.returns-in-None-Some-clause-nearest
 returns-in-None-Some-clause-nearest c =
-    let right = rw c.in-None-Some.is-0 at c.first_right.ensures.none in
     let near = c.in-None-Some.ensures.near in
-    nearest_left _ _ c.in-None-Some.left _ (omega (arith, ints)) c.in-None-Some.ensures.first (λ j l. right j (omega arith))
+    nearest_left _ _ c.in-None-Some.left _ (omega (arith, ints)) c.in-None-Some.ensures.first
+    (λ j l. (rw c.in-None-Some.is-0 at c.first_right.ensures.none) j (omega arith))
 
 pub returns-in-Some-None-clause-same : goal.returns-in-Some-None-clause-same
 returns-in-Some-None-clause-same c = (λ e. absurd (cc), λ same. absurd (c.in-Some-None.ensures.first.other (same (pos c.in-Some-None.right))))
 
+pub returns-in-Some-None-clause-nearest : goal.returns-in-Some-None-clause-nearest
+returns-in-Some-None-clause-nearest c =
+    let near = c.in-Some-None.ensures.near in
+    nearest_right _ _ c.in-Some-None.right _ (omega (arith, ints)) c.in-Some-None.ensures.first (λ j l. (rw c.in-Some-None.is-1 at c.first_left.ensures.none) j)
+
+pub returns-in-Some-Some-clause-same : goal.returns-in-Some-Some-clause-same
+returns-in-Some-Some-clause-same c = (λ e. absurd (cc), λ same. absurd (c.in-Some-Some.ensures.first.other (same (pos c.in-Some-Some.right))))
+
 pub returns-in-Some-Some-clause-nearest : goal.returns-in-Some-Some-clause-nearest
 returns-in-Some-Some-clause-nearest c =
-    let i : ℕ = c.in-Some-Some.right in
-    let j : ℕ = c.in-Some-Some.left in
-    let right = c.in-Some-Some.ensures.first in
-    let left = c.in-Some-Some.ensures'.first in
-    let near_right = c.in-Some-Some.ensures.near in
-    let near_left = c.in-Some-Some.ensures'.near in
-    ⊎_elim (λ less. let at = c.nearer.ensures.left less in nearest_left _ _ j _ (omega (arith, ints, at)) left (λ n l. right.before n (omega arith) (omega arith)))
-    (λ more. let at = c.nearer.ensures.right more in nearest_right _ _ i _ (omega (arith, ints, at)) right (λ n l. left.before n (omega arith) (omega arith)))
-    (cases_lt (j + 1) i)
+    let right = c.in-Some-Some.ensures in
+    let left = c.in-Some-Some.ensures' in
+    let near_right = right.near in
+    let near_left = left.near in
+    ⊎_elim (λ less. let at = c.nearer.ensures.left less in nearest_left _ _ _ _ (omega (arith, ints, at)) left.first (λ n l. right.first.before n (omega arith) (omega arith)))
+    (λ more. let at = c.nearer.ensures.right more in nearest_right _ _ _ _ (omega (arith, ints, at)) right.first (λ n l. left.first.before n (omega arith) (omega arith)))
+    (cases_lt (c.in-Some-Some.left + 1) c.in-Some-Some.right)

@@ -1,5 +1,4 @@
-use Rattle.std.proofs.Common.{◌≢◌, length, ap, arith, rules}
-use Rattle.tail_config.specs.Differences.{left_cells}
+use Rattle.std.proofs.Common.{length, ap, arith, rules}
 use Rattle.tail_config.proofs.laws.Spans.{left_from_run}
 use Rattle.tail_config.proofs.laws.Decisions.{not_AgreeLeft}
 use Rattle.tail_config.proofs.compare.first_left.Goals as goal
@@ -11,8 +10,4 @@ returns-clause-none c =
     left_from_run c.left.ensures.tail.short.tail c.left-2.ensures.tail.short.tail (λ d l. c.loop-i.invariant d (omega arith))
 
 pub returns-then-cell-clause-apart : goal.returns-then-cell-clause-apart
-returns-then-cell-clause-apart c =
-    let x = c.args.a.now.config in
-    let y = c.args.b.now.config in
-    let other : left_cells x c.loop-i.i ≢ left_cells y c.loop-i.i = search rules in
-    not_AgreeLeft c.left.ensures.tail.short.tail c.left-2.ensures.tail.short.tail c.loop-i.i other
+returns-then-cell-clause-apart c = not_AgreeLeft c.left.ensures.tail.short.tail c.left-2.ensures.tail.short.tail c.loop-i.i (search rules)

@@ -1,5 +1,4 @@
-use Rattle.std.proofs.Common.{◌≢◌, length, ap, arith, rules}
-use Rattle.tail_config.specs.Differences.{right_cells}
+use Rattle.std.proofs.Common.{length, ap, arith, rules}
 use Rattle.tail_config.proofs.laws.Spans.{right_from_run}
 use Rattle.tail_config.proofs.laws.Decisions.{not_AgreeRight}
 use Rattle.tail_config.proofs.compare.first_right.Goals as goal
@@ -12,8 +11,4 @@ returns-clause-none c =
     (λ i from l. c.loop-i.invariant i from (omega (arith, c.longer.ensures.longer)))
 
 pub returns-then-cell-clause-apart : goal.returns-then-cell-clause-apart
-returns-then-cell-clause-apart c =
-    let x = c.args.a.now.config in
-    let y = c.args.b.now.config in
-    let other : right_cells x c.loop-i.i ≢ right_cells y c.loop-i.i = search rules in
-    λ past. not_AgreeRight c.right.ensures.tail.short.tail c.right-2.ensures.tail.short.tail c.loop-i.i past other
+returns-then-cell-clause-apart c = λ past. not_AgreeRight c.right.ensures.tail.short.tail c.right-2.ensures.tail.short.tail c.loop-i.i past (search rules)

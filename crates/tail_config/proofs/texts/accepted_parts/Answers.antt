@@ -1,18 +1,14 @@
-use Rattle.std.proofs.Common.{ℕ, List, sym, subst}
-use Rattle.word_image.proofs.Common.{IsFormFault, handed_on}
-use Rattle.tail_config.specs.TailFaults.{HasForm}
-use Rattle.tail_config.specs.TailTextFaults.{IsTailTextFault, NoForm, Refused, IsFormAt, letters_of}
-use Rattle.tail_config.specs.declared.texts.TailTextFault.{TailTextFault}
+use Rattle.std.proofs.Common.{sym}
+use Rattle.word_image.proofs.Common.{handed_on}
+use Rattle.tail_config.specs.TailTextFaults.{NoForm, Refused, letters_of}
 use Rattle.tail_config.proofs.laws.TailFaults.{tail_fault-none}
 use Rattle.tail_config.proofs.laws.TailTexts.{HasParts-cut}
 use Rattle.tail_config.proofs.texts.accepted_parts.Goals as goal
 
--- the fault of a text that isn't in the grammar
-form_fault : {k : ℕ} {text : List ℕ} {f : TailTextFault} → IsFormAt f (IsFormFault HasForm text) → IsTailTextFault k text f
-form_fault {k} {text} h = subst (IsTailTextFault k text) (sym h.1) (NoForm h.0 h.2)
-
 pub returns-in_err-parts-clause-fault : goal.returns-in_err-parts-clause-fault
-returns-in_err-parts-clause-fault c = handed_on _ c.from_residual.result c.from_residual.ensures.1 (form_fault c.in_err-parts.ensures.fault)
+returns-in_err-parts-clause-fault c =
+    let (place, is, fault) = c.in_err-parts.ensures.fault in
+    handed_on _ c.from_residual.result c.from_residual.ensures.1 (rw is (NoForm place fault))
 
 pub returns-in-Ok-clause-parts : goal.returns-in-Ok-clause-parts
 returns-in-Ok-clause-parts c =

@@ -1,8 +1,8 @@
-use Rattle.std.proofs.Common.{length, sym, slice_index, ◌-◌, ◌^◌, ◌<◌, ◌≡◌, [], ◌∷◌, ◌++◌, None, true, false, Bool, List, ℕ, ap, ◌∙◌, subst, arith, Contains, mul-le-mul_right}
-use Rattle.word_image.proofs.Common.{slice_get_within, get_or_from_slice_get}
+use Rattle.std.proofs.Common.{◌≡◌, [], ◌∷◌, ◌++◌, None, true, false, Bool, List, ℕ, ap, ◌∙◌, subst, arith, Contains, mul-le-mul_right}
+use Rattle.word_image.proofs.Common.{Contains-slice_get}
 use Rattle.image_subsets.specs.Masks.{IsInserted}
-use Rattle.image_subsets.specs.Searches.{IsExpanded, EndsEmpty}
-use Rattle.image_subsets.proofs.Searches.{set-below, IsExpanded-start, IsFamilyTree-closed, IsFamilyTree-stopped, length-subset_search-le, IsTree-search}
+use Rattle.image_subsets.specs.Searches.{IsExpanded}
+use Rattle.image_subsets.proofs.Searches.{set-below, IsExpanded-start, IsFamilyTree-closed, IsFamilyTree-stopped, length-search-most, IsTree-search}
 use Rattle.image_subsets.proofs.family.Family.explore.Goals as goal
 
 -- the first set is put into an empty list
@@ -22,18 +22,14 @@ loop-place-init c =
     }
 
 pub loop-place-smaller : goal.loop-place-smaller
-loop-place-smaller c = omega (arith, length-subset_search-le c.loop-place.invariant.search.0, c.loop-place-test.true, c.len.ensures.len)
-
--- the empty set that was found last is one of the sets
-found_empty : (sets : List ℕ) → EndsEmpty sets → Contains sets 0
-found_empty sets last = (length sets - 1, slice_get_within sets (length sets - 1) 0 last, get_or_from_slice_get sets (length sets - 1) 0 0 last)
+loop-place-smaller c = omega (arith, length-search-most c.full.ensures.rule c.loop-place.invariant.search.0, c.loop-place-test.true, c.len.ensures.len)
 
 pub invariant_of-self : goal.invariant_of-self
 invariant_of-self c =
     let stopped = subst (IsExpanded c.args.graph.now c.expand.new.sets c.expand.new.parents.items _) c.if-expand.true c.expand.ensures.search in (
       omega (arith, c.expand.ensures.capacity, c.loop-place.invariant.capacity),
       IsTree-search c.full.ensures.rule stopped.0.1,
-      (λ some none. absurd (none (found_empty c.expand.new.sets stopped.1))),
+      (λ some none. absurd (none (Contains-slice_get c.expand.new.sets _ 0 stopped.1))),
     )
 
 pub returns-then-expand : goal.returns-then-expand
@@ -42,8 +38,7 @@ returns-then-expand c =
     IsFamilyTree-stopped c.full.ensures.rule stopped.0.1 stopped.1
 
 pub mark-requires-clause-sets : goal.mark-requires-clause-sets
-mark-requires-clause-sets c i inside =
-    subst (λ m. slice_index c.loop-place.self-inside.sets i < 2 ^ m) (sym c.nodes.ensures.nodes) (set-below c.loop-place.invariant.search.0 i inside)
+mark-requires-clause-sets c i inside = rw c.nodes.ensures.nodes (set-below c.loop-place.invariant.search.0 i inside)
 
 pub invariant_of-self-2 : goal.invariant_of-self-2
 invariant_of-self-2 c = (
@@ -53,8 +48,7 @@ invariant_of-self-2 c = (
     nodes = c.nodes.result;
     few = omega (arith, c.nodes.ensures.rule.shape.most_nodes, c.nodes.ensures.nodes);
     room = c.mark.ensures.room;
-    within = λ i inside. subst (λ m. slice_index c.loop-place.self-inside.sets i < 2 ^ m) (sym c.nodes.ensures.nodes) (set-below c.loop-place.invariant.search.0 i inside);
-    apart = c.len.ensures.apart;
+    within = λ i inside. rw c.nodes.ensures.nodes (set-below c.loop-place.invariant.search.0 i inside);
     marked = c.mark.ensures.marks;
   }),
 )

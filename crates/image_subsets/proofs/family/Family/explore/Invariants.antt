@@ -1,5 +1,4 @@
-use Rattle.std.proofs.Common.{◌≤◌, ◌-◌, ◌*◌, ◌^◌, false, vec_capacity}
-use Rattle.word_image.proofs.Common.{node_count}
+use Rattle.std.proofs.Common.{◌≤◌, ◌-◌, ◌*◌, false, vec_capacity}
 use Rattle.image_subsets.specs.declared.masks.TheConstants.{MOST_SETS}
 use Rattle.image_subsets.specs.Searches.{IsExpanded}
 use Rattle.image_subsets.specs.StepTables.{AreTables}
@@ -15,4 +14,4 @@ invariant-loop-place l = record {
 
 -- how many sets may still come
 abbrev pub decreases-loop-place : goal.decreases-loop-place
-decreases-loop-place l = 2 ^ node_count l.graph - l.place
+decreases-loop-place l = MOST_SETS - l.place
