@@ -21,3 +21,10 @@ pub returns-then-not-share : goal.returns-then-not-share
 returns-then-not-share c =
     Image (different _ _ c.differ.result (c.is_none.ensures ∙ ap not c.if-is_none.false) c.differ.ensures.nearest) (c.agree_behind.ensures.0 c.if-not-agree_behind.false)
     (λ share. false≢true (sym c.if-not-share.true ∙ c.share.ensures.1 share))
+
+pub returns : goal.returns
+returns c = (
+  different _ _ c.differ.result (c.is_none.ensures ∙ ap not c.if-is_none.false) c.differ.ensures.nearest,
+  c.agree_behind.ensures.0 c.if-not-agree_behind.false,
+  c.share.ensures.0 c.if-not-share.false,
+)

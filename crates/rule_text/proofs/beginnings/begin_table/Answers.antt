@@ -1,10 +1,18 @@
-use Rattle.std.proofs.Common.{◌≡◌, ℕ, ◌^◌, List, Some, take, map, length, sym, ap, ap₂, ◌∙◌, arith, rules, FitsSigned, w8, to_z, of_z, ℤ, option_map}
+use Rattle.std.proofs.Common.{◌≡◌, ℕ, ◌^◌, List, Some, take, map, length, length-take-le, sym, ap, ap₂, ◌∙◌, arith, rules, FitsSigned, w8, to_z, of_z, ℤ, option_map}
 use Rattle.std.proofs.lemmas.Int.{to_z-of_z}
 use Rattle.word_image.proofs.Common.{length-map, letter_at, shape_fault, table_fault, rule_fault, window_count-le}
 use Rattle.rule_text.specs.RuleTexts.{as_text_fault}
 use Rattle.rule_text.specs.Beginnings.{filled}
 use Rattle.rule_text.proofs.laws.Beginnings.{fault_in_text, take-filled}
 use Rattle.rule_text.proofs.beginnings.begin_table.Goals as goal
+
+pub slice_bounds-table-end : goal.slice_bounds-table-end
+slice_bounds-table-end c = grind (arith, window_count-le c.args.head.now.k c.args.head.now.m c.args.head.now.o c.requires.shape)
+
+pub slice_bounds-new-end : goal.slice_bounds-new-end
+slice_bounds-new-end c =
+    let few = window_count-le c.args.head.now.k c.args.head.now.m c.args.head.now.o c.requires.shape in
+    sym (length-take-le c.pow-size.result c.filled-table.result (grind arith))
 
 pub returns-in-Ok : goal.returns-in-Ok
 returns-in-Ok c =

@@ -12,6 +12,9 @@ least_sum-left-requires-clause-some c =
     let (n, few, through) = left_key c.requires.parts.1 c.requires.some in
     (n, few, (Through-before r parts (SomeRounds (HasBit parts.left.period) n) (Open (HasBit parts.right.period) 16) c.open.ensures c.sources-rears.ensures).1 through)
 
+pub union_of_rows-fronts-requires-2 : goal.union_of_rows-fronts-requires-2
+union_of_rows-fronts-requires-2 c u below = (c.requires.parts.1.middle.rows u below).within
+
 pub least_sum-right-requires-clause-some : goal.least_sum-right-requires-clause-some
 least_sum-right-requires-clause-some c =
     let r = c.args.graph.now in
