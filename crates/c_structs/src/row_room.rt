@@ -44,8 +44,8 @@ impl RowRoom {
         ensures { IfOk result (λ room. room ≡ []) }
     {
         Ok(RowRoom {
-            reports: ReportRoom::new(alloc)?,
             letters: Vec::with_capacity(alloc, MOST_REPORT)?,
+            reports: ReportRoom::new(alloc)?,
         })
     }
 

@@ -3,11 +3,9 @@
 #![tactic(auto)]
 
 use ca_cli::{Status, run};
-use ca_io::{StdSink, StdSource};
+use ca_io::{StdSink, StdSource, words};
 use std::io::ErrorKind;
 use std::process::ExitCode;
-use std::rt::Env;
-use std::{env, io};
 
 /// The exit code if the system can't pass the words to the program, for example if a word isn't UTF-8.
 const NO_WORDS: u8 = 9;
@@ -25,9 +23,4 @@ fn main(rt: HostRuntime) -> ExitCode {
         }
         Err(_) => ExitCode::from(NO_WORDS),
     }
-}
-
-/// Returns the words of the command line without the name of the program.
-fn words(rt: &(impl Env + AllocGlobal)) -> io::Result<Vec<String>> {
-    Ok(env::args(rt)?.skip(1).collect(rt.alloc())?)
 }

@@ -51,6 +51,9 @@ pub fn answer<'r>(alloc: Global, room: &'r mut Room, question: &Question) -> Res
 }
 
 /// Turns the result of a function that needs no memory into the result of `answer`.
+///
+/// The function isn't inlined, since otherwise LLVM takes 40 seconds more to compile `answer`.
+#[inline(never)]
 fn settled(found: Result<Found<'_>, Cause>) -> Result<Found<'_>, Stop>
     ensures { (q : questions.Question) → Settles q found.entry → Answers q result }
 {

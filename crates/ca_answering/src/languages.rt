@@ -56,6 +56,9 @@ fn automaton<'r>(minimal: &Minimal, numbers: &'r mut Numbers) -> Automaton<'r>
 
 /// Returns the least word that is an orphan of exactly one of the two rules, or an answer without a word if they have
 /// the same orphans. Returns the cause `States` if the rules have different numbers of states.
+///
+/// The function isn't inlined, since otherwise the loop of the search keeps more on the stack.
+#[inline(never)]
 pub fn same<'r>(
     room: &'r mut SeparationRoom,
     first: &Rule,

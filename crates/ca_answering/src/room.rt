@@ -48,16 +48,18 @@ impl Model for Numbers {
 impl Room {
     /// Allocates the memory of a room. The only error is lack of memory.
     pub fn new(alloc: Global) -> Result<Room, AllocError> {
+        // The largest parts come last: if there is no memory for a part, those before it are dropped, and the prover takes
+        // minutes if these are large.
         Ok(Room {
-            reports: ReportRoom::new(alloc)?,
-            separations: SeparationRoom::new(alloc)?,
-            preimages: PreimageRoom::new(alloc)?,
-            tables: TableRoom::new(alloc)?,
-            walks: Queue::new(alloc)?,
-            minimal: Minimal::new(alloc)?,
             numbers: Numbers {
                 list: Vec::with_capacity(alloc, MOST_IMAGES)?,
             },
+            walks: Queue::new(alloc)?,
+            separations: SeparationRoom::new(alloc)?,
+            preimages: PreimageRoom::new(alloc)?,
+            tables: TableRoom::new(alloc)?,
+            minimal: Minimal::new(alloc)?,
+            reports: ReportRoom::new(alloc)?,
         })
     }
 }

@@ -22,9 +22,9 @@ impl Room {
     pub fn new(alloc: Global) -> Result<Room, AllocError> {
         Ok(Room {
             alloc,
+            output: Output::new(alloc)?,
             tails: TailRoom::new(alloc)?,
             answers: ca_answering::Room::new(alloc)?,
-            output: Output::new(alloc)?,
         })
     }
 }

@@ -148,6 +148,10 @@ fn rule_and_weights<W: AsStr>(name: Name, rest: &[W]) -> Result<(Rule, Option<Sh
 }
 
 /// Reads the words after `shift`: a rule R and a number N of cells.
+///
+/// This function and the three below it aren't inlined, since otherwise LLVM takes 20 seconds more to compile
+/// `named_question`.
+#[inline(never)]
 fn shift<W: AsStr>(rest: &[W]) -> Result<Question<'static>, Stop>
     ensures { MatchResult result (IsAskedBy (word_of names.Shift ∷ map W.text rest.now)) (IsStop (word_of names.Shift ∷ map W.text rest.now)) }
 {
@@ -162,6 +166,7 @@ fn shift<W: AsStr>(rest: &[W]) -> Result<Question<'static>, Stop>
 }
 
 /// Reads the words after `widen`: a rule R and a width M.
+#[inline(never)]
 fn widen<W: AsStr>(rest: &[W]) -> Result<Question<'static>, Stop>
     ensures { MatchResult result (IsAskedBy (word_of names.Widen ∷ map W.text rest.now)) (IsStop (word_of names.Widen ∷ map W.text rest.now)) }
 {
@@ -176,6 +181,7 @@ fn widen<W: AsStr>(rest: &[W]) -> Result<Question<'static>, Stop>
 }
 
 /// Reads the words after `permute`: a rule R, and a digit for the new name of each letter.
+#[inline(never)]
 fn permute<W: AsStr>(rest: &[W]) -> Result<Question<'static>, Stop>
     ensures { MatchResult result (IsAskedBy (word_of names.Permute ∷ map W.text rest.now)) (IsStop (word_of names.Permute ∷ map W.text rest.now)) }
 {
@@ -190,6 +196,7 @@ fn permute<W: AsStr>(rest: &[W]) -> Result<Question<'static>, Stop>
 }
 
 /// Reads the words after `preimage`: a rule R and the text of a configuration with periodic tails.
+#[inline(never)]
 fn preimage<'w, W: AsStr>(room: &'w mut TailRoom, rest: &[W]) -> Result<Question<'w>, Stop>
     ensures { MatchResult result (IsAskedBy (word_of names.Preimage ∷ map W.text rest.now)) (IsStop (word_of names.Preimage ∷ map W.text rest.now)) }
 {

@@ -10,16 +10,18 @@
 //! a sink knows which of them failed. If a call of a source or a sink that tells its bytes fails, it moves no byte.
 //!
 //! [`write_all`] writes a whole output to a sink. If it returns `Failed`, a sink that tells its bytes has taken a
-//! part of the output, but not all of it. [`read_up_to`] reads a whole input, up to a limit.
+//! part of the output, but not all of it. [`read_up_to`] reads a whole input, up to a limit. [`words`] returns the words
+//! of the command line.
 //!
 //! For example, let a `MemSink` have room for 3 bytes, take 1 byte in each call, and fail at its call 1. The calls
 //! have the numbers 0 to 4, and write `ab`, `cd`, `ef`, `g` and `h`. They return 1, `Failed`, 1, 1 and `Failed`. The
 //! last call fails because the room is full. The sink has taken `aeg` and has counted two faults.
 //!
 //! A call takes **O(n)** time for the n bytes that it moves. A call of a `MemSink` or a `MemSource` takes **O(f)**
-//! more for its list of f failing calls. Only [`MemSink::with_room`] and [`read_up_to`] need memory.
+//! more for its list of f failing calls. Only [`MemSink::with_room`], [`read_up_to`] and [`words`] need memory.
 #![tactic(auto)]
 
+mod command_line;
 mod input;
 mod mem_sink;
 mod mem_source;
@@ -29,6 +31,7 @@ mod sinks;
 mod sources;
 mod standard;
 
+pub use command_line::words;
 pub use input::{InputFault, read_up_to};
 pub use mem_sink::{MemSink, RoomRefusal};
 pub use mem_source::MemSource;

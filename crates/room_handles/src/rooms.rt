@@ -17,8 +17,8 @@ impl CallRoom {
     /// Takes all the memory of a room. The only error is lack of memory.
     pub fn new(alloc: Global) -> Result<CallRoom, AllocError> {
         Ok(CallRoom {
-            commands: Room::new(alloc)?,
             reports: RowRoom::new(alloc)?,
+            commands: Room::new(alloc)?,
         })
     }
 
