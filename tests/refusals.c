@@ -5,11 +5,12 @@
  *                   of descriptor 1.
  *   REFUSED_NUMBER  the number of the call that is refused, from 1 on; none where it is 0
  *   REFUSED_LATER   all calls after it are refused too, where this is set
- *   REFUSED_AFTER   a number of bytes: after the first request for so many bytes, which is served, all requests
- *                   for memory are refused
+ *   REFUSED_AFTER   a number of bytes: after the first request for so many bytes, which is served, and the next
+ *                   REFUSED_MORE requests, which are served too, all requests for memory are refused
  *   SHORT           a read or a write moves one byte at most, where this is set
  *
- * A refusal is told by the byte x on descriptor 9, and the request of REFUSED_AFTER by the byte r.
+ * A refusal is told by the byte x on descriptor 9, the request of REFUSED_AFTER by the byte r, and each request that is
+ * served after it by the byte m.
  */
 #include <errno.h>
 #include <stdbool.h>
@@ -46,17 +47,21 @@ static bool refuses(const char *call)
 static bool refuses_memory(size_t size)
 {
     static bool after = false;
+    static long served = 0;
     const char *last = getenv("REFUSED_AFTER");
+    const char *more = getenv("REFUSED_MORE");
     if (last == NULL)
         return refuses("memory");
-    if (after)
-        syscall(SYS_write, 9, "x", 1);
-    else if (size == (size_t)atol(last)) {
-        after = true;
-        syscall(SYS_write, 9, "r", 1);
+    if (!after) {
+        after = size == (size_t)atol(last);
+        if (after)
+            syscall(SYS_write, 9, "r", 1);
         return false;
     }
-    return after;
+    bool is = more == NULL || served == atol(more);
+    served += !is;
+    syscall(SYS_write, 9, is ? "x" : "m", 1);
+    return is;
 }
 
 static size_t most(size_t count)
