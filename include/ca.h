@@ -16,7 +16,7 @@
  * Numbers. An argument is converted to its type without a warning: if you pass 258 as a uint8_t, it becomes 2. Check the range
  * of an int before you pass it.
  *
- * Stack. A call takes up to 128 KiB of stack. Give 256 KiB to a thread that calls the library.
+ * Stack. A call takes up to 192 KiB of stack. Give 256 KiB to a thread that calls the library.
  *
  * Threads. A call keeps no state but in a room. So several threads may call the library at once, if each thread has its own
  * buffer, its own length and its own room. Threads may share arguments that calls only read. A call waits for nothing and

@@ -931,7 +931,7 @@ static void *call_often(void *right)
 }
 
 /* The stack that a call may take, as the header says, and the stack of the thread in which that is measured. */
-enum { STACK = 128 * 1024, WHOLE_STACK = 1024 * 1024 };
+enum { STACK = 192 * 1024, WHOLE_STACK = 1024 * 1024 };
 
 /* What a thread comes to: whether its calls answer as they must, and where its stack was before the first one. */
 struct stacked {
