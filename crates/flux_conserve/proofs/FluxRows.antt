@@ -1,6 +1,6 @@
 -- The walks' gains in a row of 16.
-use Rattle.std.proofs.Common.{◌≡◌, ℕ, ◌-◌, ◌↔◌, List, ◌++◌, length, take, drop, replicate, ℤ, pos, sym, ap, subst, ◌∙◌}
-use Rattle.word_image.proofs.Common.{take-append_seam, drop-append_seam, length-map-range_with_len, LocalRule, IsRule, node_count, IsFlux, IsConserving, slice_get-append}
+use Rattle.std.proofs.Common.{◌≡◌, ℕ, ◌-◌, ◌↔◌, List, ◌++◌, take, replicate, ℤ, pos, sym, subst, ◌∙◌, take_at, drop_at}
+use Rattle.word_image.proofs.Common.{length-map-range_with_len, LocalRule, IsRule, node_count, IsFlux, IsConserving, slice_get-append}
 use Rattle.ring_laws.proofs.FluxWalks.{walk_gain, walk_gains, walk_gains-zero, IsFlux-unique}
 use Rattle.ring_laws.proofs.LossyRings.{IsConserving-walk_gains}
 use Rattle.flux_conserve.specs.Keepings.{IsFluxRow}
@@ -11,15 +11,7 @@ gains_row weight r = walk_gains weight r ++ replicate (16 - node_count r) (pos 0
 
 -- the gains stand first
 take-gains_row : (weight : ℕ → ℕ) (r : LocalRule) → take (node_count r) (gains_row weight r) ≡ walk_gains weight r
-take-gains_row weight r =
-    let long : length (walk_gains weight r) ≡ node_count r = length-map-range_with_len (walk_gain weight r) 0 (node_count r) in
-    ap (λ n. take n (gains_row weight r)) (sym long) ∙ take-append_seam (walk_gains weight r) (replicate (16 - node_count r) (pos 0))
-
--- behind the gains stand zeros
-drop-gains_row : (weight : ℕ → ℕ) (r : LocalRule) → drop (node_count r) (gains_row weight r) ≡ replicate (16 - node_count r) (pos 0)
-drop-gains_row weight r =
-    let long : length (walk_gains weight r) ≡ node_count r = length-map-range_with_len (walk_gain weight r) 0 (node_count r) in
-    ap (λ n. drop n (gains_row weight r)) (sym long) ∙ drop-append_seam (walk_gains weight r) (replicate (16 - node_count r) (pos 0))
+take-gains_row weight r = take_at (walk_gains weight r) (replicate (16 - node_count r) (pos 0)) (node_count r) (length-map-range_with_len (walk_gain weight r) 0 (node_count r))
 
 -- a rule is conserving exactly where the gains at the front of the row are a flux
 pub IsConserving-gains_row : {r : LocalRule} → IsRule r → (weight : ℕ → ℕ) → IsConserving weight r ↔ IsFlux weight r (take (node_count r) (gains_row weight r))
@@ -32,6 +24,6 @@ IsFluxRow-gains_row {r} rule weight flux =
     record {
       flux = flux;
       starts = slice_get-append (walk_gains weight r) (replicate (16 - node_count r) (pos 0)) 0 (pos 0) (walk_gains-zero rule gains);
-      zeros = drop-gains_row weight r;
+      zeros = drop_at (walk_gains weight r) (replicate (16 - node_count r) (pos 0)) (node_count r) (length-map-range_with_len (walk_gain weight r) 0 (node_count r));
       only = λ phi other zeroth. IsFlux-unique rule other zeroth ∙ sym (take-gains_row weight r);
     }

@@ -1,6 +1,6 @@
 -- Under a surjective rule as many words have the image 0 0 as there are nodes.
 use Rattle.std.proofs.Common.{◌≡◌, ℕ, suc, ◌+◌, ◌-◌, ◌*◌, ◌/◌, ◌%◌, ◌^◌, ◌<◌, ◌≤◌, ◌↔◌, List, [], ◌∷◌, ◌++◌, length, take, drop, slice_index, get_or, Bool, true, false, sym, ap, ap₂, ◌∙◌, arith, pow-suc, length-drop, ◌==◌, ◌&&◌, add-mul, mul_assoc, mul_comm, eq-eqb, length-take-le}
-use Rattle.word_image.proofs.Common.{pow-zero, false≢true, Decides-eqb, mul-add-lt, div-mul-add, mod-mul-add, All-cons, All-nil, LocalRule, IsRule, IsWord, value, node_count, image, IsSurjective, value-take, value-drop}
+use Rattle.word_image.proofs.Common.{false≢true, Decides-eqb, mul-add-lt, div-mul-add, mod-mul-add, All-cons, All-nil, LocalRule, IsRule, IsWord, value, node_count, image, IsSurjective, value-drop, value-front}
 use Rattle.pair_laws.proofs.Common.{image-window, image-cut}
 use Rattle.garden_laws.specs.ZeroPairs.{count_below, gives_zeros, zero_pairs}
 use Rattle.garden_laws.proofs.TestedWords.{count_below-image}
@@ -11,10 +11,8 @@ image-two : {r : LocalRule} → IsRule r → (x : List ℕ) → IsWord r.states 
 image-two {r} rule x word long =
     let k : ℕ = r.states in
     let m : ℕ = 1 + (r.width - 1) in
-    let one : length x - m ≡ 1 = omega arith in
     let rest : length x - 1 ≡ r.width = omega arith in
-    let single : k ^ 1 ≡ k = omega (arith, pow-suc k 0, ap (λ n. n * k) (pow-zero k)) in
-    let first : value k (take m x) ≡ value k x / k = value-take k m x word (omega arith) ∙ ap (λ n. value k x / k ^ n) one ∙ ap (λ n. value k x / n) single in
+    let first : value k (take m x) ≡ value k x / k = value-front k m x word (omega arith) in
     let second : value k (drop 1 x) ≡ value k x % length r.table = value-drop k 1 x word (omega arith) ∙ ap (λ n. value k x % k ^ n) rest ∙ ap (λ n. value k x % n) (sym rule.entries) in
     image-cut rule 1 x
     ∙ ap₂ (λ (u v : List ℕ). u ++ v) (image-window rule (take m x) (length-take-le m x (omega arith))) (image-window rule (drop 1 x) (omega (arith, length-drop 1 x)))

@@ -22,7 +22,7 @@ pub use Rattle.std.proofs.lemmas.List.Sums.{sum_by-le}
 pub use Rattle.std.proofs.lemmas.Map.Lookups.{exact_bytes}
 pub use Rattle.std.proofs.lemmas.Nat.Bits.{bit_at-lt, shr_and_one}
 pub use Rattle.std.specs.Prelude.{if◌then◌else◌, pos, sum_by}
-pub use Rattle.word_image.proofs.Common.{All-cons, All-head, All-replicate, All-tail, Contains-slice_get, IsAscending, IsBitSet-decide, IsBitSet-full, IsBitSet-or, IsBitSet-pow, IsBitSet-some, IsBitSet-zero, IsEdge, IsEnds, IsLastSet, IsLastSet-full, IsLastSet-step, IsNodeSet, IsOrphan, IsOrphan-empty_set, IsPreimage-nonempty_set, IsRule, IsSetOf, IsShape-shape_fault, IsSetOf-same, IsSetTo, IsSetTo-all, IsSetTo-skip, IsSetTo-take, IsStep, IsWord, LocalRule, and_le_l, bit_at-IsBitSet, bit_set_by_shift, cases_eq, cases_lt, decide_both, div-add-mod, full_set, get_or-range_with_len, get_or-replicate, get_or_default, get_or_from_slice_get, label, le_or_l, length-map, length-range_with_len, length-replicate, length_push, map-append, mul-add-lt, nat_cmp_is, nat_tests, next, next-below, node_count, node_count_pos, none-some, one-le-pow, one_shl, only_place, or_lt, pow-le-pow_right, range-more, range_with_len, same_Some, same_from_place, slice_cmp, slice_get-Contains, slice_get-append, slice_get-get_or, slice_get-push, slice_get-push_cases, slice_get-unique, slice_get_read, slice_get_within, some_below, sum_by-set, take_more, then_equal, twice_below, value, value-append}
+pub use Rattle.word_image.proofs.Common.{All-cons, All-head, All-replicate, All-tail, Contains-slice_get, each-set, IsAscending, IsBitSet-decide, IsBitSet-full, IsBitSet-or, IsBitSet-pow, IsBitSet-some, IsBitSet-zero, IsEdge, IsEnds, IsLastSet, IsLastSet-full, IsLastSet-step, IsNodeSet, IsOrphan, IsOrphan-empty_set, IsPreimage-nonempty_set, IsRule, IsSetOf, IsShape-shape_fault, IsSetOf-same, IsSetTo, IsSetTo-all, IsSetTo-skip, IsSetTo-take, IsStep, IsWord, LocalRule, and_le_l, bit_at-IsBitSet, bit_set_by_shift, cases_eq, cases_lt, decide_both, div-add-mod, full_set, get_or-range_with_len, get_or-replicate, get_or_default, get_or_from_slice_get, label, le_or_l, length-map, length-range_with_len, length-replicate, length_push, map-append, mul-add-lt, nat_cmp_is, nat_tests, next, next-below, node_count, node_count_pos, none-some, one-le-pow, one_shl, only_place, or_lt, pow-le-pow_right, range-more, range_with_len, same_Some, same_from_place, slice_cmp, slice_get-Contains, slice_get-append, slice_get-get_or, slice_get-push, slice_get-push_cases, slice_get-unique, slice_get_read, slice_get_within, some_below, sum_by-set, take_more, then_equal, twice_below, value, value-append}
 pub use Rattle.word_image.specs.declared.side.Side.TheVariants.{Right}
 pub use mathlib.Core.Logic.{⊎_map}
 pub use mathlib.Core.Logic.Iff.{symm as iff_sym, trans as iff_then}

@@ -1,6 +1,5 @@
 -- Lists of different sets, with an index by set.
-use Rattle.image_minimal.proofs.Common.{◌≡◌, ℕ, ◌-◌, ◌<◌, ◌≤◌, Bool, true, if◌then◌else◌, take, replicate, length-replicate, get_or-replicate, List, [], ◌∷◌, ◌++◌, length, set, slice_index, Option, Some, None, Contains, refl, sym, ap, ◌∙◌, subst, arith, ⊎_elim, slice_get, length-set, cases_lt, same_Some, slice_get-get_or, none-some, slice_get-append, slice_get-push, slice_get-push_cases, Contains-slice_get, slice_get-Contains, twice_below, IsPlaceOf, IsExactIndex}
-use Rattle.image_minimal.proofs.laws.Entries.{each-set}
+use Rattle.image_minimal.proofs.Common.{◌≡◌, ℕ, ◌-◌, ◌<◌, ◌≤◌, Bool, true, if◌then◌else◌, take, replicate, length-replicate, get_or-replicate, List, [], ◌∷◌, ◌++◌, length, set, slice_index, Option, Some, None, Contains, refl, sym, ap, ◌∙◌, subst, arith, ⊎_elim, slice_get, length-set, cases_lt, same_Some, slice_get-get_or, none-some, slice_get-append, slice_get-push, slice_get-push_cases, Contains-slice_get, slice_get-Contains, twice_below, IsPlaceOf, IsExactIndex, each-set}
 use Rattle.std.proofs.Math.Seq.{take-nil}
 
 -- a set without a place isn't in the list

@@ -1,7 +1,6 @@
 -- Ways from parent to parent: what halving them keeps, and what joining two roots does.
-use Rattle.image_minimal.proofs.Common.{◌≡◌, ◌≢◌, ℕ, ◌<◌, ◌≤◌, ◌⊎◌, List, length, set, slice_index, Bool, true, false, true≢false, refl, sym, ap, ◌∙◌, arith, ⊎_elim, length-set, AreColours, IsFalling, IsOnWay, IsJoin, range_with_len, get_or-range_with_len, length-range_with_len}
+use Rattle.image_minimal.proofs.Common.{◌≡◌, ◌≢◌, ℕ, ◌<◌, ◌≤◌, ◌⊎◌, List, length, set, slice_index, Bool, true, false, true≢false, refl, sym, ap, ◌∙◌, arith, ⊎_elim, length-set, AreColours, IsFalling, IsOnWay, IsJoin, range_with_len, get_or-range_with_len, length-range_with_len, each-set}
 use Rattle.image_minimal.proofs.laws.ClassCounts.{class_count-lower, class_count-root}
-use Rattle.image_minimal.proofs.laws.Entries.{each-set}
 
 -- each of the numbers is its own parent
 pub IsFalling-numbers : (n : ℕ) → IsFalling (range_with_len 0 n)

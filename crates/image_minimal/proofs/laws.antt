@@ -1,4 +1,3 @@
-pub mod Entries
 pub mod ClassCounts
 pub mod Unread
 pub mod Closures

@@ -1,6 +1,6 @@
 -- The table of starts by rank, pair by pair.
-use Rattle.std.proofs.Common.{◌≡◌, ◌≢◌, ℕ, ◌+◌, ◌<◌, ◌≤◌, List, length, Option, Some, None, get_or, replicate, sym, subst, ⊎_elim, arith, ◌∙◌, length-set, get_or-set_same, get_or-set_other, IfSome, MatchOption, unwrap_or, set}
-use Rattle.word_image.proofs.Common.{cases_eq, cases_lt, get_or-replicate, length-replicate, LocalRule, IsRule, IsRank, IsEndless}
+use Rattle.std.proofs.Common.{◌≡◌, ℕ, ◌+◌, ◌<◌, ◌≤◌, List, length, Option, Some, None, get_or, replicate, sym, subst, ⊎_elim, arith, ◌∙◌, length-set, IfSome, MatchOption, unwrap_or, set}
+use Rattle.word_image.proofs.Common.{at-set, cases_lt, get_or-replicate, length-replicate, LocalRule, IsRule, IsRank, IsEndless}
 use Rattle.word_image.specs.declared.side.Side.TheVariants.{Left}
 use Rattle.pair_laws.proofs.Common.{IsRank-one, Together-less}
 use Rattle.inverse_window.specs.Starts.{HoldsFrom, later}
@@ -42,20 +42,14 @@ pub AreStarts-next : {r : LocalRule} {e p b : ℕ} {starts : List (Option ℕ)} 
 AreStarts-next {r} {e} {p} {b} {starts} rule x before differ within rank from most =
     let new : Option ℕ = later (get_or starts b None) x in
     let few : e ≤ 120 = before.few in
-    let at : (P : ℕ → Option ℕ → Type 0) → P b new → ((a : ℕ) → a ≤ e → a ≢ b → P a (get_or starts a None)) → (a : ℕ) → a ≤ e → P a (get_or (set starts b new) a None) = λ P here there a l.
-    ⊎_elim
-    (λ same. subst (λ i. P i (get_or (set starts b new) i None)) (sym same) (subst (P b) (sym (get_or-set_same starts b new None (omega (arith, before.long)))) here))
-    (λ other. subst (P a) (sym (get_or-set_other starts b a new None other)) (there a l other))
-    (cases_eq a b) in
     let long : length starts ≡ 121 = before.long in
     record {
       long = length-set starts b new ∙ long;
       few = few;
-      from = at (λ a o. HoldsFrom o (NoneHolds (p + 1) (OfRank r e a) (PairBegins r)))
-          (HoldsFrom-next (get_or starts b None) x p (OfRank r e b) (PairBegins r) (differ, rank) (before.from b within) from)
-          (λ a l other. HoldsFrom-other (get_or starts a None) p (OfRank r e a) (PairBegins r)
-          (λ of. other (one_rank rule e p a b of.1 rank)) (before.from a l));
-      most = at (λ a o. IfSome o (λ n. n ≤ 120)) (later-most (get_or starts b None) x 120 (before.most b within) most) (λ a l other. before.most a l);
+      from = λ a l. at-set (λ a o. HoldsFrom o (NoneHolds (p + 1) (OfRank r e a) (PairBegins r))) starts b None new (omega arith) a
+          (λ other. HoldsFrom-other (get_or starts a None) p (OfRank r e a) (PairBegins r) (λ of. other (one_rank rule e p a b of.1 rank)) (before.from a l))
+          (HoldsFrom-next (get_or starts b None) x p (OfRank r e b) (PairBegins r) (differ, rank) (before.from b within) from);
+      most = λ a l. at-set (λ a o. IfSome o (λ n. n ≤ 120)) starts b None new (omega arith) a (λ _. before.most a l) (later-most (get_or starts b None) x 120 (before.most b within) most);
     }
 
 -- the starts stay behind a pair that doesn't differ at its first letter

@@ -3,7 +3,6 @@ pub mod Sums
 pub mod Spans
 pub mod Combined
 pub mod Parts
-pub mod Turns
 pub mod Locals
 pub mod Densities
 pub mod Flows

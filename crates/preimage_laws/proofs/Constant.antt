@@ -1,7 +1,7 @@
 -- A rule under which all configurations have the same number of preimages is closing on both sides.
-use Rattle.std.proofs.Common.{◌≡◌, ◌≢◌, ℕ, ◌+◌, ◌-◌, ◌*◌, ◌<◌, ◌≤◌, ◌↔◌, ⊎_elim, length, ℤ, pos, ◌+ℤ◌, ◌-ℤ◌, refl, sym, ap, ◌∙◌, subst, arith}
+use Rattle.std.proofs.Common.{◌≡◌, ℕ, ◌+◌, ◌-◌, ◌*◌, ◌<◌, ◌≤◌, ◌↔◌, ⊎_elim, length, ℤ, pos, ◌+ℤ◌, ◌-ℤ◌, refl, sym, ap, ◌∙◌, subst, arith}
 use Rattle.std.proofs.Math.Path.{fun_ext}
-use Rattle.word_image.proofs.Common.{ints, cases_lt, LocalRule, IsRule, IsSurjective, node_count, value, value-node, value-injective, some_letter}
+use Rattle.word_image.proofs.Common.{all_taken, chosen_below, ints, cases_lt, LocalRule, IsRule, IsSurjective, node_count, value, value-node, value-injective, some_letter}
 use Rattle.tail_config.proofs.Common.{TailConfig, IsTail, IsOpen, ShareImage, Same, cell, cell-below, Config, IsConfig, zeros, image_of, length-run, IsWord-run, run-same}
 use Rattle.tail_config.proofs.laws.Periods.{at_run, same_left-back, same_right-back}
 use Rattle.tail_config.proofs.laws.Repeats.{cell-left_period, cell-right_period, image_of-left_period, image_of-right_period}
@@ -14,7 +14,7 @@ use Rattle.config_laws.proofs.PeriodicPreimages.{HasPeriod-preimage}
 use Rattle.config_laws.proofs.Onto.{IsSurjective-onto}
 use Rattle.preimage_laws.specs.PreimageCounts.{ArePreimages, IsToOne, IsConstantToOne}
 use Rattle.preimage_laws.proofs.Separated.{image_of-run_meeting}
-use Rattle.preimage_laws.proofs.Pigeons.{chosen_below, twice_marked, taken}
+use Rattle.preimage_laws.proofs.Pigeons.{twice_marked}
 use Rattle.preimage_laws.proofs.Followed.{node_under, Through, IsFollowed, IsFollowed-tails}
 use Rattle.preimage_laws.proofs.Counts.{IsSeparated, same_number, IsConstantToOne-open}
 
@@ -71,13 +71,10 @@ IsSeparated-nodes {r} {w} {y} {n} {ws} {ys} first second i apart through x z hx 
     marks : (a : ℕ) → a < n → (f a < n) × (node_under r (ws a) i ≡ node_under r (ys (f a)) i)
     marks = chosen.1
 
-    apart_f : (a b : ℕ) → a < b → b < n → f a ≢ f b
-    apart_f a b order l e = absurd (omega (arith, number a b (omega arith) l ((marks a (omega arith)).1 ∙ ap (λ c. node_under r (ys c) i) e ∙ sym (marks b l).1)))
-
     at : (u : Config) → IsConfig r.states u → image_of r u ≡ y → (a : ℕ) × (a < n) × (ys (f a) ≡ u)
     at u hu mu =
         let (c, l, is) = second.all u hu mu in
-        let (a, la, fa) = taken n f (λ a l. (marks a l).0) apart_f c l in
+        let (a, la, fa) = all_taken n f (λ a l. (marks a l).0) (λ a b la lb e. number a b la lb ((marks a la).1 ∙ ap (λ c. node_under r (ys c) i) e ∙ sym (marks b lb).1)) c l in
         (a, la, ap ys fa ∙ is)
 
 -- if each configuration has n preimages, those of what repeats far out are separated: around place i it is a part of what repeats everywhere, and that has n preimages, which have n nodes there

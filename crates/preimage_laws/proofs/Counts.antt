@@ -1,12 +1,12 @@
 -- Under a rule that is closing on both sides all configurations have the same number of preimages.
 use Rattle.std.proofs.Common.{◌≡◌, ◌≢◌, ℕ, ◌+◌, ◌-◌, ◌<◌, ◌≤◌, ⊎_elim, List, ℤ, pos, ◌+ℤ◌, ◌-ℤ◌, refl, sym, ap, ◌∙◌, subst, arith}
-use Rattle.word_image.proofs.Common.{ints, cases_lt, LocalRule, IsRule, node_count, value, word_of, value-node, value-word_of, word_of-value, some_letter}
+use Rattle.word_image.proofs.Common.{chosen_below, ints, cases_lt, LocalRule, IsRule, node_count, value, word_of, value-node, value-word_of, word_of-value, some_letter}
 use Rattle.tail_config.proofs.Common.{Config, IsConfig, IsOpen, zeros, run, image_of, length-run, get_or-run, IsWord-run, DifferAt, differ_at}
 use Rattle.garden_laws.proofs.Numbered.{Numbered, numbered}
 use Rattle.config_laws.specs.Maps.{Differ}
 use Rattle.config_laws.proofs.Joined.{meeting, meeting-left, meeting-right, IsConfig-meeting}
 use Rattle.preimage_laws.specs.PreimageCounts.{ArePreimages, IsConstantToOne, HasSeparatedPreimages}
-use Rattle.preimage_laws.proofs.Pigeons.{chosen_below, twice_marked}
+use Rattle.preimage_laws.proofs.Pigeons.{twice_marked}
 use Rattle.preimage_laws.proofs.Separated.{IsOpen-separated}
 use Rattle.preimage_laws.proofs.Followed.{node_under, Through, AgreeAround, IsFollowed, IsFollowed-open, through_or_not}
 

@@ -1,4 +1,5 @@
 pub mod Rings
+pub mod Walks
 pub mod Gains
 pub mod Fluxes
 pub mod FluxWalks

@@ -1,4 +1,3 @@
-pub mod WindowValues
 pub mod Tables
 pub mod Limits
 pub mod Shifts

@@ -1,16 +1,7 @@
 -- Rows that a loop fills, one after the other.
-use Rattle.std.proofs.Common.{◌≡◌, ◌↔◌, ℕ, ◌+◌, ◌<◌, List, length, get_or, slice_index, set, subst, sym, ◌∙◌, ⊎_elim, arith, get_or-set_same, get_or-set_other, length-set}
-use Rattle.word_image.proofs.Common.{cases_eq, LocalRule, IsRule, node_count, IsNodeSet, IsSetOf-same}
+use Rattle.std.proofs.Common.{◌≡◌, ◌↔◌, ℕ, ◌+◌, ◌<◌, List, length, slice_index, set, ◌∙◌, arith, length-set}
+use Rattle.word_image.proofs.Common.{LocalRule, IsRule, node_count, IsNodeSet, IsSetOf-same, set_more}
 use Rattle.tail_preimage.specs.Relations.{IsRelation}
-
--- what holds of the first i rows, and of what is stored at the next place, holds of one row more
-pub row_more : {X : Type 0} (P : ℕ → X → Type 0) (xs : List X) (i j : ℕ) (d y : X) → i < length xs → j ≡ i → ((v : ℕ) → v < i → P v (get_or xs v d)) → P i y
-    → (v : ℕ) → v < i + 1 → P v (get_or (set xs j y) v d)
-row_more P xs i j d y inside e before here v l =
-    ⊎_elim
-    (λ same. subst (λ k. P v (get_or (set xs k y) v d)) (sym e) (subst (λ k. P k (get_or (set xs i y) k d)) (sym same) (subst (P i) (sym (get_or-set_same xs i y d inside)) here)))
-    (λ other. subst (λ k. P v (get_or (set xs k y) v d)) (sym e) (subst (P v) (sym (get_or-set_other xs i v y d other)) (before v (omega (arith, l, other)))))
-    (cases_eq v i)
 
 -- the rows of the first n nodes are filled
 pub record AreRowsFilled (r : LocalRule) (Related : ℕ → ℕ → Type 0) (n : ℕ) (rows : List ℕ) : Type 0 where
@@ -26,7 +17,7 @@ pub AreRowsFilled-more : {r : LocalRule} {Related : ℕ → ℕ → Type 0} {u r
     → AreRowsFilled r Related (u + 1) (set rows place row)
 AreRowsFilled-more {r} {Related} {u} {row} {rows} place rule l e h here = record {
   long = length-set rows place row ∙ h.long;
-  each = row_more (λ v set. IsNodeSet r (Related v) set) rows u place 0 row (omega (arith, rule.shape.most_nodes, h.long)) e h.each here;
+  each = set_more (λ v set. IsNodeSet r (Related v) set) rows u place 0 row (omega (arith, rule.shape.most_nodes, h.long)) e h.each here;
 }
 
 -- all rows are filled

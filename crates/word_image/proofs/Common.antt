@@ -39,22 +39,23 @@ pub use Rattle.word_image.specs.Windows.{HaveOneImage, IsDetermined, IsLeastDete
 pub use Rattle.word_image.specs.Words.{IsLeastOrphan, IsOrphan, IsPreimage, IsSurjective, image, word_cmp}
 pub use Rattle.word_image.proofs.laws.Bits.{IsBitSet-decide, IsBitSet-or, IsBitSet-pow, IsBitSet-some, IsBitSet-zero, bit_at-IsBitSet}
 pub use Rattle.word_image.proofs.laws.Comparisons.{nat_cmp-equal, nat_cmp-le, no_later, not_before, pair_cmp_total, pairs_cmp_total, slice_cmp-same, then_not_greater}
-pub use Rattle.word_image.proofs.laws.Graphs.{local_map-label, next-below, node_count_pos, pair_count-le, pair_count_pos, value-next, value-node, value-tail}
-pub use Rattle.word_image.proofs.laws.Images.{IsRule-mirrored, IsWord-reverse, get_or-image, image-by_letters, image-drop, image-mirrored, image-take, local_map-mirrored, mirrored-mirrored}
+pub use Rattle.word_image.proofs.laws.Graphs.{local_map-label, next-below, node_count_pos, pair_count-le, pair_count_pos, value-front, value-next, value-node, value-tail}
+pub use Rattle.word_image.proofs.laws.Images.{IsRule-mirrored, IsWord-reverse, image-drop, image-mirrored, local_map-mirrored, mirrored-mirrored}
 pub use Rattle.word_image.proofs.laws.LastSets.{IsBitSet-full, IsLastSet-full, IsLastSet-step, IsOrphan-empty_set, IsOrphan-not_surjective, IsPreimage-nonempty_set}
 pub use Rattle.word_image.proofs.laws.Lists.{AllZip-places, Contains-range, filled_more, letters_more, paired_at, paired_length, range-more, reverse-cut, slice_index-zeros}
 pub use Rattle.word_image.proofs.laws.Orders.{digits-lt, nat_cmp-add, slice_cmp-value, then_equal}
-pub use Rattle.word_image.proofs.laws.Places.{Contains-slice_get, only_place, slice_get-Contains, slice_get-append, slice_get-cut, slice_get-push, slice_get-push_cases, slice_get-unique}
+pub use Rattle.word_image.proofs.laws.Places.{Contains-slice_get, at-set, each-set, only_place, set_more, slice_get-Contains, slice_get-append, slice_get-cut, slice_get-push, slice_get-push_cases, slice_get-unique}
 pub use Rattle.word_image.proofs.laws.Prefixes.{Begins-prefix, Begins-text, IsFormFault-next, IsFormFault-rest, IsFormFault-stuck, IsFormFault-unique}
 pub use Rattle.word_image.proofs.laws.Results.{handed_on}
-pub use Rattle.word_image.proofs.laws.RingSums.{ring_letters-turn, sum_by-ring_image-from, sum_by-ring_letters}
-pub use Rattle.word_image.proofs.laws.Rings.{IsWord-ring_letters, ring_letter-below, ring_letter-turn, ring_letters-rem}
+pub use Rattle.word_image.proofs.laws.RingSums.{ring_letters-turn, sum_by-ring_image-from, sum_by-ring_letters, turn-all}
+pub use Rattle.word_image.proofs.laws.Rings.{IsWord-ring_letters, again-times, ring_letter-below, ring_letter-turn, ring_letters-rem}
 pub use Rattle.word_image.proofs.laws.RuleFaults.{IsShape-offset, IsShape-shape_fault, IsWord-position, IsWord-table_fault, part_long, power-few, shape_fault-IsShape, table_fault-IsWord, window_count-le}
 pub use Rattle.word_image.proofs.laws.RulesBy.{FitsSigned-offset, IsRuleBy-entries, IsRuleBy-map}
 pub use Rattle.word_image.proofs.laws.SameRules.{rule_from_parts}
-pub use Rattle.word_image.proofs.laws.Searches.{but, but_cases, but_else, but_there, decide_both, exists_below, moved, some_below, twice_below}
+pub use Rattle.word_image.proofs.laws.Searches.{all_taken, but, but_cases, but_else, but_there, chosen_below, decide_both, exists_below, moved, some_below, twice_below}
 pub use Rattle.word_image.proofs.laws.Unions.{IsSetOf-same, IsSetTo, IsSetTo-all, IsSetTo-skip, IsSetTo-take, IsUnion, IsUnion-none, IsUnion-take}
 pub use Rattle.word_image.proofs.laws.Values.{IsWord-word_of, length-word_of, value-append, value-below, value-drop, value-injective, value-snoc, value-take, value-take-below, value-take_more, value-word_of, value-zeros, word_of-value}
 pub use Rattle.word_image.proofs.laws.WindowParts.{end_node-below, get_or-word_of, letter-value, node_count-rest, node_parts, power-below, rest_count, some_letter, window_parts, window_with-within, windows-nodes}
-pub use Rattle.word_image.proofs.laws.Words.{IsLongerPreimage, IsPreimage-empty, IsPreimage-push, IsPreimage-snoc, IsWord-image, IsWord-le, entry-below, image-short, image-snoc, length-image, split_last, word_by_test}
+pub use Rattle.word_image.proofs.laws.WindowValues.{by_ends, fewer_values, get_or-image-word_of, length-image-word_of, value-take-word_of}
+pub use Rattle.word_image.proofs.laws.Words.{IsLongerPreimage, IsPreimage-empty, IsPreimage-push, IsPreimage-snoc, IsWord-image, IsWord-le, entry-below, get_or-image, image-by_letters, image-short, image-snoc, image-take, length-image, split_last, word_by_test}
 pub use Rattle.word_image.proofs.laws.WordsBy.{IsWordBy-letters}

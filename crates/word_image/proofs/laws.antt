@@ -22,3 +22,4 @@ pub mod Searches
 pub mod SameRules
 pub mod Weights
 pub mod Results
+pub mod WindowValues

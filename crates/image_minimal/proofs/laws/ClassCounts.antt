@@ -1,6 +1,5 @@
 -- How many classes there are, after numbers are joined.
-use Rattle.image_minimal.proofs.Common.{◌≡◌, ◌≢◌, ℕ, ◌+◌, ◌*◌, ◌<◌, ◌≤◌, List, length, map, get_or, set, slice_index, nat_eq, true, false, sym, ap, ◌∙◌, arith, ext_get_or, get_or-set_same, get_or-set_other, length-set, eq-eqb, ne_eqb, range_with_len, sum_by-set, if◌then◌else◌, sum_by, All-map, get_or-map-range_with_len, length-map-range_with_len, sum_by-le, class_count, root_mark}
-use Rattle.image_minimal.proofs.laws.Entries.{each-set}
+use Rattle.image_minimal.proofs.Common.{◌≡◌, ◌≢◌, ℕ, ◌+◌, ◌*◌, ◌<◌, ◌≤◌, List, length, map, get_or, set, slice_index, nat_eq, true, false, sym, ap, ◌∙◌, arith, ext_get_or, get_or-set_same, get_or-set_other, length-set, eq-eqb, ne_eqb, range_with_len, sum_by-set, if◌then◌else◌, sum_by, All-map, get_or-map-range_with_len, length-map-range_with_len, sum_by-le, class_count, root_mark, each-set}
 
 -- a mark is 0 or 1
 root_mark-le : (number parent : ℕ) → root_mark number parent ≤ 1

@@ -1,6 +1,5 @@
 -- The closure of a set by those of the sets with one node more.
-use Rattle.image_minimal.proofs.Common.{◌≡◌, ℕ, ◌+◌, ◌^◌, ◌<◌, ◌≤◌, ◌⊎◌, ◌↔◌, inl, inr, List, set, slice_index, IsBitSet, bit_and, bit_or, refl, sym, ◌∙◌, subst, arith, ⊎_elim, length-set, below_more, pow-lt, ⊎_map, cases_eq, decide_both, and_le_l, le_or_l, or_lt, LocalRule, node_count, IsNodeSet, IsSetOf, IsBitSet-or, IsBitSet-pow, IsBitSet-decide, some_below, IsSetOf-same, IsBitSet-and, same_set, IsWithin, IsUnreadSet, IsClosure, AreClosuresFrom}
-use Rattle.image_minimal.proofs.laws.Entries.{each-set}
+use Rattle.image_minimal.proofs.Common.{◌≡◌, ℕ, ◌+◌, ◌^◌, ◌<◌, ◌≤◌, ◌⊎◌, ◌↔◌, inl, inr, List, set, slice_index, IsBitSet, bit_and, bit_or, refl, sym, ◌∙◌, subst, arith, ⊎_elim, length-set, below_more, pow-lt, ⊎_map, cases_eq, decide_both, and_le_l, le_or_l, or_lt, LocalRule, node_count, IsNodeSet, IsSetOf, IsBitSet-or, IsBitSet-pow, IsBitSet-decide, some_below, IsSetOf-same, IsBitSet-and, same_set, IsWithin, IsUnreadSet, IsClosure, AreClosuresFrom, each-set}
 use Rattle.image_minimal.proofs.laws.Unread.{IsUnreadSet-below, lacks}
 
 -- an unread set is its own closure

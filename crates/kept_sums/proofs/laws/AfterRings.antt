@@ -7,7 +7,7 @@ use Rattle.kept_sums.specs.Spans.{entry, gain_at, IsNarrowed, AreSmall}
 use Rattle.kept_sums.specs.Stages.{IsStage, IsAfterRing, IsCondition}
 use Rattle.kept_sums.proofs.laws.Sums.{gain_at-swap}
 use Rattle.kept_sums.proofs.laws.Spans.{gain_at-narrowed, gain_at-narrowed_here}
-use Rattle.kept_sums.proofs.laws.Densities.{length-ring_image, KeepsSumOf-gain, gain-KeepsSumOf}
+use Rattle.kept_sums.proofs.laws.Densities.{length-ring_image, KeepsSumOf-gain}
 use Rattle.kept_sums.proofs.laws.Stages.{IsStage-narrowed}
 
 -- how many words stand round a ring
@@ -46,7 +46,7 @@ IsCondition-ring {r} rule range p few short ring =
         few_after = omega (arith, short, length-blocks r.states range (ring_image r p), length-ring_image r p);
         few_before = omega (arith, short, length-blocks r.states range p);
       };
-      keeps = λ weight. (KeepsSumOf-gain range weight r p, gain-KeepsSumOf range weight r p);
+      keeps = λ weight. KeepsSumOf-gain range weight r p;
     }
 
 -- the same of the two words in the other order
@@ -66,9 +66,9 @@ IsAfterRing-narrowed {r} {range} {j} {rows} {news} rule n letters stage few cond
   stage = IsStage-narrowed n letters stage few condition lies last narrowed small some fits ring;
   keep = λ i l. (condition.keeps (entry news i)).1 (gain_at-narrowed_here narrowed condition.short.after_word condition.short.before_word i l);
   others = λ q other keep i l.
-      gain-KeepsSumOf range (entry news i) r q
+      (KeepsSumOf-gain range (entry news i) r q).1
       (gain_at-narrowed lies narrowed (after_of r range q) (before_of r range q)
       (IsWord-le _ 16 _ few (IsWord-blocks range (IsRing-ring_image rule other)))
       (IsWord-le _ 16 _ few (IsWord-blocks range other))
-      (λ m h. KeepsSumOf-gain range (entry rows m) r q (keep m h)) i l);
+      (λ m h. (KeepsSumOf-gain range (entry rows m) r q).0 (keep m h)) i l);
 }

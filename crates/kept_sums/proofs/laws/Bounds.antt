@@ -10,7 +10,7 @@ use Rattle.kept_sums.specs.Stages.{IsFree, ring_at, IsZero, NotedKeep, IsStage, 
 use Rattle.kept_sums.proofs.laws.Integers.{factor-none}
 use Rattle.kept_sums.proofs.laws.Spans.{sum_to-one, spanned_crosses}
 use Rattle.kept_sums.proofs.laws.Combined.{multiple_of}
-use Rattle.kept_sums.proofs.laws.Densities.{length-ring_image, gain-KeepsSumOf}
+use Rattle.kept_sums.proofs.laws.Densities.{length-ring_image, KeepsSumOf-gain}
 use Rattle.kept_sums.proofs.laws.Narrowed.{gain_at-zero}
 use Rattle.kept_sums.proofs.laws.Stages.{free_before, free_more, Stands, stands_or_zero, stands-count, Stands-gains, NotedKeep-set, none-past}
 use Rattle.kept_sums.proofs.laws.AfterRings.{length-blocks, after_of, before_of}
@@ -70,7 +70,7 @@ noted_solution {r} {range} rule some few counts rings noted i l none =
       place = s.place;
       within = s.within;
       some = s.some;
-      keep = λ m n count. gain-KeepsSumOf range s.weight r (p m) (s.solves m n count);
+      keep = λ m n count. (KeepsSumOf-gain range s.weight r (p m)).1 (s.solves m n count);
     }
 
 -- sizes: where multiples of numbers are multiples of small ones, the numbers divided by a combination of them are small

@@ -7,7 +7,7 @@ use Rattle.kept_sums.specs.Sums.{sum_at, blocks, KeepsSumOf, IsKept}
 use Rattle.kept_sums.specs.Fluxes.{IsFluxOf, window_gain}
 use Rattle.kept_sums.proofs.laws.Sums.{sum_at-pos}
 use Rattle.kept_sums.proofs.laws.Locals.{potential, window-potential, turn_sum-steps}
-use Rattle.kept_sums.proofs.laws.Densities.{gain-windows, KeepsSumOf-gain, gain-KeepsSumOf}
+use Rattle.kept_sums.proofs.laws.Densities.{gain-windows, KeepsSumOf-gain}
 
 -- weights whose sum each ring of at most 2 (m + range - 1) - 1 letters keeps have a flux
 pub IsFluxOf-short_rings : {r : LocalRule} → IsRule r → (range : ℕ) (weight : ℕ → ℤ) → 1 ≤ range → ((p : List ℕ) → IsRing r.states p → length p + 3 ≤ 2 * (r.width + range) → KeepsSumOf range weight r p)
@@ -19,7 +19,7 @@ IsFluxOf-short_rings {r} rule range weight some keep =
     let h : List ℕ → ℤ = window_gain r range weight in
     let phi : ℕ → ℤ = λ v. potential h d (word_of k d v) in
     let back : (u : List ℕ) → IsWord k u → length u ≡ d → phi (value k u) ≡ potential h d u = λ u word long. ap (potential h d) (ap (λ n. word_of k n (value k u)) (sym long) ∙ word_of-value k u word) in
-    let vanish = λ (p : List ℕ) (ring : IsRing k p) (short : length p ≤ 2 * d + 1). sym (gain-windows rule range d weight p (omega arith) ring.some) ∙ KeepsSumOf-gain range weight r p (keep p ring (omega arith)) in (
+    let vanish = λ (p : List ℕ) (ring : IsRing k p) (short : length p ≤ 2 * d + 1). sym (gain-windows rule range d weight p (omega arith) ring.some) ∙ (KeepsSumOf-gain range weight r p).0 (keep p ring (omega arith)) in (
       phi,
       record {
         flows = λ w word long.
@@ -37,7 +37,7 @@ IsKept-flux {r} rule range weight phi some flux p ring =
     let steps = turn_sum-steps (window_gain r range weight) (λ w. phi (value r.states w)) (pos 0) d p ring (λ w word long.
     let less : length w - 1 ≡ d = omega arith in
     omega (arith, ints, flux.flows w word (omega arith), ap (λ n. phi (value r.states (take n w))) less)) in
-    gain-KeepsSumOf range weight r p (gain-windows rule range d weight p (omega arith) ring.some ∙ steps ∙ omega (arith, ints))
+    (KeepsSumOf-gain range weight r p).1 (gain-windows rule range d weight p (omega arith) ring.some ∙ steps ∙ omega (arith, ints))
 
 -- where each ring of at most 2 (m + range - 1) - 1 letters keeps the sum, each ring does
 pub IsKept-short_rings : {r : LocalRule} → IsRule r → (range : ℕ) (weight : ℕ → ℤ) → 1 ≤ range

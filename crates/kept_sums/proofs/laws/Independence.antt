@@ -8,7 +8,7 @@ use Rattle.kept_sums.specs.Trivials.{IsTrivial}
 use Rattle.kept_sums.specs.Independence.{ring_gain, IsNeeded, places_with}
 use Rattle.kept_sums.proofs.laws.Integers.{other_factor, zero-of_times, factor-none}
 use Rattle.kept_sums.proofs.laws.Spans.{sum_to-one, sum_to-none}
-use Rattle.kept_sums.proofs.laws.Densities.{KeepsSumOf-gain, gain-KeepsSumOf}
+use Rattle.kept_sums.proofs.laws.Densities.{KeepsSumOf-gain}
 use Rattle.kept_sums.proofs.laws.Trivials.{IsNormal-trivial}
 use Rattle.kept_sums.proofs.laws.Unique.{part-none, IsSpanned-all}
 use Rattle.kept_sums.proofs.laws.Stages.{free_before, free_more, Stands, stands_or_zero, stands-count, none-past, not_both}
@@ -94,11 +94,11 @@ rings-independent {r} {range} {rows} {counts} {rings} rule few stage parts vanis
     factor-none (parts m) (gain m)
     (⊎_elim
     (λ (none : slice_index counts m < 1). ring_gain-none r range counts rings needed.weight m (omega arith))
-    (λ (here : 1 ≤ slice_index counts m). KeepsSumOf-gain range needed.weight r (ring_at counts rings m) (needed.others m n here apart))
+    (λ (here : 1 ≤ slice_index counts m). (KeepsSumOf-gain range needed.weight r (ring_at counts rings m)).0 (needed.others m n here apart))
     (cases_lt (slice_index counts m) 1)) in
     let whole : sum_to 16 (λ m. parts m *ℤ gain m) ≡ parts i *ℤ gain i =
     sum_to-one 16 (λ m. parts m *ℤ gain m) i l beside in
-    other_factor (parts i) (gain i) (λ none. needed.changed (gain-KeepsSumOf range needed.weight r (ring_at counts rings i) none)) (sym whole ∙ vanish needed.weight needed.normal)
+    other_factor (parts i) (gain i) (λ none. needed.changed ((KeepsSumOf-gain range needed.weight r (ring_at counts rings i)).1 none)) (sym whole ∙ vanish needed.weight needed.normal)
 
 -- how often a number counts
 abbrev count : ℕ → ℕ

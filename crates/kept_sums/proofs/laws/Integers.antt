@@ -1,16 +1,13 @@
 -- Rings of integers: products over sums, and that a product is zero only where a factor is.
 use Rattle.std.proofs.Common.{◌≡◌, ◌≢◌, ℕ, ◌*◌, ◌≤◌, ℤ, pos, ◌+ℤ◌, ◌-ℤ◌, ◌*ℤ◌, neg_ℤ, sym, ap, ap₂, ◌∙◌, arith, unsigned_abs}
 use Rattle.std.proofs.Math.Nat.{mul-le-mul_right}
+use Rattle.std.proofs.Math.IntN.{*ℤ_comm}
 use Rattle.word_image.proofs.Common.{ints, unsigned_abs-mul}
 use borrow.Author.Differences.{up, down, sum_is_lem, product_is, neg_is}
 
 -- a product with a sum
 pub mul-add : (x a b : ℤ) → x *ℤ (a +ℤ b) ≡ (x *ℤ a) +ℤ (x *ℤ b)
 mul-add x a b = omega (arith, ints, ap (λ (n : ℕ). up x * n) (sum_is_lem a b), ap (λ (n : ℕ). down x * n) (sum_is_lem a b))
-
--- the factors of a product change places
-pub mul-comm : (a b : ℤ) → a *ℤ b ≡ b *ℤ a
-mul-comm a b = omega (arith, ints)
 
 -- a product with a negative
 pub mul-neg : (x a : ℤ) → x *ℤ neg_ℤ a ≡ neg_ℤ (x *ℤ a)
@@ -19,10 +16,6 @@ mul-neg x a = omega (arith, ints, ap (λ (n : ℕ). up x * n) (neg_is a).0, ap (
 -- a product with a difference
 pub mul-sub : (x a b : ℤ) → x *ℤ (a -ℤ b) ≡ (x *ℤ a) -ℤ (x *ℤ b)
 mul-sub x a b = mul-add x a (neg_ℤ b) ∙ ap (λ (z : ℤ). (x *ℤ a) +ℤ z) (mul-neg x b)
-
--- the product of a sum
-pub add-mul : (a b x : ℤ) → (a +ℤ b) *ℤ x ≡ (a *ℤ x) +ℤ (b *ℤ x)
-add-mul a b x = mul-comm (a +ℤ b) x ∙ mul-add x a b ∙ ap₂ (λ (u v : ℤ). u +ℤ v) (mul-comm x a) (mul-comm x b)
 
 -- the product of three numbers, from either end
 pub mul-assoc : (a b c : ℤ) → (a *ℤ b) *ℤ c ≡ a *ℤ (b *ℤ c)
@@ -35,7 +28,7 @@ mul-assoc a b c =
 
 -- two factors change places
 pub mul-swap : (a b c : ℤ) → a *ℤ (b *ℤ c) ≡ b *ℤ (a *ℤ c)
-mul-swap a b c = sym (mul-assoc a b c) ∙ ap (λ (x : ℤ). x *ℤ c) (mul-comm a b) ∙ mul-assoc b a c
+mul-swap a b c = sym (mul-assoc a b c) ∙ ap (λ (x : ℤ). x *ℤ c) (*ℤ_comm a b) ∙ mul-assoc b a c
 
 -- a positive number times a number that isn't 0 isn't 0
 pub zero-of_times : (n : ℕ) (x : ℤ) → 1 ≤ n → pos n *ℤ x ≡ pos 0 → x ≡ pos 0
@@ -47,7 +40,7 @@ other_factor c x some e = zero-of_times (unsigned_abs x) c (omega (arith, ints))
 
 -- the product of a difference
 pub sub-mul : (a b x : ℤ) → (a -ℤ b) *ℤ x ≡ (a *ℤ x) -ℤ (b *ℤ x)
-sub-mul a b x = mul-comm (a -ℤ b) x ∙ mul-sub x a b ∙ ap₂ (λ (u v : ℤ). u -ℤ v) (mul-comm x a) (mul-comm x b)
+sub-mul a b x = *ℤ_comm (a -ℤ b) x ∙ mul-sub x a b ∙ ap₂ (λ (u v : ℤ). u -ℤ v) (*ℤ_comm x a) (*ℤ_comm x b)
 
 -- a product of 0 is 0
 pub zero-factor : (c x : ℤ) → c ≡ pos 0 → c *ℤ x ≡ pos 0

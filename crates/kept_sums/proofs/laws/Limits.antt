@@ -2,21 +2,11 @@
 use Rattle.std.proofs.Common.{◌≡◌, ℕ, suc, ◌+◌, ◌-◌, ◌*◌, ◌^◌, ◌<◌, ◌≤◌, ap, ◌∙◌, ⊎_elim, arith}
 use Rattle.std.proofs.Math.Nat.{pow-suc, mul-le-mul_left}
 use Rattle.word_image.proofs.Common.{one-le-pow, pow-le-pow_left, pow-le-pow_right, cases_lt, LocalRule, IsRule}
+use Rattle.kept_sums.proofs.laws.Ranges.{exponent}
 
 -- how many places are free, at most
 abbrev pub free_count : LocalRule → ℕ → ℕ
 free_count r range = r.states ^ range - r.states ^ (range - 1)
-
--- a power that is at most 16 has a small exponent
-exponent : (b c k n : ℕ) → 1 ≤ b → b ≤ k → 16 < b ^ c → k ^ n ≤ 16 → n < c
-exponent b c k n some least more few =
-    ⊎_elim
-    (λ (less : n < c). less)
-    (λ (most : c ≤ n).
-    let base : b ^ n ≤ k ^ n = pow-le-pow_left least n in
-    let grows : b ^ c ≤ b ^ n = pow-le-pow_right some {i = c} {j = n} most in
-    absurd (omega arith))
-    (cases_lt n c)
 
 -- a power of a number and an exponent that have bounds
 power : (b e base top : ℕ) → b ≤ base → e ≤ top → 1 ≤ base → base ^ top ≤ 2 ^ 56 → b ^ e ≤ 2 ^ 56

@@ -1,17 +1,10 @@
 -- Rows as they are filled, and a row divided by its greatest divisor.
-use Rattle.std.proofs.Common.{◌≡◌, ◌≢◌, ℕ, ◌+◌, ◌<◌, ◌≤◌, List, length, set, replicate, get_or-set_other, get_or-set_same, below_more, ℤ, pos, ◌*ℤ◌, sym, ap, subst, ◌∙◌, ⊎_elim, arith, unsigned_abs}
+use Rattle.std.proofs.Common.{◌≡◌, ℕ, ◌<◌, ◌≤◌, List, set, replicate, get_or-set_other, get_or-set_same, ℤ, pos, ◌*ℤ◌, ap, subst, ◌∙◌, ⊎_elim, arith, unsigned_abs}
 use Rattle.std.proofs.Math.ListN.{get_or-eq_default}
 use Rattle.word_image.proofs.Common.{eq-zero_of_zero-dvd, ints, cases_lt, get_or-replicate, length-replicate}
 use Prim.Native.Nat.{◌∣◌}
 use Rattle.kept_sums.specs.Rows.{at, IsDivisor, IsPart, IsUnit}
 use Rattle.kept_sums.proofs.laws.Combined.{IsCombined-divided}
-
--- what holds of the first numbers and of the one that is stored next
-pub put : (P : ℕ → ℤ → Type 0) (row : List ℤ) (n : ℕ) (x : ℤ) → n < length row → ((a : ℕ) → a < n → P a (at row a)) → P n x → (a : ℕ) → a < n + 1 → P a (at (set row n x) a)
-put P row n x within before here =
-    below_more _ _
-    (λ a l. let other : a ≢ n = omega arith in subst (P a) (sym (get_or-set_other row n a x (pos 0) other)) (before a l))
-    (subst (P n) (sym (get_or-set_same row n x (pos 0) within)) here)
 
 -- a row of zeros has them everywhere
 pub at-replicate : (n a : ℕ) → at (replicate n (pos 0)) a ≡ pos 0

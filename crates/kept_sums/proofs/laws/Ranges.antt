@@ -2,16 +2,20 @@
 use Rattle.std.proofs.Common.{◌≡◌, ℕ, suc, ◌+◌, ◌*◌, ◌^◌, ◌<◌, ◌≤◌, ap, ◌∙◌, ⊎_elim, arith, pow-suc}
 use Rattle.word_image.proofs.Common.{pow-le-pow_left, pow-le-pow_right, cases_lt, LocalRule, IsRule}
 
+-- a power that is at most 16 has a small exponent
+pub exponent : (b c k n : ℕ) → 1 ≤ b → b ≤ k → 16 < b ^ c → k ^ n ≤ 16 → n < c
+exponent b c k n some least more few =
+    ⊎_elim
+    (λ (less : n < c). less)
+    (λ (most : c ≤ n).
+    let base : b ^ n ≤ k ^ n = pow-le-pow_left least n in
+    let grows : b ^ c ≤ b ^ n = pow-le-pow_right some {i = c} {j = n} most in
+    absurd (omega arith))
+    (cases_lt n c)
+
 -- words of which there are at most 16 have at most 4 letters
 pub few : (k range : ℕ) → 2 ≤ k → k ^ range ≤ 16 → range ≤ 4
-few k range some most =
-    ⊎_elim
-    (λ (less : range < 5). omega arith)
-    (λ (more : 5 ≤ range).
-    let base : 2 ^ range ≤ k ^ range = pow-le-pow_left some range in
-    let exponent : 2 ^ 5 ≤ 2 ^ range = pow-le-pow_right (omega arith) {i = 5} {j = range} more in
-    absurd (omega arith))
-    (cases_lt range 5)
+few k range some most = let less = exponent 2 5 k range (omega arith) some (omega arith) most in omega arith
 
 -- one power more
 pub pow-next : (k n : ℕ) → k ^ (n + 1) ≡ k ^ n * k

@@ -1,23 +1,17 @@
 -- The step of the elimination: what it leaves keeps one sum more, and each weight that keeps it is still a combination.
-use Rattle.std.proofs.Common.{◌≡◌, ◌≢◌, ℕ, zero, suc, ◌*◌, ◌<◌, ◌≤◌, List, ℤ, pos, ◌+ℤ◌, ◌-ℤ◌, ◌*ℤ◌, refl, sym, ap, ap₂, ◌∙◌, ⊎_elim, ◌⊎◌, inl, inr, arith, mul-le-mul}
+use Rattle.std.proofs.Common.{◌≡◌, ◌≢◌, ℕ, zero, suc, ◌+◌, ◌*◌, ◌<◌, ◌≤◌, List, map, ℤ, pos, ◌+ℤ◌, ◌-ℤ◌, ◌*ℤ◌, refl, sym, ap, ap₂, ◌∙◌, ⊎_elim, arith, mul-le-mul}
 use Rattle.std.proofs.Math.IntN.{pos-*ℤ-pos}
-use Rattle.word_image.proofs.Common.{cases_lt, cases_eq, ints, IsWord}
-use Rattle.kept_sums.specs.Sums.{sum_to}
+use Rattle.word_image.proofs.Common.{cases_eq, chosen_below, ints, map-range_with_len_more, range_with_len, IsWord}
+use Rattle.kept_sums.specs.Sums.{sum_at, sum_to}
 use Rattle.kept_sums.specs.Spans.{entry, IsSpanned, gain_at, IsNarrowed}
-use Rattle.kept_sums.proofs.laws.Integers.{mul-add, mul-sub, add-mul, mul-assoc, mul-swap, zero-of_times, factor-none}
-use Rattle.kept_sums.proofs.laws.Sums.{gain_at-agree, gain_at-scaled, gain_at-add, gain_at-sub, gain_at-none}
+use Rattle.kept_sums.proofs.laws.Integers.{mul-add, mul-sub, mul-assoc, mul-swap, zero-of_times, factor-none}
+use Rattle.kept_sums.proofs.laws.Sums.{sum_at-snoc, gain_at-agree, gain_at-scaled, gain_at-add, gain_at-sub, gain_at-none}
 
 -- the sum of equal numbers is equal
 pub sum_to-agree : (n : ℕ) {f g : ℕ → ℤ} → ((i : ℕ) → i < n → f i ≡ g i) → sum_to n f ≡ sum_to n g
 unfolding sum_to
 sum_to-agree zero agree = refl
 sum_to-agree (suc n) {f} {g} agree = ap₂ (λ (x y : ℤ). x +ℤ y) (sum_to-agree n (λ i l. agree i (omega arith))) (agree n (omega arith))
-
--- the sum of sums
-pub sum_to-add : (n : ℕ) (f g : ℕ → ℤ) → sum_to n (λ i. f i +ℤ g i) ≡ sum_to n f +ℤ sum_to n g
-unfolding sum_to
-sum_to-add zero f g = omega (arith, ints)
-sum_to-add (suc n) f g = omega (arith, ints, sum_to-add n f g)
 
 -- the sum of differences
 pub sum_to-sub : (n : ℕ) (f g : ℕ → ℤ) → sum_to n (λ i. f i -ℤ g i) ≡ sum_to n f -ℤ sum_to n g
@@ -30,6 +24,23 @@ pub sum_to-scaled : (n : ℕ) (x : ℤ) (f : ℕ → ℤ) → sum_to n (λ i. x 
 unfolding sum_to
 sum_to-scaled zero x f = omega (arith, ints)
 sum_to-scaled (suc n) x f = omega (arith, ints, sum_to-scaled n x f, mul-add x (sum_to n f) (f n))
+
+-- n + 1 terms are the others and the last, or the first and the others
+pub sum_to-ends : (n : ℕ) (f : ℕ → ℤ) → sum_to n f +ℤ f n ≡ f 0 +ℤ sum_to n (λ i. f (i + 1))
+unfolding sum_to
+sum_to-ends zero f = omega (arith, ints)
+sum_to-ends (suc n) f = let e : n + 1 ≡ suc n = omega arith in omega (arith, ints, sum_to-ends n f, ap f e)
+
+-- the sum over a list of n values
+pub sum_at-map : (weight : ℕ → ℤ) (f : ℕ → ℕ) (n : ℕ) → sum_at weight (map f (range_with_len 0 n)) ≡ sum_to n (λ i. weight (f i))
+unfolding sum_to
+sum_at-map weight f zero = refl
+sum_at-map weight f (suc n) =
+    let next : suc n ≡ n + 1 = omega arith in
+    ap (λ j. sum_at weight (map f (range_with_len 0 j))) next
+    ∙ ap (sum_at weight) (map-range_with_len_more f 0 n n (omega arith))
+    ∙ sum_at-snoc weight (map f (range_with_len 0 n)) (f n)
+    ∙ ap (λ (x : ℤ). x +ℤ weight (f n)) (sum_at-map weight f n)
 
 -- no number is other than 0
 pub sum_to-none : (n : ℕ) (f : ℕ → ℤ) → ((i : ℕ) → i < n → f i ≡ pos 0) → sum_to n f ≡ pos 0
@@ -57,21 +68,16 @@ gain_at-sum_to (suc n) parts rows x y =
     ∙ ap₂ (λ (u v : ℤ). u +ℤ v) (gain_at-sum_to n parts rows x y) (gain_at-scaled (parts n) (rows n) x y)
 
 -- one part of a combination, crossed
-crossed_part : (part lead old gain other : ℤ) → part *ℤ ((lead *ℤ old) -ℤ (gain *ℤ other)) ≡ (lead *ℤ (part *ℤ old)) -ℤ ((part *ℤ gain) *ℤ other)
+crossed_part : (part lead old gain other : ℤ) → part *ℤ ((lead *ℤ old) -ℤ (gain *ℤ other)) ≡ (lead *ℤ (part *ℤ old)) -ℤ (other *ℤ (part *ℤ gain))
 crossed_part part lead old gain other = omega (arith, ints, mul-sub part (lead *ℤ old) (gain *ℤ other), mul-swap part lead old, mul-assoc part gain other)
 
 -- a combination of crosses is the cross of two combinations
 sum_to-crossed : (n : ℕ) (parts old gain : ℕ → ℤ) (lead other : ℤ)
-    → sum_to n (λ i. parts i *ℤ ((lead *ℤ old i) -ℤ (gain i *ℤ other)))
-    ≡ (lead *ℤ sum_to n (λ i. parts i *ℤ old i)) -ℤ (sum_to n (λ i. parts i *ℤ gain i) *ℤ other)
-unfolding sum_to
-sum_to-crossed zero parts old gain lead other = omega (arith, ints)
-sum_to-crossed (suc n) parts old gain lead other =
-    let front = sum_to-crossed n parts old gain lead other in
-    let last = crossed_part (parts n) lead (old n) (gain n) other in
-    let first = mul-add lead (sum_to n (λ i. parts i *ℤ old i)) (parts n *ℤ old n) in
-    let second = add-mul (sum_to n (λ i. parts i *ℤ gain i)) (parts n *ℤ gain n) other in
-    omega (arith, ints, front, last, first, second)
+    → sum_to n (λ i. parts i *ℤ ((lead *ℤ old i) -ℤ (gain i *ℤ other))) ≡ (lead *ℤ sum_to n (λ i. parts i *ℤ old i)) -ℤ (other *ℤ sum_to n (λ i. parts i *ℤ gain i))
+sum_to-crossed n parts old gain lead other =
+    sum_to-agree n (λ i _. crossed_part (parts i) lead (old i) (gain i) other)
+    ∙ sum_to-sub n (λ i. lead *ℤ (parts i *ℤ old i)) (λ i. other *ℤ (parts i *ℤ gain i))
+    ∙ ap₂ (λ (u v : ℤ). u -ℤ v) (sum_to-scaled n lead (λ i. parts i *ℤ old i)) (sum_to-scaled n other (λ i. parts i *ℤ gain i))
 
 -- weights that gain nothing are combined of the crosses of the rows with one of them
 pub spanned_crosses : {k : ℕ} {rows : List (List ℤ)} {weight : ℕ → ℤ} (lead j : ℕ) (x y : List ℕ) → IsWord k x → IsWord k y → gain_at weight x y ≡ pos 0 → (spanned : IsSpanned k rows weight)
@@ -86,27 +92,15 @@ spanned_crosses {rows = rows} {weight} lead j x y one two none spanned a l =
     ap (λ (z : ℤ). z *ℤ weight a) (sym (pos-*ℤ-pos lead spanned.times))
     ∙ mul-assoc (pos lead) (pos spanned.times) (weight a)
     ∙ omega (arith, ints)
-    ∙ ap₂ (λ (s n : ℤ). (pos lead *ℤ s) -ℤ (n *ℤ entry rows j a)) (spanned.sums a l) (sym nothing)
+    ∙ ap₂ (λ (s n : ℤ). (pos lead *ℤ s) -ℤ (entry rows j a *ℤ n)) (spanned.sums a l) (sym nothing)
     ∙ sym (sum_to-crossed 16 spanned.parts (λ i. entry rows i a) gain (pos lead) (entry rows j a))
-
--- a number that each number below n has, and 0 for the others
-chosen : (P : ℕ → ℕ → Type 0) (n : ℕ) → ((i : ℕ) → i < n → (s : ℕ) × P i s) → (i : ℕ) → (i < n) ⊎ (n ≤ i) → ℕ
-chosen P n each i (inl l) = (each i l).0
-chosen P n each i (inr l) = 0
-
--- a number below n has what is chosen for it
-chosen-is : (P : ℕ → ℕ → Type 0) (n : ℕ) (each : (i : ℕ) → i < n → (s : ℕ) × P i s) (i : ℕ) → i < n → (c : (i < n) ⊎ (n ≤ i)) → P i (chosen P n each i c)
-unfolding chosen
-chosen-is P n each i l (inl h) = (each i h).1
-chosen-is P n each i l (inr h) = absurd (omega arith)
 
 -- weights that gain nothing are a combination of the narrowed rows where they are one of the rows
 pub IsSpanned-narrowed : {k j : ℕ} {rows news : List (List ℤ)} {x y : List ℕ} {weight : ℕ → ℤ} → k ≤ 16 → IsWord k x → IsWord k y
     → IsNarrowed rows x y j news → gain_at weight x y ≡ pos 0 → IsSpanned k rows weight → IsSpanned k news weight
 IsSpanned-narrowed {k} {j} {rows} {news} {x} {y} {weight} few one two narrowed none spanned =
-    let P : ℕ → ℕ → Type 0 = λ i s. (a : ℕ) → a < 16 → pos s *ℤ entry news i a ≡ (pos narrowed.lead *ℤ entry rows i a) -ℤ (gain_at (entry rows i) x y *ℤ entry rows j a) in
-    let each : (i : ℕ) → i < 16 → (s : ℕ) × P i s = λ i l. ((narrowed.each i l).share, (narrowed.each i l).cross) in
-    let share : ℕ → ℕ = λ i. chosen P 16 each i (cases_lt i 16) in
+    let (share, cross) = chosen_below ℕ (λ i s. (a : ℕ) → a < 16 → pos s *ℤ entry news i a ≡ (pos narrowed.lead *ℤ entry rows i a) -ℤ (gain_at (entry rows i) x y *ℤ entry rows j a)) 16 0
+    (λ i l. ((narrowed.each i l).share, (narrowed.each i l).cross)) in
     record {
       times = narrowed.lead * spanned.times;
       some = mul-le-mul narrowed.some spanned.some;
@@ -114,7 +108,7 @@ IsSpanned-narrowed {k} {j} {rows} {news} {x} {y} {weight} few one two narrowed n
       sums = λ a l.
           spanned_crosses narrowed.lead j x y one two none spanned a l
           ∙ sum_to-agree 16 (λ i h.
-          ap (λ (z : ℤ). spanned.parts i *ℤ z) (sym (chosen-is P 16 each i h (cases_lt i 16) a (omega arith)))
+          ap (λ (z : ℤ). spanned.parts i *ℤ z) (sym (cross i h a (omega arith)))
           ∙ sym (mul-assoc (spanned.parts i) (pos (share i)) (entry news i a)));
     }
 

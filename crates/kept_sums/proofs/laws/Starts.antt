@@ -8,7 +8,7 @@ use Rattle.kept_sums.specs.Spans.{entry, IsSpanned}
 use Rattle.kept_sums.specs.Stages.{IsZero, IsStage}
 use Rattle.kept_sums.proofs.laws.Parts.{at-replicate}
 use Rattle.kept_sums.proofs.laws.Spans.{sum_to-one}
-use Rattle.kept_sums.proofs.laws.Densities.{gain-KeepsSumOf}
+use Rattle.kept_sums.proofs.laws.Densities.{KeepsSumOf-gain}
 use Rattle.kept_sums.proofs.laws.Narrowed.{gain_at-zero}
 use Rattle.kept_sums.proofs.laws.Stages.{Stands, stands_or_zero, not_both}
 use Rattle.kept_sums.proofs.laws.AfterRings.{IsWord-blocks, IsRing-ring_image}
@@ -112,7 +112,7 @@ IsKept-rows {r} {range} {rows} rule few stage kept i l =
     ⊎_elim
     (λ (stands : Stands r.states range rows i). kept i l (not_both (entry rows i i) stands.standing.leads))
     (λ (zeros : IsZero rows i). λ p ring.
-    gain-KeepsSumOf range (entry rows i) r p
+    (KeepsSumOf-gain range (entry rows i) r p).1
     (gain_at-zero rows i _ _ (IsWord-le _ 16 _ few (IsWord-blocks range (IsRing-ring_image rule ring)))
     (IsWord-le _ 16 _ few (IsWord-blocks range ring)) zeros))
     (stands_or_zero (stage.places i l))

@@ -1,16 +1,16 @@
 -- Trivial weights: each rule keeps their sums; each weight is a normal one and a trivial one; only 0 is both.
-use Rattle.std.proofs.Common.{◌≡◌, ℕ, zero, suc, ◌+◌, ◌-◌, ◌*◌, ◌/◌, ◌%◌, ◌^◌, ◌<◌, ◌≤◌, List, length, take, drop, ℤ, pos, ◌+ℤ◌, ◌-ℤ◌, ◌*ℤ◌, sym, ap, ap₂, ◌∙◌, arith, mod-lt}
-use Rattle.std.proofs.Math.Nat.{pow-suc, mod-eq_of_lt, div-one}
+use Rattle.std.proofs.Common.{◌≡◌, ℕ, zero, suc, ◌+◌, ◌-◌, ◌/◌, ◌%◌, ◌^◌, ◌<◌, ◌≤◌, List, length, take, drop, ℤ, pos, ◌+ℤ◌, ◌-ℤ◌, ◌*ℤ◌, sym, ap, ap₂, subst, ◌∙◌, arith, mod-lt}
+use Rattle.std.proofs.Math.Nat.{pow-suc, mul-le-mul_left, mod-eq_of_lt}
 use Rattle.std.proofs.lemmas.Nat.{div_below}
-use Rattle.word_image.proofs.Common.{one-le-pow, pow-zero, div-div-eq-div-mul, div-eq_of_lt, zero-div, pow-le-pow_right, ints, LocalRule, IsRule, IsWord, value, word_of, IsRing, ring_letters, ring_image, value-take, value-drop, length-word_of, IsWord-word_of, value-word_of}
+use Rattle.word_image.proofs.Common.{one-le-pow, pow-zero, zero-div, pow-le-pow_right, ints, LocalRule, IsRule, value, IsRing, ring_letters, ring_image, by_ends, value-front, value-tail, value-word_of}
 use Rattle.kept_sums.specs.Sums.{sum_at, blocks, KeepsSumOf, IsKept, sum_to}
 use Rattle.kept_sums.specs.Stages.{IsNormal, ring_at, NotedKeep, IsStage}
+use Rattle.kept_sums.specs.Fluxes.{IsFlowBy}
 use Rattle.kept_sums.specs.Trivials.{IsTrivial, IsSpannedUpToTrivial}
 use Rattle.kept_sums.proofs.laws.Integers.{mul-add, mul-sub}
 use Rattle.kept_sums.proofs.laws.Ranges.{pow-next}
 use Rattle.kept_sums.proofs.laws.Sums.{sum_at-sub}
-use Rattle.kept_sums.proofs.laws.Spans.{sum_to-agree}
-use Rattle.kept_sums.proofs.laws.Turns.{sum_at-map, sum_to-ends}
+use Rattle.kept_sums.proofs.laws.Spans.{sum_at-map}
 use Rattle.kept_sums.proofs.laws.Locals.{turn_sum-steps}
 use Rattle.kept_sums.proofs.laws.Densities.{length-ring_image}
 use Rattle.kept_sums.proofs.laws.AfterRings.{IsRing-ring_image}
@@ -32,21 +32,15 @@ IsKept-trivial {r} rule range weight some trivial p ring =
 
 -- the function that makes weights trivial on the words that begin with the letter 0
 pub potential_of : ℕ → ℕ → (ℕ → ℤ) → ℕ → ℤ
-potential_of k d weight v = sum_to d (λ j. weight 0 -ℤ weight (v / k ^ j))
+potential_of k zero weight v = pos 0
+potential_of k (suc d) weight v = (weight 0 -ℤ weight v) +ℤ potential_of k d weight (v / k)
 
 -- the weight of a word, by what the potential gives on the word and without its last letter
 potential-step : (k d : ℕ) (weight : ℕ → ℤ) (v : ℕ) → v < k ^ d → weight v ≡ weight 0 +ℤ (potential_of k d weight (v / k) -ℤ potential_of k d weight v)
 unfolding potential_of
-potential-step k d weight v l =
-    let down : ℕ → ℤ = λ j. weight 0 -ℤ weight (v / k ^ j) in
-    let next : (j : ℕ) → j < d → (weight 0 -ℤ weight (v / k / k ^ j)) ≡ down (j + 1) = λ j h.
-    let e : k * k ^ j ≡ k ^ (j + 1) = let one : j + 1 ≡ suc j = omega arith in omega (arith, pow-suc k j, ap (λ i. k ^ i) one) in
-    ap (λ i. weight 0 -ℤ weight i) (div-div-eq-div-mul v k (k ^ j) ∙ ap (λ i. v / i) e) in
-    let shifted : sum_to d (λ j. weight 0 -ℤ weight (v / k / k ^ j)) ≡ sum_to d (λ j. down (j + 1)) = sum_to-agree d next in
-    let ends = sum_to-ends d down in
-    let first : down 0 ≡ weight 0 -ℤ weight v = ap (λ i. weight 0 -ℤ weight i) (ap (λ i. v / i) (pow-zero k) ∙ div-one v) in
-    let last : down d ≡ weight 0 -ℤ weight 0 = ap (λ i. weight 0 -ℤ weight i) (div-eq_of_lt l) in
-    omega (arith, ints, shifted, ends, first, last)
+potential-step k zero weight v l = let none : v ≡ 0 = omega (arith, l, pow-zero k) in omega (arith, ints, ap weight none)
+potential-step zero (suc d) weight v l = absurd (omega (arith, l, pow-suc 0 d))
+potential-step (suc k) (suc d) weight v l = omega (arith, ints, potential-step (suc k) d weight (v / suc k) (div_below v (suc k) (suc k ^ d) (omega arith) (omega (arith, l, pow-suc (suc k) d))))
 
 -- the trivial part of weights
 abbrev pub trivial_part : ℕ → ℕ → (ℕ → ℤ) → ℕ → ℤ
@@ -56,28 +50,13 @@ trivial_part k range weight x = weight 0 +ℤ (potential_of k (range - 1) weight
 abbrev pub normal_part : ℕ → ℕ → (ℕ → ℤ) → ℕ → ℤ
 normal_part k range weight x = weight x -ℤ trivial_part k range weight x
 
--- the first letters of a word but for the last, and the last but for the first, by its value
-pub ends_of_word : (k n : ℕ) (w : List ℕ) → IsWord k w → length w ≡ n + 1
-    → (value k (take n w) ≡ value k w / k) × (value k (drop 1 w) ≡ value k w % k ^ n)
-ends_of_word k n w word long =
-    let one : length w - n ≡ 1 = omega arith in
-    let rest : length w - 1 ≡ n = omega arith in
-    let letters : k ^ 1 ≡ k = omega (arith, pow-suc k 0, ap (λ n. n * k) (pow-zero k)) in (
-      value-take k n w word (omega arith) ∙ ap (λ n. value k w / k ^ n) one ∙ ap (λ n. value k w / n) letters,
-      value-drop k 1 w word (omega arith) ∙ ap (λ n. value k w % k ^ n) rest,
-    )
+-- the words at the two ends of a window
+pub window_ends : (k n v : ℕ) → 1 ≤ k → v < k ^ (n + 1) → (v / k < k ^ n) × (v % k ^ n < k ^ n)
+window_ends k n v some l = (div_below v k (k ^ n) some (omega (arith, l, pow-next k n)), mod-lt v (one-le-pow n k some))
 
--- what is a difference of the ends of each word is one of the ends of its value
-pub difference_by_value : (k n : ℕ) (number : List ℕ → ℤ) (phi : ℕ → ℤ)
-    → ((w : List ℕ) → IsWord k w → length w ≡ n + 1 → number w ≡ phi (value k (take n w)) -ℤ phi (value k (drop 1 w)))
-    → (v : ℕ) → v < k ^ (n + 1) → number (word_of k (n + 1) v) ≡ phi (v / k) -ℤ phi (v % k ^ n)
-difference_by_value k n number phi each v l =
-    let word = IsWord-word_of k (n + 1) v l in
-    let long = length-word_of k (n + 1) v in
-    let is = value-word_of k (n + 1) v l in
-    let ends = ends_of_word k n (word_of k (n + 1) v) word long in
-    each (word_of k (n + 1) v) word long
-    ∙ ap₂ (λ (x y : ℕ). phi x -ℤ phi y) (ends.0 ∙ ap (λ x. x / k) is) (ends.1 ∙ ap (λ x. x % k ^ n) is)
+-- the number of a word by that of its letters but for the last
+pub IsFlowBy-back : {k n : ℕ} {gains phi : ℕ → ℤ} → 1 ≤ k → IsFlowBy k n gains phi → (v : ℕ) → v < k ^ n → gains v ≡ phi (v / k) -ℤ phi v
+IsFlowBy-back {k} {n} {gains} {phi} some by v l = by.flows v (omega (arith, pow-next k n, mul-le-mul_left (k ^ n) some, l)) ∙ ap (λ x. phi (v / k) -ℤ phi x) (mod-eq_of_lt l)
 
 -- the trivial part is trivial
 pub IsTrivial-part : (k range : ℕ) (weight : ℕ → ℤ) → 1 ≤ range → IsTrivial k range (trivial_part k range weight)
@@ -85,8 +64,7 @@ IsTrivial-part k range weight some = record {
   constant = weight 0;
   phi = potential_of k (range - 1) weight;
   is = λ w word long.
-      let ends = ends_of_word k (range - 1) w word (omega arith) in
-      ap₂ (λ (x y : ℕ). weight 0 +ℤ (potential_of k (range - 1) weight x -ℤ potential_of k (range - 1) weight y)) (sym ends.0) (sym ends.1);
+      ap₂ (λ (x y : ℕ). weight 0 +ℤ (potential_of k (range - 1) weight x -ℤ potential_of k (range - 1) weight y)) (sym (value-front k (range - 1) w word (omega arith))) (sym (value-tail k (range - 1) w word (omega arith)));
 }
 
 -- what is left of weights without their trivial part is normal
@@ -106,24 +84,19 @@ IsNormal-trivial k range weight states some normal trivial a l =
     let d : ℕ = range - 1 in
     let phi = trivial.phi in
     let c = trivial.constant in
-    let positive : 0 < k = omega arith in
     let next : d + 1 ≡ range = omega arith in
-    let size : k ^ range ≡ k ^ d * k = ap (λ n. k ^ n) (sym next) ∙ pow-next k d in
-    let one : 1 ≤ k ^ d = one-le-pow d k positive in
-    let at_value : (x : ℕ) → x < k ^ range → weight x ≡ c +ℤ (phi (x / k) -ℤ phi (x % k ^ d)) = λ x h.
-    let below : x < k ^ (d + 1) = rw next h in
-    let parts = difference_by_value k d (λ w. weight (value k w) -ℤ c) phi (λ w word long.
-    omega (arith, ints, trivial.is w word (long ∙ next))) x below in
-    omega (arith, ints, parts, ap weight (value-word_of k (d + 1) x below)) in
-    let whole : k ^ d ≤ k ^ range = pow-le-pow_right positive {i = d} {j = range} (omega arith) in
-    let front : (x : ℕ) → x < k ^ d → pos 0 ≡ c +ℤ (phi (x / k) -ℤ phi x) = λ x h.
-    sym (normal x h) ∙ at_value x (omega arith) ∙ ap (λ n. c +ℤ (phi (x / k) -ℤ phi n)) (mod-eq_of_lt h) in
-    let constant : c ≡ pos 0 = let zeroth = front 0 (omega arith) in let e = ap phi (zero-div k) in omega (arith, ints, zeroth, e) in
-    let step : (v : ℕ) → v < k ^ d → phi v ≡ phi (v / k) = λ v h. let here = front v h in omega (arith, ints, here, constant) in
-    let same : (v : ℕ) → v < k ^ d → phi v ≡ phi 0 = same_of_step k phi d d positive (omega arith) step in
-    let first : phi (a / k) ≡ phi 0 = same (a / k) (div_below a k (k ^ d) positive (omega arith)) in
-    let last : phi (a % k ^ d) ≡ phi 0 = same (a % k ^ d) (mod-lt a one) in
-    omega (arith, ints, at_value a l, constant, first, last)
+    let by : IsFlowBy k d (λ x. weight x -ℤ c) phi = record {
+      flows = λ v h.
+          ap (λ x. weight x -ℤ c) (sym (value-word_of k (d + 1) v h))
+          ∙ (by_ends k d (λ w. weight (value k w) -ℤ c) phi).0 (λ w word long. omega (arith, ints, trivial.is w word (long ∙ next))) v h;
+    } in
+    let back : (v : ℕ) → v < k ^ d → (weight v -ℤ c) ≡ phi (v / k) -ℤ phi v = IsFlowBy-back (omega arith) by in
+    let one : 0 < k ^ d = one-le-pow d k (omega arith) in
+    let constant : c ≡ pos 0 = omega (arith, ints, back 0 one, normal 0 one, ap phi (zero-div k)) in
+    let same : (v : ℕ) → v < k ^ d → phi v ≡ phi 0 = same_of_step k phi d d (omega arith) (omega arith) (λ v h. omega (arith, ints, back v h, normal v h, constant)) in
+    let below : a < k ^ (d + 1) = subst (λ n. a < k ^ n) (sym next) l in
+    let ends = window_ends k d a (omega arith) below in
+    omega (arith, ints, by.flows a below, constant, same (a / k) ends.0, same (a % k ^ d) ends.1)
 
 -- a ring keeps the sum of a difference where it keeps both
 KeepsSumOf-sub : (range : ℕ) (f g : ℕ → ℤ) (r : LocalRule) (p : List ℕ) → KeepsSumOf range f r p → KeepsSumOf range g r p → KeepsSumOf range (λ a. f a -ℤ g a) r p

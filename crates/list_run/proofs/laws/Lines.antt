@@ -17,21 +17,6 @@ pub whole_line : (shape : LocalRule) (rs : List LocalRule) (r : LocalRule) (byte
 whole_line shape rs r bytes a b c is p q =
     subst (λ (xs : List ℕ). Appends a c xs) (sym (rule_lines-next shape rs r)) (Appends-trans a b c (rule_lines shape rs) (rule_line shape r) p (subst (λ (xs : List ℕ). Appends b c xs) is q))
 
--- the lines of some rules, and behind them a part of one more line
-pub cut_line : (shape : LocalRule) (rs : List LocalRule) (r : LocalRule) (bytes : List ℕ) (n : ℕ) (a b c : Option (List ℕ)) → bytes ≡ rule_line shape r → n < length bytes → Appends a b (rule_lines shape rs) → Appends b c (take n bytes)
-    → (m : ℕ) × (m < length (rule_lines shape (rs ++ r ∷ []))) × Appends a c (take m (rule_lines shape (rs ++ r ∷ [])))
-cut_line shape rs r bytes n a b c is less p q =
-    let m : ℕ = length (rule_lines shape rs) + n in
-    let whole : length (rule_lines shape rs ++ rule_line shape r) ≡ length (rule_lines shape rs) + length (rule_line shape r) = length-append (rule_lines shape rs) (rule_line shape r) in
-    let long : length bytes ≡ length (rule_line shape r) = ap length is in
-    let below : m < length (rule_lines shape rs ++ rule_line shape r) = omega arith in (
-      m,
-      subst (λ (xs : List ℕ). m < length xs) (sym (rule_lines-next shape rs r)) below,
-      subst (λ (xs : List ℕ). Appends a c (take m xs)) (sym (rule_lines-next shape rs r))
-          (subst (λ (xs : List ℕ). Appends a c xs) (sym (take-append-add (rule_lines shape rs) (rule_line shape r) n))
-          (Appends-trans a b c (rule_lines shape rs) (take n (rule_line shape r)) p (subst (λ (xs : List ℕ). Appends b c (take n xs)) is q))),
-    )
-
 -- a last piece was taken in part
 pub cut_behind : (out bytes tail : List ℕ) (n : ℕ) (a b c : Option (List ℕ)) → bytes ≡ tail → n < length bytes → Appends a b out → Appends b c (take n bytes)
     → (m : ℕ) × (m < length (out ++ tail)) × Appends a c (take m (out ++ tail))
@@ -43,3 +28,9 @@ cut_behind out bytes tail n a b c is less p q =
       below,
       subst (λ (xs : List ℕ). Appends a c xs) (sym (take-append-add out tail n)) (Appends-trans a b c out (take n tail) p (subst (λ (xs : List ℕ). Appends b c (take n xs)) is q)),
     )
+
+-- the lines of some rules, and behind them a part of one more line
+pub cut_line : (shape : LocalRule) (rs : List LocalRule) (r : LocalRule) (bytes : List ℕ) (n : ℕ) (a b c : Option (List ℕ)) → bytes ≡ rule_line shape r → n < length bytes → Appends a b (rule_lines shape rs) → Appends b c (take n bytes)
+    → (m : ℕ) × (m < length (rule_lines shape (rs ++ r ∷ []))) × Appends a c (take m (rule_lines shape (rs ++ r ∷ [])))
+cut_line shape rs r bytes n a b c is less p q =
+    subst (λ (xs : List ℕ). (m : ℕ) × (m < length xs) × Appends a c (take m xs)) (sym (rule_lines-next shape rs r)) (cut_behind (rule_lines shape rs) bytes (rule_line shape r) n a b c is less p q)

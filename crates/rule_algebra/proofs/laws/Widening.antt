@@ -1,10 +1,9 @@
 -- The image cells under a widened rule.
 use Rattle.std.proofs.Common.{◌≡◌, ℕ, ◌-◌, ◌/◌, ◌^◌, ◌<◌, ◌≤◌, List, take, slice_index, ℤ, ◌+ℤ◌, sym, ap, ◌∙◌}
-use Rattle.word_image.proofs.Common.{LocalRule, IsRule, IsShape, local_map, word_of, entry-below}
+use Rattle.word_image.proofs.Common.{LocalRule, IsRule, IsShape, local_map, word_of, entry-below, value-take-word_of}
 use Rattle.tail_config.proofs.Common.{cells, cell, length-run, IsWord-run, take-run, cell-below}
 use Rattle.rule_algebra.specs.Algebra.{KeepsImages}
 use Rattle.rule_algebra.specs.Tables.{widened}
-use Rattle.rule_algebra.proofs.laws.WindowValues.{value-take-word_of}
 use Rattle.rule_algebra.proofs.laws.Tables.{length-table_by, IsWord-table_by, table_by-at}
 
 -- a widened rule is accepted if its shape is

@@ -1,7 +1,6 @@
 -- Colours and their letters: every permutation has both, and words come back.
-use Rattle.std.proofs.Common.{◌≡◌, ℕ, ◌<◌, List, [], ◌∷◌, length, take, map, slice_index, refl, sym, ap, ap₂, ◌∙◌, subst, ⊎_elim, arith, length-take-le, get_or-take}
-use Rattle.word_image.proofs.Common.{cases_lt, range_with_len, length-map-range_with_len, get_or-map-range_with_len, All-map, All-from_get_or, All-head, All-tail, IsWord, twice_below}
-use Rattle.word_image.proofs.laws.Searches.{but, but_cases, but_else}
+use Rattle.std.proofs.Common.{◌≡◌, ℕ, ◌<◌, List, [], ◌∷◌, length, take, map, slice_index, refl, sym, ap, ap₂, ◌∙◌, subst, arith, length-take-le, get_or-take}
+use Rattle.word_image.proofs.Common.{range_with_len, length-map-range_with_len, get_or-map-range_with_len, All-map, All-from_get_or, All-head, All-tail, IsWord, all_taken, chosen_below}
 use Rattle.rule_algebra.specs.Algebra.{IsRecolouring, recoloured}
 use Rattle.rule_algebra.proofs.laws.Recolouring.{recoloured_back}
 use Rattle.rule_classes.specs.Colourings.{AreInverse}
@@ -10,28 +9,15 @@ use Rattle.rule_classes.specs.Colourings.{AreInverse}
 pub AreInverse-swap : {k : ℕ} {colours letters : List ℕ} → AreInverse k colours letters → AreInverse k letters colours
 AreInverse-swap {k} {colours} {letters} h = record { colours_long = h.letters_long; letters_long = h.colours_long; colour = h.letter; letter = h.colour; back = h.there; there = h.back }
 
--- every letter is a colour
-letter_of : {k : ℕ} {colours : List ℕ} → IsRecolouring k colours → (y : ℕ) → y < k → (a : ℕ) × (a < k) × (slice_index colours a ≡ y)
-letter_of {k} {colours} h y l =
-    let f : ℕ → ℕ = but (slice_index colours) k y in
-    let at = but_cases (slice_index colours) k y in
-    let (i, j, less, most, same) = twice_below k f (λ x w. ⊎_elim (λ last. omega (arith, last.1, l)) (λ other. let below : slice_index colours x < k = h.word x 0 (omega (arith, other.0, w, h.long)) in omega (arith, other.1)) (at x)) in
-    let first : f i ≡ slice_index colours i = but_else (slice_index colours) k y i (λ e. omega arith) in
-    (i, omega arith, sym first ∙ same ∙ ⊎_elim (λ last. last.1) (λ other. absurd (let one : i ≡ j = h.different i j (omega arith) (omega (arith, other.0, most)) (sym first ∙ same ∙ other.1) in omega arith)) (at j))
-
--- a number that is the letter of the colour y, if y is one
-letter_at : {k : ℕ} {colours : List ℕ} → IsRecolouring k colours → (y : ℕ) → (a : ℕ) × (y < k → (a < k) × (slice_index colours a ≡ y))
-letter_at {k} h y = ⊎_elim (λ l. let (a, below, at) = letter_of h y l in (a, λ _. (below, at))) (λ past. (0, λ l. absurd (omega arith))) (cases_lt y k)
-
 -- every permutation has its letters
 pub inverse_letters : {k : ℕ} {colours : List ℕ} → IsRecolouring k colours → (letters : List ℕ) × AreInverse k colours letters
 inverse_letters {k} {colours} h =
-    let f : ℕ → ℕ = λ y. (letter_at h y).0 in
+    let below : (a : ℕ) → a < k → slice_index colours a < k = λ a l. h.word a 0 (omega (arith, h.long)) in
+    let (f, is) = chosen_below ℕ (λ y a. (a < k) × (slice_index colours a ≡ y)) k 0 (λ y l. let (a, inside, at) = all_taken k (slice_index colours) below h.different y l in (a, (inside, at))) in
     let letters : List ℕ = map f (range_with_len 0 k) in
     let at : (y : ℕ) → y < k → slice_index letters y ≡ f y = λ y l. get_or-map-range_with_len f 0 k y y 0 l (omega arith) in
-    let below : (a : ℕ) → a < k → slice_index colours a < k = λ a l. h.word a 0 (omega (arith, h.long)) in
-    let letter : (a : ℕ) → a < k → slice_index letters a < k = λ a l. omega (arith, at a l, ((letter_at h a).1 l).0) in
-    let there : (a : ℕ) → a < k → slice_index colours (slice_index letters a) ≡ a = λ a l. ap (slice_index colours) (at a l) ∙ ((letter_at h a).1 l).1 in (
+    let letter : (a : ℕ) → a < k → slice_index letters a < k = λ a l. omega (arith, at a l, (is a l).0) in
+    let there : (a : ℕ) → a < k → slice_index colours (slice_index letters a) ≡ a = λ a l. ap (slice_index colours) (at a l) ∙ (is a l).1 in (
       letters,
       record {
         colours_long = omega (arith, h.long);

@@ -1,7 +1,7 @@
 -- Tables that are filled: from the table of another rule, window by window, to that of the recoloured rule.
-use Rattle.std.proofs.Common.{◌≡◌, ℕ, ◌+◌, ◌-◌, ◌^◌, ◌<◌, ◌≤◌, List, length, get_or, set, replicate, slice_index, false, sym, ap, ◌∙◌, subst, ⊎_elim, arith, length-set, length-append, get_or-set_same, get_or-set_other, ext_get_or}
+use Rattle.std.proofs.Common.{◌≡◌, ℕ, ◌+◌, ◌-◌, ◌^◌, ◌<◌, ◌≤◌, List, length, get_or, set, replicate, slice_index, false, refl, sym, ap, ◌∙◌, subst, ⊎_elim, arith, length-set, length-append, get_or-set_other, ext_get_or}
 use Rattle.std.proofs.Math.Seq.{get_or-append_right}
-use Rattle.word_image.proofs.Common.{cases_lt, length-map, length-replicate, get_or-map, get_or_append_left, LocalRule, IsRule, IsWord, word_of, local_map, padded, window_count-le, IsWord-word_of, value-word_of, slice_index-zeros}
+use Rattle.word_image.proofs.Common.{cases_lt, length-map, length-replicate, get_or-map, get_or_append_left, LocalRule, IsRule, IsWord, word_of, local_map, padded, set_more, window_count-le, IsWord-word_of, value-word_of, slice_index-zeros}
 use Rattle.rule_algebra.specs.Algebra.{recoloured}
 use Rattle.rule_algebra.proofs.laws.Tables.{length-table_by}
 use Rattle.rule_classes.specs.Classes.{turned}
@@ -29,27 +29,17 @@ HasZeros-padded {r} {entries} table rule long same =
 
 -- Filling
 
--- what the items below n have and the new one at n has, all up to n have
-filled : (f : ℕ → ℕ) (xs : List ℕ) (n x : ℕ) → n < length xs → x ≡ f n → ((v : ℕ) → v < n → slice_index xs v ≡ f v) → (v : ℕ) → v < n + 1 → slice_index (set xs n x) v ≡ f v
-filled f xs n x room new old v l =
-    ⊎_elim
-    (λ before. get_or-set_other xs n v x 0 (λ e. omega arith) ∙ old v before)
-    (λ from.
-    let one : v ≡ n = omega arith in
-    rw one (get_or-set_same xs n x 0 room ∙ new))
-    (cases_lt v n)
-
 -- the table is filled at one window more
 pub AreFilled-more : {r : LocalRule} {c : Colouring} {n : ℕ} {windows entries : List ℕ} (old colour : ℕ) → IsRule r → n < r.states ^ r.width → old ≡ old_value r c n → colour ≡ entry r c n
     → AreFilled r c n windows entries → AreFilled r c (n + 1) (set windows n old) (set entries n colour)
 AreFilled-more {r} {c} {n} {windows} {entries} old colour rule below value gives h =
     let few = window_count-le r.states r.width r.offset rule.shape in
-    let values = filled (old_value r c) windows n old (omega (arith, h.windows_long, few)) value h.values in
+    let values = set_more (λ v x. x ≡ old_value r c v) windows n n 0 old (omega (arith, h.windows_long, few)) refl h.values value in
     record {
       windows_long = length-set windows n old ∙ h.windows_long;
       first = values 0 (omega arith);
       values = values;
-      colours = filled (entry r c) entries n colour (omega (arith, h.zeros.long, few)) gives h.colours;
+      colours = set_more (λ v x. x ≡ entry r c v) entries n n 0 colour (omega (arith, h.zeros.long, few)) refl h.colours gives;
       zeros = record {
         long = length-set entries n colour ∙ h.zeros.long;
         zeros = λ v past. get_or-set_other entries n v colour 0 (λ e. omega arith) ∙ h.zeros.zeros v past;

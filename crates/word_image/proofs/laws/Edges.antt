@@ -1,14 +1,14 @@
 -- Rows of edges, one edge more at a time.
-use Rattle.std.proofs.Common.{◌≡◌, ℕ, ◌+◌, ◌*◌, ◌/◌, ◌%◌, ◌^◌, ◌<◌, ◌↔◌, ◌⊎◌, inl, inr, List, [], length, replicate, IsBitSet, bit_or, slice_index, slice_index_or, slice_set, sym, ap, ap₂, ◌∙◌, subst, subst₂, arith, ⊎_elim, mod-lt, get_or-set_other, length-set}
+use Rattle.std.proofs.Common.{◌≡◌, ℕ, ◌+◌, ◌*◌, ◌/◌, ◌%◌, ◌^◌, ◌<◌, ◌↔◌, List, [], length, replicate, IsBitSet, bit_or, slice_index, slice_index_or, slice_set, sym, ap, ap₂, ◌∙◌, subst, subst₂, arith, ⊎_elim, mod-lt, length-set}
 use Rattle.std.proofs.lemmas.Bool.{cases_eq}
 use Rattle.std.proofs.lemmas.List.{get_or-replicate, length-replicate}
-use Rattle.std.proofs.lemmas.Grind.{get_or-set_at}
 use Rattle.std.proofs.lemmas.Nat.{div-mul-add, mod-mul-add, div_below, mul-add-lt}
 use Rattle.std.proofs.Math.Pow.{pow-lt}
 use Rattle.word_image.specs.LocalRules.{LocalRule, IsRule, node_count}
 use Rattle.word_image.specs.Ends.{window_with, label_at, end_at}
 use Rattle.word_image.specs.Edges.{IsEnds, AreEdgeRows, ends_at}
 use Rattle.word_image.specs.declared.side.Side.{Side}
+use Rattle.word_image.proofs.laws.Places.{at-set}
 use Rattle.word_image.proofs.laws.Bits.{IsBitSet-pow, IsBitSet-some}
 use Rattle.word_image.proofs.laws.Unions.{IsUnion, IsUnion-none, IsUnion-skip, IsUnion-take}
 use Rattle.word_image.proofs.laws.WindowParts.{some_letter, window_with-within, end_node-below}
@@ -38,23 +38,6 @@ HaveEdges-none side r =
 abbrev pub with_ends : List (List ℕ) → ℕ → ℕ → ℕ → List (List ℕ)
 with_ends rows i j set = slice_set rows i (slice_set (slice_index_or rows i []) j (bit_or (slice_index (slice_index_or rows i []) j) set))
 
--- rows with a set of nodes more at one place have them more there, and are elsewhere as before
-ends_at-with_ends : {side : Side} {r : LocalRule} {n : ℕ} {rows : List (List ℕ)} → HaveEdges side r n rows → (i j set label u : ℕ) → i < 16 → j < 16
-    → ((label ≡ i) × (u ≡ j) × (ends_at (with_ends rows i j set) label u ≡ bit_or (ends_at rows label u) set))
-    ⊎ ((¬ ((label ≡ i) × (u ≡ j))) × (ends_at (with_ends rows i j set) label u ≡ ends_at rows label u))
-ends_at-with_ends {rows = rows} h i j set label u in_i in_j =
-    let row = slice_index_or rows i [] in
-    let changed = slice_set row j (bit_or (slice_index row j) set) in
-    ⊎_elim
-    (λ same.
-    let here = ap (λ (l : List ℕ). slice_index l u) (get_or-set_at rows i label changed [] same (omega (arith, h.tall))) in
-    ⊎_elim
-    (λ place. inl (same, place, here ∙ get_or-set_at row j u (bit_or (slice_index row j) set) 0 place (omega (arith, h.wide i in_i)) ∙ ap₂ (λ x y. bit_or (ends_at rows x y) set) (sym same) (sym place)))
-    (λ differs. inr ((λ both. differs both.1), here ∙ get_or-set_other row j u (bit_or (slice_index row j) set) 0 differs ∙ ap (λ x. ends_at rows x u) (sym same)))
-    (cases_eq u j))
-    (λ differs. inr ((λ both. differs both.0), ap (λ (l : List ℕ). slice_index l u) (get_or-set_other rows i label changed [] differs)))
-    (cases_eq label i)
-
 -- the rows with one edge more
 pub HaveEdges-more : {side : Side} {r : LocalRule} {w a : ℕ} {rows : List (List ℕ)} → IsRule r → w < node_count r → a < r.states → HaveEdges side r (w * r.states + a) rows → (i j set : ℕ)
     → i ≡ label_at side r w a → j ≡ w → set ≡ 2 ^ end_at side r w a → i < 16 → j < 16 → HaveEdges side r (w * r.states + a + 1) (with_ends rows i j set)
@@ -68,20 +51,16 @@ HaveEdges-more {side} {r} {w} {a} {rows} rule node letter h i j set labelled lea
     let below = end_node-below side rule (window_with side r w a) (window_with-within side rule w a node letter) in
     record {
       tall = length-set rows i changed ∙ h.tall;
-      wide = λ label inside. ⊎_elim
-          (λ same. ap length (get_or-set_at rows i label changed [] same (omega (arith, h.tall))) ∙ length-set row j (bit_or (slice_index row j) set) ∙ h.wide i in_i)
-          (λ differs. ap length (get_or-set_other rows i label changed [] differs) ∙ h.wide label inside)
-          (cases_eq label i);
-      ends = λ label u inside small. ⊎_elim
-          (λ (same, place, more). subst (IsUnion (node_count r) (IsEdgeAt side r label u) (n + 1)) (sym more)
-          (IsUnion-take (h.ends label u inside small) (subst (λ s. s < 2 ^ node_count r) (sym arrives) (pow-lt below)) (λ v within.
+      wide = λ label inside. at-set (λ _ l. length l ≡ 16) rows i [] changed (omega (arith, h.tall)) label (λ _. h.wide label inside) (length-set row j (bit_or (slice_index row j) set) ∙ h.wide i in_i);
+      ends = λ label u inside small. at-set (λ l s. IsUnion (node_count r) (IsEdgeAt side r l u) (n + 1) (slice_index s u)) rows i [] changed (omega (arith, h.tall)) label
+          (λ differs. IsUnion-skip (h.ends label u inside small) (λ v edge. differs (sym edge.0 ∙ ap₂ (label_at side r) from by ∙ sym labelled)))
+          (at-set (λ x s. IsUnion (node_count r) (IsEdgeAt side r i x) (n + 1) s) row j 0 (bit_or (slice_index row j) set) (omega (arith, h.wide i in_i)) u
+          (λ differs. IsUnion-skip (h.ends i u in_i small) (λ v edge. differs (sym edge.1 ∙ from ∙ sym leaves)))
+          (IsUnion-take (h.ends i j in_i in_j) (subst (λ s. s < 2 ^ node_count r) (sym arrives) (pow-lt below)) (λ v within.
           let bit = subst (λ s. IsBitSet s v ↔ (v ≡ end_at side r w a)) (sym arrives) (IsBitSet-pow (end_at side r w a) v) in (
-            (λ some. (ap₂ (label_at side r) from by ∙ sym labelled ∙ sym same, from ∙ sym leaves ∙ sym place, to ∙ sym (bit.0 some))),
+            (λ some. (ap₂ (label_at side r) from by ∙ sym labelled, from ∙ sym leaves, to ∙ sym (bit.0 some))),
             (λ edge. bit.1 (sym edge.2 ∙ to)),
-          ))))
-          (λ (differs, same). subst (IsUnion (node_count r) (IsEdgeAt side r label u) (n + 1)) (sym same)
-          (IsUnion-skip (h.ends label u inside small) (λ v edge. differs (sym edge.0 ∙ ap₂ (label_at side r) from by ∙ sym labelled, sym edge.1 ∙ from ∙ sym leaves))))
-          (ends_at-with_ends h i j set label u in_i in_j);
+          ))));
     }
 
 -- the edges of all nodes

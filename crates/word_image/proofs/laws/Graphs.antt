@@ -1,11 +1,12 @@
 -- The de Bruijn graph of a rule read on words: nodes are ends of words, edges are windows.
-use Rattle.std.proofs.Common.{◌≡◌, ℕ, ◌+◌, ◌-◌, ◌*◌, ◌%◌, ◌^◌, ◌<◌, ◌≤◌, List, [], ◌∷◌, ◌++◌, length, drop, slice_index, sym, ap, ◌∙◌, subst, arith, length-drop, mod-lt, mul-pos, mul-le-mul, drop-drop}
+use Rattle.std.proofs.Common.{◌≡◌, ℕ, ◌+◌, ◌-◌, ◌*◌, ◌/◌, ◌%◌, ◌^◌, ◌<◌, ◌≤◌, List, [], ◌∷◌, ◌++◌, length, take, drop, get_or, slice_index, sym, ap, ◌∙◌, subst, arith, length-drop, mod-lt, mul-pos, mul-le-mul, drop-drop, take_all}
 use Rattle.std.proofs.Math.Nat.{one-le-pow}
+use Rattle.std.proofs.lemmas.Nat.{div-mul-add}
 use Rattle.std.proofs.lemmas.List.{drop-append-le, length_push}
 use Rattle.std.proofs.lemmas.List.Elements.{All-drop, All-push}
 use Rattle.word_image.specs.LocalRules.{LocalRule, IsRule, IsWord, value, local_map, node_count}
 use Rattle.word_image.specs.Graphs.{next, label, pair_count}
-use Rattle.word_image.proofs.laws.Values.{value-below, value-snoc, value-drop}
+use Rattle.word_image.proofs.laws.Values.{value-below, value-snoc, value-drop, value-take_more}
 
 -- there are nodes
 pub node_count_pos : {r : LocalRule} → IsRule r → 0 < node_count r
@@ -26,6 +27,11 @@ next-below {r} rule u a = mod-lt (u * r.states + a) (node_count_pos rule)
 -- a word of m - 1 letters is a node
 pub value-node : (r : LocalRule) (z : List ℕ) → IsWord r.states z → length z ≡ r.width - 1 → value r.states z < node_count r
 value-node r z h e = subst (λ n. value r.states z < r.states ^ n) e (value-below r.states z h)
+
+-- the value of a word without its last letter
+pub value-front : (k d : ℕ) (y : List ℕ) → IsWord k y → length y ≡ d + 1 → value k (take d y) ≡ value k y / k
+value-front k d y h e =
+    sym (ap (λ v. v / k) (sym (ap (value k) (take_all (d + 1) y (omega arith))) ∙ value-take_more k y d (omega arith)) ∙ div-mul-add (value k (take d y)) k (get_or y d 0) (h d 0 (omega arith)))
 
 -- the value of a word without its first letter
 pub value-tail : (k d : ℕ) (y : List ℕ) → IsWord k y → length y ≡ d + 1 → value k (drop 1 y) ≡ value k y % k ^ d

@@ -1,5 +1,5 @@
 -- Images of parts of a word, and of a word that is read backwards.
-use Rattle.std.proofs.Common.{◌≡◌, ℕ, ◌+◌, ◌-◌, ◌^◌, ◌<◌, ◌≤◌, List, length, take, drop, reverse, get_or, slice_index, slice_range, ℤ, pos, ◌+ℤ◌, neg_ℤ, sym, ap, ap₂, subst, ◌∙◌, arith, length-drop, length-take, length-take-le, get_or-take, get_or-drop, drop-drop, take-take}
+use Rattle.std.proofs.Common.{◌≡◌, ℕ, ◌+◌, ◌-◌, ◌^◌, ◌<◌, List, length, take, drop, reverse, get_or, slice_index, slice_range, ℤ, pos, ◌+ℤ◌, neg_ℤ, sym, ap, ap₂, subst, ◌∙◌, arith, length-drop, length-take-le, get_or-drop, drop-drop}
 use Rattle.std.specs.List.{range_with_len}
 use Rattle.std.proofs.lemmas.List.{length-reverse, reverse-reverse, get_or-reverse, drop-take}
 use Rattle.std.proofs.lemmas.List.FromFn.{length-map-range_with_len, get_or-map-range_with_len, fill_by_all}
@@ -10,18 +10,8 @@ use Rattle.word_image.specs.LocalRules.{LocalRule, IsRule, IsWord, value, word_o
 use Rattle.word_image.specs.Words.{image}
 use Rattle.word_image.proofs.laws.Values.{value-below, word_of-value, length-word_of, IsWord-word_of, value-word_of}
 use Rattle.word_image.proofs.laws.Lists.{reverse-cut}
-use Rattle.word_image.proofs.laws.Words.{length-image, entry-below}
+use Rattle.word_image.proofs.laws.Words.{length-image, get_or-image, image-by_letters, entry-below}
 use Rattle.word_image.proofs.laws.RuleFaults.{IsShape-offset}
-
--- a letter of an image is what the rule gives on the window there
-pub get_or-image : (r : LocalRule) (x : List ℕ) (i : ℕ) → i < length x - (r.width - 1) → get_or (image r x) i 0 ≡ local_map r (slice_range x i (i + r.width))
-get_or-image r x i h = get_or-map-range_with_len (λ j. local_map r (slice_range x j (j + r.width))) 0 (length x - (r.width - 1)) i i 0 h (omega arith)
-
--- a list is an image if it has the image's length, and what the rule gives on each window
-pub image-by_letters : (r : LocalRule) (x w : List ℕ) → length w ≡ length x - (r.width - 1)
-    → ((i : ℕ) → i < length w → get_or w i 0 ≡ local_map r (slice_range x i (i + r.width))) → image r x ≡ w
-image-by_letters r x w e h =
-    sym (fill_by_all (λ i. local_map r (slice_range x i (i + r.width))) w (length x - (r.width - 1)) 0 e (λ i l. h i (omega arith)))
 
 -- the image of a word without its first n letters is the image without its first n letters
 pub image-drop : (r : LocalRule) (n : ℕ) (x : List ℕ) → image r (drop n x) ≡ drop n (image r x)
@@ -32,19 +22,6 @@ image-drop r n x =
     image-by_letters r (drop n x) (drop n (image r x)) long (λ i l.
     let within : n + i < length x - (r.width - 1) = omega (arith, length-drop n x) in
     get_or-drop n (image r x) i 0 ∙ get_or-image r x (n + i) within ∙ ap (local_map r) (window i))
-
--- the image of the first n letters of a word is the beginning of its image
-pub image-take : {r : LocalRule} → IsRule r → (n : ℕ) (x : List ℕ) → image r (take n x) ≡ take (n - (r.width - 1)) (image r x)
-image-take {r} rule n x =
-    let long : length (take (n - (r.width - 1)) (image r x)) ≡ length (take n x) - (r.width - 1) =
-    omega (arith, length-take (n - (r.width - 1)) (image r x), length-take n x, length-image r x) in
-    let window : (i : ℕ) → i + r.width ≤ n → slice_range x i (i + r.width) ≡ slice_range (take n x) i (i + r.width) = λ i l.
-    let split : i + (n - i) ≡ n = omega arith in
-    sym (ap (take (i + r.width - i)) (ap (λ j. drop i (take j x)) (sym split) ∙ drop-take i (n - i) x) ∙ take-take (i + r.width - i) (n - i) (drop i x) (omega arith)) in
-    image-by_letters r (take n x) (take (n - (r.width - 1)) (image r x)) long (λ i l.
-    let fore : i < n - (r.width - 1) = omega (arith, length-take n x) in
-    let within : i < length x - (r.width - 1) = omega (arith, length-take n x) in
-    get_or-take (n - (r.width - 1)) (image r x) i 0 fore ∙ get_or-image r x i within ∙ ap (local_map r) (window i (omega arith)))
 
 -- a word read backwards is a word
 pub IsWord-reverse : (k : ℕ) (x : List ℕ) → IsWord k x → IsWord k (reverse x)

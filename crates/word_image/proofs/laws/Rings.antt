@@ -15,13 +15,12 @@ pub ring_letter-turn : (p : List ℕ) (i : ℤ) → 0 < length p → ring_letter
 ring_letter-turn p (pos i) some = ap (slice_index p) (add-mod_right i (length p))
 ring_letter-turn p (negsuc i) some = grind (arith, ints, mod-eq_of_lt, mod-eq-sub-mod, cases_lt)
 
--- the letters of a ring come again after some turns
-ring_letter-turns : (p : List ℕ) (i : ℤ) (n : ℕ) → 0 < length p → ring_letter p (i +ℤ pos (n * length p)) ≡ ring_letter p i
-ring_letter-turns p i zero some =
-    let e : i +ℤ pos (zero * length p) ≡ i = omega (arith, ints, zero-mul (length p)) in ap (ring_letter p) e
-ring_letter-turns p i (suc n) some =
-    let e : i +ℤ pos (suc n * length p) ≡ (i +ℤ pos (n * length p)) +ℤ pos (length p) = omega (arith, ints, suc-mul n (length p)) in
-    ap (ring_letter p) e ∙ ring_letter-turn p (i +ℤ pos (n * length p)) some ∙ ring_letter-turns p i n some
+-- what comes again after d places comes again after each multiple of d
+pub again-times : {B : Type 0} (h : ℤ → B) (d : ℕ) → ((i : ℤ) → h (i +ℤ pos d) ≡ h i) → (n : ℕ) (i : ℤ) → h (i +ℤ pos (n * d)) ≡ h i
+again-times h d again zero i = let e : i +ℤ pos (zero * d) ≡ i = omega (arith, ints, zero-mul d) in ap h e
+again-times h d again (suc n) i =
+    let e : i +ℤ pos (suc n * d) ≡ (i +ℤ pos (n * d)) +ℤ pos d = omega (arith, ints, suc-mul n d) in
+    ap h e ∙ again (i +ℤ pos (n * d)) ∙ again-times h d again n i
 
 -- the letter at j places after i stands j places after the remainder of i
 ring_letter-rem : (p : List ℕ) (i : ℤ) (t j : ℕ) → 0 < length p → int_rem_euclid i (pos (length p)) ≡ pos t → ring_letter p (i +ℤ pos j) ≡ ring_letter p (pos (t + j))
@@ -31,7 +30,7 @@ ring_letter-rem p (pos i) t j some e =
 ring_letter-rem p (negsuc i) t j some e =
     let turns : ℕ = suc (i / length p) in
     let whole : (negsuc i +ℤ pos j) +ℤ pos (turns * length p) ≡ pos (t + j) = omega (arith, ints, suc-mul (i / length p) (length p)) in
-    sym (ring_letter-turns p (negsuc i +ℤ pos j) turns some) ∙ ap (ring_letter p) whole
+    sym (again-times (ring_letter p) (length p) (λ o. ring_letter-turn p o some) turns (negsuc i +ℤ pos j)) ∙ ap (ring_letter p) whole
 
 -- the letters of a ring from i places after a place on are those from a place of the ring on
 pub ring_letters-rem : (p : List ℕ) (o : ℤ) (t i n : ℕ) → 0 < length p → int_rem_euclid o (pos (length p)) ≡ pos t

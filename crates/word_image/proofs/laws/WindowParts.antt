@@ -1,15 +1,14 @@
 -- Windows and nodes taken apart by their values: a window is a node and a letter from either end, and a node's letters are the digits of its number.
-use Rattle.std.proofs.Common.{◌≡◌, ℕ, zero, suc, ◌+◌, ◌-◌, ◌*◌, ◌/◌, ◌%◌, ◌^◌, ◌<◌, ◌≤◌, List, [], ◌∷◌, length, drop, slice_index, sym, ap, ◌∙◌, arith, mod-eq_of_lt, mod-lt, pow-suc, mul_assoc, pow-add}
-use Rattle.std.proofs.Math.Nat.{mul-add-div_right, mul-add-mod_self_right, one-le-pow, pow-le-pow_right}
-use Rattle.std.proofs.lemmas.Nat.{div-mul-add, div_below, mul-add-lt}
-use Rattle.std.proofs.lemmas.List.Elements.{All-head, All-tail}
+use Rattle.std.proofs.Common.{◌≡◌, ℕ, suc, ◌+◌, ◌-◌, ◌*◌, ◌/◌, ◌%◌, ◌^◌, ◌<◌, ◌≤◌, List, length, take, drop, slice_index, sym, ap, ◌∙◌, arith, mod-lt, pow-suc, mul_assoc}
+use Rattle.std.proofs.Math.Nat.{one-le-pow, pow-le-pow_right}
+use Rattle.std.proofs.lemmas.Nat.{mod-mul-add, div_below, mul-add-lt}
 use Rattle.word_image.specs.LocalRules.{LocalRule, IsRule, IsWord, value, word_of, node_count}
 use Rattle.word_image.specs.Graphs.{node_letter}
 use Rattle.word_image.specs.Ends.{window_with, end_node}
 use Rattle.word_image.specs.declared.side.Side.{Side}
 use Rattle.word_image.specs.declared.side.Side.TheVariants.{Right, Left}
 use Rattle.word_image.proofs.laws.Graphs.{node_count_pos}
-use Rattle.word_image.proofs.laws.Values.{value-below, value-word_of, length-word_of, IsWord-word_of}
+use Rattle.word_image.proofs.laws.Values.{value-take, value-take_more, value-word_of, length-word_of, IsWord-word_of}
 
 -- there are letters
 pub some_letter : {r : LocalRule} → IsRule r → 0 < r.states
@@ -48,21 +47,11 @@ power-below {r} rule j l =
 
 -- a letter of a word, as a digit of its value
 pub letter-value : (k : ℕ) (w : List ℕ) (i j : ℕ) → IsWord k w → i + j + 1 ≡ length w → value k w / k ^ j % k ≡ slice_index w i
-letter-value k [] i j h e = absurd (omega arith)
-letter-value k (a ∷ w) zero j h e =
-    let letter = All-head (λ c. c < k) a w h in
-    let same : j ≡ length w = omega arith in
-    ap (λ n. (a * k ^ length w + value k w) / k ^ n % k) same
-    ∙ ap (λ n. n % k) (div-mul-add a (k ^ length w) (value k w) (value-below k w (All-tail (λ c. c < k) a w h))) ∙ mod-eq_of_lt {n = a} letter
-letter-value k (a ∷ w) (suc i) j h e =
-    let letter = All-head (λ c. c < k) a w h in
-    let same : length w ≡ suc i + j = omega arith in
-    let positive : 0 < k ^ j = one-le-pow j k (omega arith) in
-    let power = ap (λ n. a * k ^ n) same ∙ ap (λ n. a * n) (pow-add k (suc i) j ∙ ap (λ n. n * k ^ j) (pow-suc k i))
-    ∙ sym (mul_assoc a (k ^ i * k) (k ^ j)) ∙ ap (λ n. n * k ^ j) (sym (mul_assoc a (k ^ i) k)) in
-    ap (λ n. (n + value k w) / k ^ j % k) power
-    ∙ ap (λ n. n % k) (mul-add-div_right positive (a * k ^ i * k) (value k w))
-    ∙ mul-add-mod_self_right (a * k ^ i) k (value k w / k ^ j) ∙ letter-value k w i j (All-tail (λ c. c < k) a w h) (omega arith)
+letter-value k w i j h e =
+    let rest : j ≡ length w - (i + 1) = omega arith in
+    ap (λ n. value k w / k ^ n % k) rest
+    ∙ ap (λ v. v % k) (sym (value-take k (i + 1) w h (omega arith)) ∙ value-take_more k w i (omega arith))
+    ∙ mod-mul-add (value k (take i w)) k (slice_index w i) (h i 0 (omega arith))
 
 -- letter i of the word of a value
 pub get_or-word_of : (k i m v : ℕ) → i < m → v < k ^ m → slice_index (word_of k m v) i ≡ v / k ^ (m - 1 - i) % k

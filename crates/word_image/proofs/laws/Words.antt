@@ -1,10 +1,11 @@
 -- Images and preimages, one letter at a time.
-use Rattle.std.proofs.Common.{◌≡◌, ℕ, ◌+◌, ◌-◌, ◌<◌, ◌≤◌, List, [], ◌∷◌, ◌++◌, length, map, take, drop, get_or, slice_index, slice_range, true, refl, sym, ap, ap₂, ◌∙◌, arith, length-drop, nat_lt, length-take-le, take_all}
+use Rattle.std.proofs.Common.{◌≡◌, ℕ, ◌+◌, ◌-◌, ◌<◌, ◌≤◌, List, [], ◌∷◌, ◌++◌, length, take, drop, get_or, slice_index, slice_range, true, refl, sym, ap, ap₂, ◌∙◌, arith, length-drop, nat_lt, length-take, length-take-le, get_or-take, take-take, take_all}
 use Rattle.std.specs.List.{range_with_len, list_all}
 use Rattle.std.proofs.lemmas.Bool.{cases_lt}
 use Rattle.std.proofs.lemmas.Bool.Decides.{Decides-by_and, Decides-ltb}
-use Rattle.std.proofs.lemmas.List.{length_push, same_from_push, nil_from_length, drop-append-le, take-append-le, take_more, get_or_past}
-use Rattle.std.proofs.lemmas.List.FromFn.{length-map-range_with_len, get_or-map-range_with_len, map-range_with_len_more, fill_by_all}
+use Rattle.std.proofs.lemmas.List.{length_push, same_from_push, nil_from_length, drop-append-le, drop-take, take_more, get_or_past}
+use Rattle.std.proofs.Math.Seq.{take-append_seam}
+use Rattle.std.proofs.lemmas.List.FromFn.{length-map-range_with_len, get_or-map-range_with_len, fill_by_all}
 use Rattle.std.proofs.lemmas.List.Elements.{All-push, All-take, All-map}
 use Rattle.word_image.specs.LocalRules.{LocalRule, IsRule, IsWord, local_map}
 use Rattle.word_image.specs.Words.{image, IsPreimage}
@@ -40,23 +41,44 @@ length-image r x = length-map-range_with_len (λ i. local_map r (slice_range x i
 pub image-short : (r : LocalRule) (x : List ℕ) → length x ≤ r.width - 1 → image r x ≡ []
 image-short r x h = nil_from_length (image r x) (omega (arith, length-image r x))
 
+-- a letter of an image is what the rule gives on the window there
+pub get_or-image : (r : LocalRule) (x : List ℕ) (i : ℕ) → i < length x - (r.width - 1) → get_or (image r x) i 0 ≡ local_map r (slice_range x i (i + r.width))
+get_or-image r x i h = get_or-map-range_with_len (λ j. local_map r (slice_range x j (j + r.width))) 0 (length x - (r.width - 1)) i i 0 h (omega arith)
+
+-- a list is an image if it has the image's length, and what the rule gives on each window
+pub image-by_letters : (r : LocalRule) (x w : List ℕ) → length w ≡ length x - (r.width - 1)
+    → ((i : ℕ) → i < length w → get_or w i 0 ≡ local_map r (slice_range x i (i + r.width))) → image r x ≡ w
+image-by_letters r x w e h =
+    sym (fill_by_all (λ i. local_map r (slice_range x i (i + r.width))) w (length x - (r.width - 1)) 0 e (λ i l. h i (omega arith)))
+
+-- the image of the first n letters of a word is the beginning of its image
+pub image-take : {r : LocalRule} → IsRule r → (n : ℕ) (x : List ℕ) → image r (take n x) ≡ take (n - (r.width - 1)) (image r x)
+image-take {r} rule n x =
+    let long : length (take (n - (r.width - 1)) (image r x)) ≡ length (take n x) - (r.width - 1) =
+    omega (arith, length-take (n - (r.width - 1)) (image r x), length-take n x, length-image r x) in
+    let window : (i : ℕ) → i + r.width ≤ n → slice_range x i (i + r.width) ≡ slice_range (take n x) i (i + r.width) = λ i l.
+    let split : i + (n - i) ≡ n = omega arith in
+    sym (ap (take (i + r.width - i)) (ap (λ j. drop i (take j x)) (sym split) ∙ drop-take i (n - i) x) ∙ take-take (i + r.width - i) (n - i) (drop i x) (omega arith)) in
+    image-by_letters r (take n x) (take (n - (r.width - 1)) (image r x)) long (λ i l.
+    let fore : i < n - (r.width - 1) = omega (arith, length-take n x) in
+    let within : i < length x - (r.width - 1) = omega (arith, length-take n x) in
+    get_or-take (n - (r.width - 1)) (image r x) i 0 fore ∙ get_or-image r x i within ∙ ap (local_map r) (window i (omega arith)))
+
 -- one more letter at the end of a word is one more letter at the end of its image
 pub image-snoc : {r : LocalRule} → IsRule r → (x : List ℕ) (a : ℕ) → r.width - 1 ≤ length x
     → image r (x ++ a ∷ []) ≡ image r x ++ local_map r (drop (length x - (r.width - 1)) x ++ a ∷ []) ∷ []
 image-snoc {r} rule x a h =
     let n : ℕ = length x - (r.width - 1) in
-    let new : ℕ → ℕ = λ i. local_map r (slice_range (x ++ a ∷ []) i (i + r.width)) in
-    let old : ℕ → ℕ = λ i. local_map r (slice_range x i (i + r.width)) in
-    let window : (i : ℕ) → i + r.width ≤ length x → slice_range (x ++ a ∷ []) i (i + r.width) ≡ slice_range x i (i + r.width) = λ i l.
-    ap (take (i + r.width - i)) (drop-append-le i x (a ∷ []) (omega arith))
-    ∙ take-append-le (i + r.width - i) (drop i x) (a ∷ []) (omega (arith, length-drop i x)) in
-    let before : image r x ≡ map new (range_with_len 0 n) = fill_by_all new (image r x) n 0 (length-image r x)
-    (λ i l. get_or-map-range_with_len old 0 n i i 0 l (omega arith) ∙ ap (local_map r) (sym (window i (omega arith)))) in
-    let last = ap (take (n + r.width - n)) (drop-append-le n x (a ∷ []) (omega arith))
+    let y : List ℕ = x ++ a ∷ [] in
+    let more = length_push x a in
+    let long = length-image r y in
+    let fore : length (image r y) - 1 ≡ n = omega arith in
+    let front : take n (image r y) ≡ image r x = sym (image-take rule (length x) y) ∙ ap (image r) (take-append_seam x (a ∷ [])) in
+    let window = ap (take (n + r.width - n)) (drop-append-le n x (a ∷ []) (omega arith))
     ∙ take_all (n + r.width - n) (drop n x ++ a ∷ []) (omega (arith, length_push (drop n x) a, length-drop n x)) in
-    ap (λ j. map new (range_with_len 0 j)) (omega (arith, length_push x a))
-    ∙ map-range_with_len_more new 0 n n (omega arith)
-    ∙ ap₂ (λ (u : List ℕ) (c : ℕ). u ++ c ∷ []) (sym before) (ap (local_map r) last)
+    split_last (image r y) (omega arith)
+    ∙ ap (λ i. take i (image r y) ++ get_or (image r y) i 0 ∷ []) fore
+    ∙ ap₂ (λ (u : List ℕ) (c : ℕ). u ++ c ∷ []) front (get_or-image r y n (omega arith) ∙ ap (local_map r) window)
 
 -- each word of m - 1 letters is a preimage of the empty word
 pub IsPreimage-empty : (r : LocalRule) (x : List ℕ) → IsWord r.states x → length x ≡ r.width - 1 → IsPreimage r [] x

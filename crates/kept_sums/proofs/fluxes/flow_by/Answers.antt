@@ -2,7 +2,8 @@ use Rattle.std.proofs.Common.{◌≡◌, ℕ, ◌+◌, ◌*◌, ◌/◌, ◌^◌
 use Rattle.kept_sums.specs.Rows.{at}
 use Rattle.kept_sums.proofs.Casts.{back, back-sub}
 use Rattle.kept_sums.proofs.laws.Ranges.{pow-next}
-use Rattle.kept_sums.proofs.laws.Windows.{words-half, window_ends}
+use Rattle.kept_sums.proofs.laws.Trivials.{window_ends}
+use Rattle.kept_sums.proofs.laws.Windows.{words-half}
 use Rattle.kept_sums.proofs.fluxes.flow_by.Goals as goal
 
 pub loop-window-preserved : goal.loop-window-preserved

@@ -1,8 +1,8 @@
 use Rattle.std.proofs.Common.{◌≡◌, ℕ, ◌-◌, ◌/◌, ◌^◌, ◌-ℤ◌, sym, ap, ap₂, ◌∙◌, arith}
-use Rattle.word_image.proofs.Common.{node_count_pos}
+use Rattle.word_image.proofs.Common.{node_count_pos, value-take-word_of}
 use Rattle.kept_sums.specs.Rows.{at}
 use Rattle.kept_sums.proofs.Casts.{back-sub}
-use Rattle.kept_sums.proofs.laws.Windows.{value-front, front-below}
+use Rattle.kept_sums.proofs.laws.Windows.{front-below}
 use Rattle.kept_sums.proofs.fluxes.gain.Goals.{After-from-3}
 use Rattle.kept_sums.proofs.fluxes.gain.Goals as goal
 
@@ -25,4 +25,4 @@ returns-clause-gain c =
     let less = front-below c.nodes.ensures.rule c.args.range c.args.window c.requires.few c.requires.window in
     back-sub (at weights c.from-2.result) (at weights c.from-3.result) (omega arith) (omega arith)
     ∙ ap₂ (λ (x y : ℕ). at weights x -ℤ at weights y) (c.from-2.ensures ∙ c.image_value-after.ensures.value)
-    (before ∙ sym (value-front c.nodes.ensures.rule c.args.range c.args.window c.requires.window))
+    (before ∙ ap (λ n. c.args.window / c.args.rule.now.states ^ n) (omega arith) ∙ sym (value-take-word_of _ c.args.range _ c.args.window (omega arith) c.requires.window))

@@ -1,9 +1,9 @@
-use Rattle.std.proofs.Common.{◌≡◌, ◌≢◌, ℕ, ◌+◌, ◌-◌, ◌^◌, ◌≤◌, get_or-set_other, slice_index_or, ℤ, pos, to_z, of_z, w64, refl, sym, ap, ap₂, subst, ◌∙◌, arith, unsigned_abs}
+use Rattle.std.proofs.Common.{◌≡◌, ℕ, ◌+◌, ◌-◌, ◌^◌, ◌≤◌, get_or-set_other, slice_index_or, ℤ, pos, to_z, of_z, w64, refl, sym, ap, ap₂, subst, ◌∙◌, arith, unsigned_abs}
 use Rattle.std.proofs.lemmas.List.{length-set}
-use Rattle.word_image.proofs.Common.{word_of}
+use Rattle.word_image.proofs.Common.{set_more, word_of}
 use Rattle.kept_sums.specs.Fluxes.{window_gain}
 use Rattle.kept_sums.proofs.Casts.{back}
-use Rattle.kept_sums.proofs.laws.Parts.{put, at-replicate}
+use Rattle.kept_sums.proofs.laws.Parts.{at-replicate}
 use Rattle.kept_sums.proofs.laws.Windows.{windows-most}
 use Rattle.kept_sums.proofs.fluxes.gains.Goals.{After-from-letters, After-pow-window-end}
 use Rattle.kept_sums.proofs.fluxes.gains.Goals as goal
@@ -33,15 +33,14 @@ loop-window-preserved c =
     let few = few_windows (goal.at.loop-window-preserved c).After-pow-window-end in
     let window = c.loop-window.window in
     let place = c.from.result in
-    let place_is : place ≡ window = c.from.ensures in
     let gain : ℕ → ℤ = λ v. window_gain r c.args.range (λ a. slice_index_or c.args.weights.now a (pos 0)) (word_of r.states (r.width + c.args.range - 1) v) in
     let P : ℕ → ℤ → Type 0 = λ v z. (z ≡ gain v) × (unsigned_abs z ≤ 2 ^ 57) in
     let x = to_z w64 (of_z w64 c.gain.result) in
     let same : x ≡ c.gain.result = back w64 c.gain.result (2 ^ 57) c.gain.ensures.most (omega arith) in
     let many = c.loop-window.invariant.many in
-    let here : P place x = (same ∙ c.gain.ensures.gain ∙ ap gain (sym place_is), subst (λ (z : ℤ). unsigned_abs z ≤ 2 ^ 57) (sym same) c.gain.ensures.most) in
+    let here : P window x = (same ∙ c.gain.ensures.gain, subst (λ (z : ℤ). unsigned_abs z ≤ 2 ^ 57) (sym same) c.gain.ensures.most) in
     record {
       many = length-set c.loop-window.gains place x ∙ many;
-      done = λ v l. put P c.loop-window.gains place x (omega arith) (λ a m. c.loop-window.invariant.done a (omega arith)) here v (omega arith);
-      rest = λ v l. let other : v ≢ place = λ e. omega arith in get_or-set_other c.loop-window.gains place v x (pos 0) other ∙ c.loop-window.invariant.rest v (omega arith);
+      done = set_more P c.loop-window.gains window place (pos 0) x (omega arith) c.from.ensures c.loop-window.invariant.done here;
+      rest = λ v l. get_or-set_other c.loop-window.gains place v x (pos 0) (λ e. omega arith) ∙ c.loop-window.invariant.rest v (omega arith);
     }

@@ -1,6 +1,5 @@
 use Rattle.std.proofs.Common.{ℕ, ◌-◌, ◌/◌, ◌%◌, ◌^◌, slice_index, ap₂, ◌∙◌, arith, mod-lt}
-use Rattle.word_image.proofs.Common.{one-le-pow, pow-le-pow_right, some_letter}
-use Rattle.kept_sums.proofs.laws.Windows.{window-letter}
+use Rattle.word_image.proofs.Common.{get_or-image-word_of, one-le-pow, pow-le-pow_right, some_letter}
 use Rattle.kept_sums.proofs.fluxes.image_letter.Goals as goal
 
 pub pow-behind-requires : goal.pow-behind-requires
@@ -25,4 +24,4 @@ returns c =
     let power = c.pow-behind.ensures ∙ ap₂ (λ (k e : ℕ). k ^ e) base c.from-2.ensures in
     c.at.ensures.entry
     ∙ ap₂ (λ (d s : ℕ). slice_index c.args.rule.now.table (c.args.window / d % s)) power c.size.ensures.size
-    ∙ window-letter c.k.ensures.rule c.args.range c.args.start c.args.window c.requires.start c.requires.window
+    ∙ get_or-image-word_of c.k.ensures.rule c.args.range c.args.start c.args.window c.requires.start c.requires.window

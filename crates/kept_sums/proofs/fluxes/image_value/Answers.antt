@@ -1,18 +1,17 @@
 use Rattle.std.proofs.Common.{refl, rules}
-use Rattle.word_image.proofs.Common.{IsWordBy-letters, IsWord-image}
-use Rattle.kept_sums.proofs.laws.Windows.{length-image_of}
+use Rattle.word_image.proofs.Common.{IsWordBy-letters, IsWord-image, length-image-word_of}
 use Rattle.kept_sums.proofs.fluxes.image_value.Goals as goal
 
 pub value_by-requires-clause-word : goal.value_by-requires-clause-word
 value_by-requires-clause-word c =
     let rule = c.k.ensures.rule in
-    let long = length-image_of rule c.args.range c.args.window in
+    let long = length-image-word_of rule c.args.range c.args.window in
     (_, IsWordBy-letters c.k.ensures.states refl long (IsWord-image rule _) (λ i a l h. search rules))
 
 pub returns-clause-value : goal.returns-clause-value
 returns-clause-value c =
     let rule = c.k.ensures.rule in
-    let long = length-image_of rule c.args.range c.args.window in
+    let long = length-image-word_of rule c.args.range c.args.window in
     rw c.k.ensures.states at
     (c.value_by.ensures.value _
     (IsWordBy-letters c.k.ensures.states refl long (IsWord-image rule _) (λ i a l h. search rules)))

@@ -1,9 +1,9 @@
-use Rattle.std.proofs.Common.{◌≡◌, ℕ, ◌^◌, ◌≤◌, ℤ, ◌-ℤ◌, ◌*ℤ◌, sym, ap₂, subst, ◌∙◌, w64, to_z, of_z, arith, unsigned_abs}
+use Rattle.std.proofs.Common.{◌≡◌, ℕ, ◌^◌, ◌≤◌, ℤ, pos, ◌-ℤ◌, ◌*ℤ◌, refl, sym, ap₂, subst, ◌∙◌, w64, to_z, of_z, arith, unsigned_abs}
 use Rattle.std.proofs.lemmas.List.{length-set}
 use mir.Syntax.{w128}
+use Rattle.word_image.proofs.Common.{set_more}
 use Rattle.kept_sums.specs.Rows.{at}
 use Rattle.kept_sums.proofs.Casts.{back}
-use Rattle.kept_sums.proofs.laws.Parts.{put}
 use Rattle.kept_sums.proofs.rows.crossed.Goals as goal
 
 pub loop-place-preserved : goal.loop-place-preserved
@@ -17,5 +17,5 @@ loop-place-preserved c =
     let value : c.cross.result ≡ (lead *ℤ at c.args.row.now n) -ℤ (gain *ℤ at c.args.other.now n) = c.cross.ensures.value ∙ ap₂ (λ (x y : ℤ). (lead *ℤ x) -ℤ (gain *ℤ y)) one other in
     let same : to_z w128 (of_z w128 c.cross.result) ≡ c.cross.result = back w128 c.cross.result (2 ^ 118) c.cross.ensures.most (omega arith) in (
       length-set c.loop-place.entries n _ ∙ c.loop-place.invariant.0,
-      put P c.loop-place.entries n _ (omega arith) c.loop-place.invariant.1 (subst (P n) (sym same) (value, c.cross.ensures.most)),
+      set_more P c.loop-place.entries n n (pos 0) _ (omega arith) refl c.loop-place.invariant.1 (subst (P n) (sym same) (value, c.cross.ensures.most)),
     )

@@ -1,10 +1,11 @@
-use Rattle.std.proofs.Common.{◌≡◌, ℕ, ◌*◌, ◌^◌, ◌≤◌, ℤ, pos, ◌*ℤ◌, sym, subst, ◌∙◌, w64, to_z, of_z, arith, unsigned_abs}
+use Rattle.std.proofs.Common.{◌≡◌, ℕ, ◌*◌, ◌^◌, ◌≤◌, ℤ, pos, ◌*ℤ◌, refl, sym, subst, ◌∙◌, w64, to_z, of_z, arith, unsigned_abs}
 use Rattle.std.proofs.lemmas.List.{length-set}
 use mir.Syntax.{w128}
 use Prim.Native.Nat.{◌∣◌}
+use Rattle.word_image.proofs.Common.{set_more}
 use Rattle.kept_sums.specs.Rows.{at}
 use Rattle.kept_sums.proofs.Casts.{back}
-use Rattle.kept_sums.proofs.laws.Parts.{put, IsPart-zeros, IsPart-divided}
+use Rattle.kept_sums.proofs.laws.Parts.{IsPart-zeros, IsPart-divided}
 use Rattle.kept_sums.proofs.rows.reduced.Goals as goal
 
 pub returns-then-divisor-eq0-clause-part : goal.returns-then-divisor-eq0-clause-part
@@ -25,7 +26,7 @@ loop-place-preserved c =
     let same : to_z w64 (of_z w64 x) ≡ x = back w64 x (2 ^ 56) most (omega arith) in
     let number = back w128 (at c.args.cross.now n) (2 ^ 118) (c.requires.bounds n (omega arith)) (omega arith) in (
       length-set c.loop-place.row n _ ∙ c.loop-place.invariant.0,
-      put P c.loop-place.row n _ (omega arith) c.loop-place.invariant.1 (subst (P n) (sym same) (c.quotient.ensures.quotient ∙ number, most)),
+      set_more P c.loop-place.row n n (pos 0) _ (omega arith) refl c.loop-place.invariant.1 (subst (P n) (sym same) (c.quotient.ensures.quotient ∙ number, most)),
     )
 
 pub returns-clause-part : goal.returns-clause-part

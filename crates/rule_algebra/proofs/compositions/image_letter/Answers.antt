@@ -1,6 +1,5 @@
 use Rattle.std.proofs.Common.{ℕ, ◌+◌, ◌-◌, ◌/◌, ◌%◌, ◌^◌, slice_index, ap₂, ◌∙◌, arith, mod-lt}
-use Rattle.word_image.proofs.Common.{one-le-pow, some_letter}
-use Rattle.rule_algebra.proofs.laws.WindowValues.{fewer_values, get_or-image-word_of}
+use Rattle.word_image.proofs.Common.{fewer_values, get_or-image-word_of, one-le-pow, some_letter}
 use Rattle.rule_algebra.proofs.compositions.image_letter.Goals as goal
 
 pub pow-behind-requires : goal.pow-behind-requires

@@ -1,6 +1,5 @@
 use Rattle.std.proofs.Common.{refl, arith, rules}
-use Rattle.word_image.proofs.Common.{IsWordBy-letters, IsWord-image}
-use Rattle.rule_algebra.proofs.laws.WindowValues.{fewer_values, length-image-word_of}
+use Rattle.word_image.proofs.Common.{IsWordBy-letters, IsWord-image, fewer_values, length-image-word_of}
 use Rattle.rule_algebra.proofs.compositions.image_value.Goals as goal
 
 pub value_by-requires-clause-word : goal.value_by-requires-clause-word

@@ -1,9 +1,9 @@
 use Rattle.std.proofs.Common.{◌≡◌, suc, ◌+◌, [], refl, ◌∙◌, subst, arith, length-set}
 use Rattle.pair_laws.proofs.Common.{IsBitSet-below}
-use Rattle.word_image.proofs.Common.{node_count, HasBit}
+use Rattle.word_image.proofs.Common.{node_count, HasBit, set_more}
 use Rattle.tail_preimage.specs.Relations.{IsRelation, Steps}
 use Rattle.tail_preimage.proofs.laws.Steps.{Steps-cons, Steps-first}
-use Rattle.tail_preimage.proofs.Rows.{row_more, IsRelation-same}
+use Rattle.tail_preimage.proofs.Rows.{IsRelation-same}
 use Rattle.tail_preimage.proofs.relations.powers.Goals as goal
 
 pub loop-n-preserved : goal.loop-n-preserved
@@ -22,6 +22,6 @@ loop-n-preserved c =
     )) c.joined.ensures in
     record {
       long = length-set _ _ _ ∙ c.loop-n.invariant.long;
-      each = λ j l. row_more (λ k row. IsRelation r (Steps (HasBit step) k) row) c.loop-n.all (n + 1) (n + 1) [] c.joined.result (omega arith) refl (λ v k. before v (omega arith))
+      each = λ j l. set_more (λ k row. IsRelation r (Steps (HasBit step) k) row) c.loop-n.all (n + 1) (n + 1) [] c.joined.result (omega arith) refl (λ v k. before v (omega arith))
           (subst (λ k. IsRelation r (Steps (HasBit step) k) c.joined.result) more next) j (omega arith);
     }
