@@ -115,84 +115,51 @@ crossed-none lead old gain other none nothing = rw (none, nothing) (omega (arith
 crossed-pivot : (lead : ℕ) (old gain : ℤ) → gain ≡ pos lead → crossed lead old gain old ≡ pos 0
 crossed-pivot lead old gain e = rw e (omega (arith, ints))
 
--- a step of the elimination: two words say of a short ring whether it keeps a sum, and row j gains something by them
-record IsPivot (r : LocalRule) (range : ℕ) (rows : List (List ℤ)) (counts : List ℕ) (rings : List (List ℕ)) (p x y : List ℕ) (j lead : ℕ) : Type 0 where
-  rule : IsRule r
-  some : 1 ≤ range
-  few : r.states ^ range ≤ 16
-  stage : IsStage r range rows counts rings
-  ring : IsRing r.states p
-  condition : IsCondition r range p x y
-  short : length p + 3 ≤ 2 * (r.width + range)
-  within : j < 16
-  positive : 1 ≤ lead
-  gains : gain_at (entry rows j) x y ≡ pos lead
-
--- the row of a place that stands, crossed, divided by its greatest divisor is small: a small solution is a multiple of it
-fit_standing : {r : LocalRule} {range : ℕ} {rows : List (List ℤ)} {counts : List ℕ} {rings : List (List ℕ)} {p x y : List ℕ} {j lead : ℕ} → IsPivot r range rows counts rings p x y j lead
-    → (i : ℕ) → i < 16 → i ≢ j → Stands r.states range rows i
-    → (cross : List ℤ) → ((a : ℕ) → a < 16 → at cross a ≡ crossed lead (entry rows i a) (gain_at (entry rows i) x y) (entry rows j a))
-    → (g : ℕ) → IsDivisor cross g → (a : ℕ) → a < 16 → unsigned_abs (at cross a) ≤ g * 2 ^ 56
-fit_standing {r} {range} {rows} {counts} {rings} {p} {x} {y} {j} {lead} h i i_within apart stands cross crosses g divisor =
+-- rows narrowed by two words that say of a short ring whether it keeps a sum fit
+pub FitNarrowed-condition : {r : LocalRule} {range : ℕ} {rows : List (List ℤ)} {counts : List ℕ} {rings : List (List ℕ)} → IsRule r → 1 ≤ range → r.states ^ range ≤ 16 → IsStage r range rows counts rings
+    → (p x y : List ℕ) → IsRing r.states p → IsCondition r range p x y → length p + 3 ≤ 2 * (r.width + range) → (j : ℕ) → j < 16 → FitNarrowed rows x y j
+FitNarrowed-condition {r} {range} {rows} {counts} {rings} rule some few stage p x y ring condition short j within above i l cross crosses g divisor a n =
     let k : ℕ = r.states in
-    let stage = h.stage in
     let gain : ℕ → ℤ = λ m. gain_at (entry rows m) x y in
-    let pivot = Stands-gains stage x y h.condition.short.after_word h.condition.short.before_word j h.within (λ none. absurd (omega (arith, ints, none, h.gains))) in
+    let (lead, positive, gains) = positive_is (gain j) above in
+    let entries : (b : ℕ) → b < 16 → at cross b ≡ crossed lead (entry rows i b) (gain i) (entry rows j b) = λ b m.
+    crosses.entries b m ∙ ap (λ (z : ℤ). (z *ℤ entry rows i b) -ℤ (gain i *ℤ entry rows j b)) gains in
+    let nil : at cross a ≡ pos 0 → unsigned_abs (at cross a) ≤ g * 2 ^ 56 = λ e. subst (λ (z : ℤ). unsigned_abs z ≤ g * 2 ^ 56) (sym e) (omega arith) in
+    let standing : i ≢ j → Stands k range rows i → unsigned_abs (at cross a) ≤ g * 2 ^ 56 = λ apart stands.
+    let pivot = Stands-gains stage x y condition.short.after_word condition.short.before_word j within (λ none. absurd (omega (arith, ints, none, gains))) in
     let now : List ℕ = set counts j (length p) in
     let here : slice_index now j ≡ length p = get_or-set_same counts j (length p) 0 (omega arith) in
     let there : (m : ℕ) → m ≢ j → slice_index now m ≡ slice_index counts m = λ m other. get_or-set_other counts j m (length p) 0 other in
-    let s = noted_solution h.rule h.some h.few now (set rings j p)
+    let s = noted_solution rule some few now (set rings j p)
     (λ m l noted. ⊎_elim
-    (λ (same : m ≡ j). (subst (IsFree k range) (sym same) pivot.free, omega (arith, h.short, here, ap (slice_index now) same)))
+    (λ (same : m ≡ j). (subst (IsFree k range) (sym same) pivot.free, omega (arith, short, here, ap (slice_index now) same)))
     (λ (other : m ≢ j). ((stage.places m l).free (omega (arith, noted, there m other)), omega (arith, there m other, stage.short m l)))
     (cases_eq m j))
-    i i_within (there i apart ∙ stands-count stage i i_within stands) in
+    i l (there i apart ∙ stands-count stage i l stands) in
     let z : ℕ → ℤ = s.weight in
     let zero_at : (m : ℕ) → m ≢ i → m ≢ j → slice_index counts m ≡ 0 → z m ≡ pos 0 = λ m other differs none. s.outside m other (there m differs ∙ none) in
     let past : (m : ℕ) → m < 16 → ¬ IsFree k range m → z m ≡ pos 0 = λ m l no.
     zero_at m (λ e. no (subst (IsFree k range) (sym e) stands.free)) (λ e. no (subst (IsFree k range) (sym e) pivot.free))
     (none-past (stage.places m l) no) in
-    let keeps = NotedKeep-set stage z j (length p) p h.within h.ring.some (stands-count stage j h.within pivot) s.keep in
+    let keeps = NotedKeep-set stage z j (length p) p within ring.some (stands-count stage j within pivot) s.keep in
     let spanned = IsSpanned-all stage z (λ a below. past a (omega arith) (λ free. let least = free.least in absurd (omega arith))) (λ a from l. past a l (λ free. let above = free.most in absurd (omega arith))) keeps.0 in
-    let nothing = (h.condition.keeps z).0 (subst (KeepsSumOf range z r) (take_all (length p) p (omega arith)) keeps.1) in
+    let nothing = (condition.keeps z).0 (subst (KeepsSumOf range z r) (take_all (length p) p (omega arith)) keeps.1) in
     let beside : (a m : ℕ) → a < 16 → m < 16 → m ≢ i → spanned.parts m *ℤ crossed lead (entry rows m a) (gain m) (entry rows j a) ≡ pos 0 = λ a m n l other.
     ⊎_elim
-    (λ (same : m ≡ j). rw same (factor-none (spanned.parts j) _ (crossed-pivot lead (entry rows j a) (gain j) h.gains)))
+    (λ (same : m ≡ j). rw same (factor-none (spanned.parts j) _ (crossed-pivot lead (entry rows j a) (gain j) gains)))
     (λ (differs : m ≢ j). part-none stage spanned m l _ (λ upright. zero_at m other differs (stands-count stage m l upright))
-    (λ zeros. crossed-none lead (entry rows m a) (gain m) (entry rows j a) (zeros a n) (gain_at-zero rows m x y h.condition.short.after_word h.condition.short.before_word zeros)))
+    (λ zeros. crossed-none lead (entry rows m a) (gain m) (entry rows j a) (zeros a n) (gain_at-zero rows m x y condition.short.after_word condition.short.before_word zeros)))
     (cases_eq m j) in
-    bounded_multiple (lead * spanned.times) z (spanned.parts i) cross g (2 ^ 56) s.place (mul-le-mul h.positive spanned.some)
+    bounded_multiple (lead * spanned.times) z (spanned.parts i) cross g (2 ^ 56) s.place (mul-le-mul positive spanned.some)
     (λ a n.
-    spanned_crosses lead j x y h.condition.short.after_word h.condition.short.before_word nothing spanned a n
-    ∙ sum_to-one 16 (λ m. spanned.parts m *ℤ crossed lead (entry rows m a) (gain m) (entry rows j a)) i i_within (λ m l other. beside a m n l other)
-    ∙ ap (λ (v : ℤ). spanned.parts i *ℤ v) (sym (crosses a n)))
-    s.small s.within s.some divisor
-
--- rows narrowed by two words that say of a short ring whether it keeps a sum fit
-pub FitNarrowed-condition : {r : LocalRule} {range : ℕ} {rows : List (List ℤ)} {counts : List ℕ} {rings : List (List ℕ)} → IsRule r → 1 ≤ range → r.states ^ range ≤ 16 → IsStage r range rows counts rings
-    → (p x y : List ℕ) → IsRing r.states p → IsCondition r range p x y → length p + 3 ≤ 2 * (r.width + range) → (j : ℕ) → j < 16 → FitNarrowed rows x y j
-FitNarrowed-condition {r} {range} {rows} {counts} {rings} rule some few stage p x y ring condition short j within = λ above i l cross crosses g divisor a n.
-    let lead = positive_is (gain_at (entry rows j) x y) above in
-    let pivot : IsPivot r range rows counts rings p x y j lead.0 = record {
-      rule = rule;
-      some = some;
-      few = few;
-      stage = stage;
-      ring = ring;
-      condition = condition;
-      short = short;
-      within = within;
-      positive = lead.1;
-      gains = lead.2;
-    } in
-    let gain : ℤ = gain_at (entry rows i) x y in
-    let entries : (b : ℕ) → b < 16 → at cross b ≡ crossed lead.0 (entry rows i b) gain (entry rows j b) = λ b m.
-    crosses.entries b m ∙ ap (λ (z : ℤ). (z *ℤ entry rows i b) -ℤ (gain *ℤ entry rows j b)) lead.2 in
-    let nil : at cross a ≡ pos 0 → unsigned_abs (at cross a) ≤ g * 2 ^ 56 = λ e. subst (λ (z : ℤ). unsigned_abs z ≤ g * 2 ^ 56) (sym e) (omega arith) in
+    spanned_crosses lead j x y condition.short.after_word condition.short.before_word nothing spanned a n
+    ∙ sum_to-one 16 (λ m. spanned.parts m *ℤ crossed lead (entry rows m a) (gain m) (entry rows j a)) i l (λ m l other. beside a m n l other)
+    ∙ ap (λ (v : ℤ). spanned.parts i *ℤ v) (sym (entries a n)))
+    s.small s.within s.some divisor a n in
     ⊎_elim
-    (λ (same : i ≡ j). nil (entries a n ∙ ap (λ m. crossed lead.0 (entry rows m a) (gain_at (entry rows m) x y) (entry rows j a)) same ∙ crossed-pivot lead.0 (entry rows j a) _ lead.2))
+    (λ (same : i ≡ j). nil (entries a n ∙ ap (λ m. crossed lead (entry rows m a) (gain m) (entry rows j a)) same ∙ crossed-pivot lead (entry rows j a) _ gains))
     (λ (apart : i ≢ j). ⊎_elim
-    (λ (stands : Stands r.states range rows i). fit_standing pivot i l apart stands cross entries g divisor a n)
-    (λ (zeros : IsZero rows i). nil (entries a n ∙ crossed-none lead.0 _ gain _ (zeros a n) (gain_at-zero rows i x y condition.short.after_word condition.short.before_word zeros)))
+    (standing apart)
+    (λ (zeros : IsZero rows i). nil (entries a n ∙ crossed-none lead _ (gain i) _ (zeros a n) (gain_at-zero rows i x y condition.short.after_word condition.short.before_word zeros)))
     (stands_or_zero (stage.places i l)))
     (cases_eq i j)

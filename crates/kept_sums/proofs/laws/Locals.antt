@@ -40,13 +40,9 @@ turn_sum-walk h d p =
     ap h (ap (λ o. ring_letters p o (d + 1)) here ∙ sym (slice_range-ring_letters p (pos 0) (length p + d) i (d + 1) (omega arith)) ∙ ap (λ n. take n (drop i x)) wide))
     ∙ ap (λ n. sum_to n (λ i. h (take (d + 1) (drop i x)))) all
 
--- the word of d letters 0
-abbrev pub zeros : ℕ → List ℕ
-zeros d = replicate d 0
-
 -- what the walk from a word of d letters meets that reads d letters 0
 abbrev pub potential : (List ℕ → ℤ) → ℕ → List ℕ → ℤ
-potential h d v = walk h d (v ++ zeros d)
+potential h d v = walk h d (v ++ replicate d 0)
 
 -- each ring of at most 2 d + 1 letters has the sum 0
 abbrev pub ShortRingsVanish : ℕ → (List ℕ → ℤ) → ℕ → Type 0
