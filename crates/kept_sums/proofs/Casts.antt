@@ -17,10 +17,6 @@ back w z n most l = to_z-of_z w z (fits w z n most l)
 pub abs-mul : (a b : ℤ) (m n : ℕ) → unsigned_abs a ≤ m → unsigned_abs b ≤ n → unsigned_abs (a *ℤ b) ≤ m * n
 abs-mul a b m n one two = let product = mul-le-mul one two in omega (arith, unsigned_abs-mul a b, product)
 
--- the size of a sum is at most that of both sizes together
-pub abs-add : (a b : ℤ) → unsigned_abs (a +ℤ b) ≤ unsigned_abs a + unsigned_abs b
-abs-add a b = omega (arith, ints)
-
 -- the size of a difference is at most that of both sizes together
 pub abs-sub : (a b : ℤ) → unsigned_abs (a -ℤ b) ≤ unsigned_abs a + unsigned_abs b
 abs-sub a b = omega (arith, ints)

@@ -1,5 +1,5 @@
-use Rattle.std.proofs.Common.{◌≡◌, ◌+◌, ◌^◌, ◌<◌, length, reverse, refl, sym, ap, ◌∙◌, subst, arith}
-use Rattle.word_image.proofs.Common.{LocalRule, IsRule, set_more, value}
+use Rattle.std.proofs.Common.{◌≡◌, ℕ, ◌+◌, ◌^◌, ◌<◌, List, length, reverse, slice_index, set, refl, sym, ap, ◌∙◌, subst, ⊎_elim, arith, get_or-set_other}
+use Rattle.word_image.proofs.Common.{cases_eq, get_or-set_at, LocalRule, IsRule, value}
 use Rattle.rule_text.specs.RuleTexts.{rule_of_table}
 use Rattle.rule_verdicts.specs.Numbers.{numbered_rule, IsVerdictByte}
 use Rattle.rule_verdicts.proofs.laws.Tables.{numbered_rule-table}
@@ -13,6 +13,15 @@ loop-byte-init c = record {
   number = λ l. omega arith;
   written = λ i l. absurd (omega arith);
 }
+
+-- a byte more is written
+written_more : (P : ℕ → ℕ → Type 0) (bytes : List ℕ) (n x : ℕ) → n < length bytes → ((i : ℕ) → i < n → P i (slice_index bytes i)) → P n x
+    → (i : ℕ) → i < n + 1 → P i (slice_index (set bytes n x) i)
+written_more P bytes n x within before here i l =
+    ⊎_elim
+    (λ last. subst (P i) (sym (get_or-set_at bytes n i x 0 last within)) (subst (λ j. P j x) (sym last) here))
+    (λ other. subst (P i) (sym (get_or-set_other bytes n i x 0 other)) (before i (omega (arith, other))))
+    (cases_eq i n)
 
 pub loop-byte-preserved : goal.loop-byte-preserved
 loop-byte-preserved c =
@@ -31,7 +40,7 @@ loop-byte-preserved c =
       long = c.next_table-total.auto.table ∙ c.loop-byte.invariant.long;
       total = c.next_table-total.ensures.total;
       number = λ l. omega (arith, c.next_table-total.ensures.next (omega (arith, l, number, power)), number);
-      written = set_more (λ j x. IsVerdictByte (numbered_rule k m (first + j)) x) c.loop-byte.bytes i i 0 c.verdict_byte.result (omega arith) refl c.loop-byte.invariant.written
+      written = written_more (λ j x. IsVerdictByte (numbered_rule k m (first + j)) x) c.loop-byte.bytes i c.verdict_byte.result (omega arith) c.loop-byte.invariant.written
           (subst (λ (r : LocalRule). IsVerdictByte r c.verdict_byte.result) same c.verdict_byte.ensures);
     }
 
