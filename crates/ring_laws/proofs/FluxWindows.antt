@@ -44,7 +44,8 @@ gain-walk_sum {r} rule weight (suc n) z word e =
     let both : gain weight r (z ++ replicate (suc n) 0) ≡ gain_of weight r window +ℤ gain weight r (after ++ replicate n 0) =
     ap (gain weight r) (sym (append_assoc z (0 ∷ []) (replicate n 0)))
     ∙ (IsWindowSum-gain rule weight).more (window ++ replicate n 0) (omega (arith, length-append window (replicate n 0)))
-    ∙ ap₂ (λ (x y : List ℕ). gain_of weight r x +ℤ gain weight r y) (take_at window (replicate n 0) (r.width - 1 + 1) (omega arith)) (drop-append-le 1 window (replicate n 0) (omega arith)) in
+    ∙ ap₂ (λ (x y : List ℕ). gain_of weight r x +ℤ gain weight r y)
+    (take_at window (replicate n 0) (r.width - 1 + 1) (omega arith)) (drop-append-le 1 window (replicate n 0) (omega arith)) in
     let number : value r.states window ≡ value r.states z * r.states = omega (arith, value-snoc r.states z 0) in
     let one = window_gain-value rule weight window letters long ∙ ap (window_gain weight r) number in
     let node : value r.states after ≡ value r.states z * r.states % node_count r = value-last rule window letters long ∙ ap (λ v. v % node_count r) number in
@@ -63,10 +64,12 @@ abbrev pub FlowsAt : (ℕ → ℕ) → LocalRule → List ℤ → ℕ → Type 0
 FlowsAt weight r phi v = window_gain weight r v ≡ get_or phi (v / r.states) (pos 0) -ℤ get_or phi (v % node_count r) (pos 0)
 
 -- the window of this value gains what its letters say
-window_gain-word_of : {r : LocalRule} → IsRule r → (weight : ℕ → ℕ) (v : ℕ) → v < r.states ^ (r.width - 1 + 1) → gain_of weight r (word_of r.states (r.width - 1 + 1) v) ≡ window_gain weight r v
+window_gain-word_of : {r : LocalRule} → IsRule r → (weight : ℕ → ℕ) (v : ℕ) → v < r.states ^ (r.width - 1 + 1)
+    → gain_of weight r (word_of r.states (r.width - 1 + 1) v) ≡ window_gain weight r v
 window_gain-word_of {r} rule weight v l =
     let n : ℕ = r.width - 1 + 1 in
-    window_gain-value rule weight (word_of r.states n v) (IsWord-word_of r.states n v l) (omega (arith, length-word_of r.states n v, rule.shape.least_width)) ∙ ap (window_gain weight r) (value-word_of r.states n v l)
+    window_gain-value rule weight (word_of r.states n v) (IsWord-word_of r.states n v l) (omega (arith, length-word_of r.states n v, rule.shape.least_width))
+    ∙ ap (window_gain weight r) (value-word_of r.states n v l)
 
 -- a list is a flux if each window does
 pub IsFlux-windows : {weight : ℕ → ℕ} {r : LocalRule} {phi : List ℤ} → IsRule r → length phi ≡ node_count r → ((v : ℕ) → v < r.states ^ r.width → FlowsAt weight r phi v)
@@ -75,7 +78,8 @@ IsFlux-windows {weight} {r} {phi} rule entries each = record {
   entries = entries;
   flows = λ w first last word e at_first at_last.
       let wide : r.width ≡ r.width - 1 + 1 = omega (arith, rule.shape.least_width) in
-      (by_ends r.states (r.width - 1) (gain_of weight r) (λ u. get_or phi u (pos 0))).1 (λ v l. window_gain-word_of rule weight v l ∙ each v (subst (λ n. v < r.states ^ n) (sym wide) l)) w word (e ∙ wide)
+      (by_ends r.states (r.width - 1) (gain_of weight r) (λ u. get_or phi u (pos 0))).1
+      (λ v l. window_gain-word_of rule weight v l ∙ each v (subst (λ n. v < r.states ^ n) (sym wide) l)) w word (e ∙ wide)
       ∙ ap₂ (λ (i j : ℤ). i -ℤ j) (get_or_from_slice_get phi _ first (pos 0) at_first) (get_or_from_slice_get phi _ last (pos 0) at_last);
 }
 

@@ -9,7 +9,8 @@ pub record IsWindowSum (d : ℕ) (h sum : List ℕ → ℤ) : Type 0 where
   pub more : (x : List ℕ) → d < length x → sum x ≡ h (take (d + 1) x) +ℤ sum (drop 1 x)
 
 -- two words that share d letters have the windows of both
-pub sum-append : {d : ℕ} {h sum : List ℕ → ℤ} → IsWindowSum d h sum → (a b c : List ℕ) → length b ≡ d → sum (a ++ (b ++ c)) ≡ sum (a ++ b) +ℤ sum (b ++ c)
+pub sum-append : {d : ℕ} {h sum : List ℕ → ℤ} → IsWindowSum d h sum → (a b c : List ℕ) → length b ≡ d
+    → sum (a ++ (b ++ c)) ≡ sum (a ++ b) +ℤ sum (b ++ c)
 sum-append sums [] b c e = omega (arith, ints, sums.short b (omega arith))
 sum-append {d} {h} {sum} sums (x ∷ a) b c e =
     let long = length-append (x ∷ a) b in
@@ -55,7 +56,8 @@ closed_walk {d} z y some e =
     ∙ append_assoc z y z
 
 -- where each ring of at most 2 d + 1 letters gives nothing, a window gives the difference of the walks from its two nodes that read d letters 0
-pub window-short_rings : {d : ℕ} {h sum : List ℕ → ℤ} (k : ℕ) → 1 ≤ k → 1 ≤ d → IsWindowSum d h sum → ((p : List ℕ) → IsRing k p → length p ≤ 2 * d + 1 → sum (ring_letters p (pos 0) (length p + d)) ≡ pos 0)
+pub window-short_rings : {d : ℕ} {h sum : List ℕ → ℤ} (k : ℕ) → 1 ≤ k → 1 ≤ d → IsWindowSum d h sum
+    → ((p : List ℕ) → IsRing k p → length p ≤ 2 * d + 1 → sum (ring_letters p (pos 0) (length p + d)) ≡ pos 0)
     → (w : List ℕ) → IsWord k w → length w ≡ d + 1 → h w ≡ sum (take d w ++ replicate d 0) -ℤ sum (drop 1 w ++ replicate d 0)
 window-short_rings {d} {h} {sum} k some wide sums vanish w word e =
     let z : List ℕ = replicate d 0 in

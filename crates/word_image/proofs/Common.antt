@@ -45,7 +45,7 @@ pub use Rattle.word_image.proofs.laws.LastSets.{IsBitSet-full, IsLastSet-full, I
 pub use Rattle.word_image.proofs.laws.Lists.{AllZip-places, Contains-range, filled_more, letters_more, paired_at, paired_length, range-more, reverse-cut, slice_index-zeros}
 pub use Rattle.word_image.proofs.laws.Orders.{digits-lt, nat_cmp-add, slice_cmp-value, then_equal}
 pub use Rattle.word_image.proofs.laws.Places.{Contains-slice_get, at-set, each-set, only_place, set_more, slice_get-Contains, slice_get-append, slice_get-cut, slice_get-push, slice_get-push_cases, slice_get-unique}
-pub use Rattle.word_image.proofs.laws.Prefixes.{Begins-prefix, Begins-text, IsFormFault-next, IsFormFault-rest, IsFormFault-stuck, IsFormFault-unique}
+pub use Rattle.word_image.proofs.laws.Prefixes.{Begins-prefix, IsFormFault-next, IsFormFault-rest, IsFormFault-stuck, IsFormFault-unique}
 pub use Rattle.word_image.proofs.laws.Results.{handed_on}
 pub use Rattle.word_image.proofs.laws.RingSums.{ring_letters-turn, sum_by-ring_image-from, sum_by-ring_letters, turn-all}
 pub use Rattle.word_image.proofs.laws.Rings.{IsWord-ring_letters, again-times, ring_letter-below, ring_letter-turn, ring_letters-rem}

@@ -40,13 +40,4 @@ IsBitSet-pow k i = (
 
 -- the union of two sets
 pub IsBitSet-or : (a b i : ℕ) → IsBitSet (bit_or a b) i ↔ (IsBitSet a i ⊎ IsBitSet b i)
-IsBitSet-or a b i = (
-  (λ some. let one = (bit_at-IsBitSet (bit_or a b) i).0 some in let both = bit_at_or a b i in
-      ⊎_elim (λ e. inl ((bit_at-IsBitSet a i).1 e))
-      (λ other. inr ((bit_at-IsBitSet b i).1 (omega (arith, bit_at-lt a i, bit_at-lt b i))))
-      (cases_eq (bit_at a i) 1)),
-  (λ either. let both = bit_at_or a b i in (bit_at-IsBitSet (bit_or a b) i).1 (⊎_elim
-      (λ some. let one = (bit_at-IsBitSet a i).0 some in omega (arith, bit_at-lt b i))
-      (λ some. let one = (bit_at-IsBitSet b i).0 some in omega (arith, bit_at-lt a i))
-      either)),
-)
+IsBitSet-or a b i = grind (arith, bit_at-IsBitSet, bit_at_or, bit_at-lt)

@@ -51,7 +51,8 @@ HaveEdges-more {side} {r} {w} {a} {rows} rule node letter h i j set labelled lea
     let below = end_node-below side rule (window_with side r w a) (window_with-within side rule w a node letter) in
     record {
       tall = length-set rows i changed ∙ h.tall;
-      wide = λ label inside. at-set (λ _ l. length l ≡ 16) rows i [] changed (omega (arith, h.tall)) label (λ _. h.wide label inside) (length-set row j (bit_or (slice_index row j) set) ∙ h.wide i in_i);
+      wide = λ label inside. at-set (λ _ l. length l ≡ 16) rows i [] changed (omega (arith, h.tall)) label (λ _. h.wide label inside)
+          (length-set row j (bit_or (slice_index row j) set) ∙ h.wide i in_i);
       ends = λ label u inside small. at-set (λ l s. IsUnion (node_count r) (IsEdgeAt side r l u) (n + 1) (slice_index s u)) rows i [] changed (omega (arith, h.tall)) label
           (λ differs. IsUnion-skip (h.ends label u inside small) (λ v edge. differs (sym edge.0 ∙ ap₂ (label_at side r) from by ∙ sym labelled)))
           (at-set (λ x s. IsUnion (node_count r) (IsEdgeAt side r i x) (n + 1) s) row j 0 (bit_or (slice_index row j) set) (omega (arith, h.wide i in_i)) u

@@ -31,7 +31,8 @@ value-node r z h e = subst (λ n. value r.states z < r.states ^ n) e (value-belo
 -- the value of a word without its last letter
 pub value-front : (k d : ℕ) (y : List ℕ) → IsWord k y → length y ≡ d + 1 → value k (take d y) ≡ value k y / k
 value-front k d y h e =
-    sym (ap (λ v. v / k) (sym (ap (value k) (take_all (d + 1) y (omega arith))) ∙ value-take_more k y d (omega arith)) ∙ div-mul-add (value k (take d y)) k (get_or y d 0) (h d 0 (omega arith)))
+    sym (ap (λ v. v / k) (sym (ap (value k) (take_all (d + 1) y (omega arith))) ∙ value-take_more k y d (omega arith))
+    ∙ div-mul-add (value k (take d y)) k (get_or y d 0) (h d 0 (omega arith)))
 
 -- the value of a word without its first letter
 pub value-tail : (k d : ℕ) (y : List ℕ) → IsWord k y → length y ≡ d + 1 → value k (drop 1 y) ≡ value k y % k ^ d

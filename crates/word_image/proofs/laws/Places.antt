@@ -47,7 +47,8 @@ slice_get-cut (y ∷ xs) zero x e = ap (λ z. z ∷ xs) (same_Some y x e)
 slice_get-cut (y ∷ xs) (suc i) x e = ap (λ l. y ∷ l) (slice_get-cut xs i x e)
 
 -- what holds of an entry, if it is another one, and of the one that is stored, holds of the entry then
-pub at-set : {X : Type 0} (P : ℕ → X → Type 0) (xs : List X) (i : ℕ) (d y : X) → i < length xs → (v : ℕ) → (v ≢ i → P v (get_or xs v d)) → P i y → P v (get_or (set xs i y) v d)
+pub at-set : {X : Type 0} (P : ℕ → X → Type 0) (xs : List X) (i : ℕ) (d y : X) → i < length xs
+    → (v : ℕ) → (v ≢ i → P v (get_or xs v d)) → P i y → P v (get_or (set xs i y) v d)
 at-set P xs i d y inside v before here =
     ⊎_elim
     (λ same. rw same (subst (P i) (sym (get_or-set_same xs i y d inside)) here))

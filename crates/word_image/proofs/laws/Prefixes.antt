@@ -5,10 +5,6 @@ use Rattle.std.proofs.lemmas.Option.{slice_get-get_or, slice_get_past}
 use Rattle.std.proofs.lemmas.List.{take_more}
 use Rattle.word_image.specs.Grammars.{Begins, IsFormFault}
 
--- a text of the grammar begins one
-pub Begins-text : {IsText : List ℕ → Type 0} (x y : List ℕ) → IsText (x ++ y) → Begins IsText x
-Begins-text x y text = record { more = y; whole = text }
-
 -- a prefix of what begins a text begins it too
 pub Begins-prefix : {IsText : List ℕ → Type 0} (x y : List ℕ) → Begins IsText (x ++ y) → Begins IsText x
 Begins-prefix {IsText} x y b = record { more = y ++ b.more; whole = subst IsText (append_assoc x y b.more) b.whole }

@@ -18,22 +18,27 @@ map-shifted f a (suc n) = ap (λ xs. f (a + 1) ∷ xs) (map-shifted f (a + 1) n)
 abbrev pub terms : {A : Type 0} → (ℤ → A) → ℕ → ℤ → List A
 terms g n o = map (λ i. g (pos i +ℤ o)) (range_with_len 0 n)
 
--- what is one for a list and for the list with its last element first is one for n terms from a place on and from the next, if they come again after n
-turn-next : {A B : Type 0} (F : List A → B) → ((w : List A) (a : A) → F (w ++ a ∷ []) ≡ F (a ∷ w)) → (g : ℤ → A) (n : ℕ) → ((i : ℤ) → g (i +ℤ pos n) ≡ g i) → (o : ℤ)
+-- a list with its last element first gives what the list gives
+abbrev pub KeepsTurns : {A B : Type 0} → (List A → B) → Type 0
+KeepsTurns {A} F = (w : List A) (a : A) → F (w ++ a ∷ []) ≡ F (a ∷ w)
+
+-- of terms that come again after n, n terms from the next place on give what those from a place on give
+turn-next : {A B : Type 0} (F : List A → B) → KeepsTurns F → (g : ℤ → A) (n : ℕ) → ((i : ℤ) → g (i +ℤ pos n) ≡ g i) → (o : ℤ)
     → F (terms g n (o +ℤ pos 1)) ≡ F (terms g n o)
 turn-next F turns g zero again o = refl
 turn-next F turns g (suc n) again o =
     let next : suc n ≡ n + 1 = omega arith in
     let last : pos n +ℤ (o +ℤ pos 1) ≡ o +ℤ pos (suc n) = omega (arith, ints) in
     let first : o ≡ pos 0 +ℤ o = omega (arith, ints) in
-    let others = ap (λ h. map h (range_with_len 0 n)) (fun_ext (λ i. let e : pos i +ℤ (o +ℤ pos 1) ≡ pos (i + 1) +ℤ o = omega (arith, ints) in ap g e)) in
+    let others = ap (λ h. map h (range_with_len 0 n)) (fun_ext (λ i.
+    let e : pos i +ℤ (o +ℤ pos 1) ≡ pos (i + 1) +ℤ o = omega (arith, ints) in ap g e)) in
     ap (λ j. F (terms g j (o +ℤ pos 1))) next
     ∙ ap F (map-range_with_len_more (λ i. g (pos i +ℤ (o +ℤ pos 1))) 0 n n (omega arith))
     ∙ turns (terms g n (o +ℤ pos 1)) (g (pos n +ℤ (o +ℤ pos 1)))
     ∙ ap₂ (λ a xs. F (a ∷ xs)) (ap g last ∙ again o ∙ ap g first) (others ∙ sym (map-shifted (λ i. g (pos i +ℤ o)) 0 n))
 
--- so it is one for n terms from any place on
-turn-any : {A B : Type 0} (F : List A → B) → ((w : List A) (a : A) → F (w ++ a ∷ []) ≡ F (a ∷ w)) → (g : ℤ → A) (n : ℕ) → ((i : ℤ) → g (i +ℤ pos n) ≡ g i) → (o : ℤ)
+-- so n terms from any place on give one thing
+turn-any : {A B : Type 0} (F : List A → B) → KeepsTurns F → (g : ℤ → A) (n : ℕ) → ((i : ℤ) → g (i +ℤ pos n) ≡ g i) → (o : ℤ)
     → F (terms g n o) ≡ F (terms g n (pos 0))
 turn-any F turns g n again (pos i) =
     let e : pos i ≡ pos 0 +ℤ pos (i * 1) = omega (arith, ints) in
@@ -42,14 +47,15 @@ turn-any F turns g n again (negsuc i) =
     let e : negsuc i +ℤ pos (suc i * 1) ≡ pos 0 = omega (arith, ints) in
     sym (again-times (λ o. F (terms g n o)) 1 (turn-next F turns g n again) (suc i) (negsuc i)) ∙ ap (λ o. F (terms g n o)) e
 
--- and for those from 0 on
-pub turn-all : {A B : Type 0} (F : List A → B) → ((w : List A) (a : A) → F (w ++ a ∷ []) ≡ F (a ∷ w)) → (g : ℤ → A) (n : ℕ) → ((i : ℤ) → g (i +ℤ pos n) ≡ g i) → (o : ℤ)
+-- they give what those from 0 on give
+pub turn-all : {A B : Type 0} (F : List A → B) → KeepsTurns F → (g : ℤ → A) (n : ℕ) → ((i : ℤ) → g (i +ℤ pos n) ≡ g i) → (o : ℤ)
     → F (map (λ i. g (pos i +ℤ o)) (range_with_len 0 n)) ≡ F (map (λ i. g (pos i)) (range_with_len 0 n))
 turn-all F turns g n again o =
-    turn-any F turns g n again o ∙ ap (λ h. F (map h (range_with_len 0 n))) (fun_ext (λ i. let e : pos i +ℤ pos 0 ≡ pos i = omega (arith, ints) in ap g e))
+    turn-any F turns g n again o
+    ∙ ap (λ h. F (map h (range_with_len 0 n))) (fun_ext (λ i. let e : pos i +ℤ pos 0 ≡ pos i = omega (arith, ints) in ap g e))
 
 -- the sum of a list with its last element first
-sum_by-turned : (f : ℕ → ℕ) (w : List ℕ) (a : ℕ) → sum_by f (w ++ a ∷ []) ≡ sum_by f (a ∷ w)
+sum_by-turned : (f : ℕ → ℕ) → KeepsTurns (sum_by f)
 sum_by-turned f w a = omega (arith, sum_by_push f w a, sum_by-cons f a w)
 
 -- a full turn further the same letters are read
@@ -62,7 +68,8 @@ ring_letters-turn p o n some =
 pub sum_by-ring_letters : (weight : ℕ → ℕ) (p : List ℕ) (o : ℤ) → 0 < length p → sum_by weight (ring_letters p o (length p)) ≡ sum_by weight p
 sum_by-ring_letters weight p o some =
     let whole = fill_by_all (λ i. ring_letter p (pos i)) p (length p) 0 refl (λ i l. ap (slice_index p) (sym (mod-eq_of_lt l))) in
-    ap (λ h. sum_by weight (map h (range_with_len 0 (length p)))) (fun_ext (λ j. let e : o +ℤ pos j ≡ pos j +ℤ o = omega (arith, ints) in ap (ring_letter p) e))
+    ap (λ h. sum_by weight (map h (range_with_len 0 (length p)))) (fun_ext (λ j.
+    let e : o +ℤ pos j ≡ pos j +ℤ o = omega (arith, ints) in ap (ring_letter p) e))
     ∙ turn-all (sum_by weight) (sum_by-turned weight) (ring_letter p) (length p) (λ i. ring_letter-turn p i some) o ∙ ap (sum_by weight) (sym whole)
 
 -- what the rule gives on the windows of a full turn weighs the same from any place on
@@ -70,7 +77,8 @@ sum_by-windows : (r : LocalRule) (weight : ℕ → ℕ) (p : List ℕ) (o : ℤ)
     → sum_by weight (map (λ i. local_map r (ring_letters p (pos i +ℤ o) r.width)) (range_with_len 0 (length p)))
     ≡ sum_by weight (map (λ i. local_map r (ring_letters p (pos i) r.width)) (range_with_len 0 (length p)))
 sum_by-windows r weight p o some =
-    turn-all (sum_by weight) (sum_by-turned weight) (λ i. local_map r (ring_letters p i r.width)) (length p) (λ i. ap (local_map r) (ring_letters-turn p i r.width some)) o
+    turn-all (sum_by weight) (sum_by-turned weight) (λ i. local_map r (ring_letters p i r.width)) (length p)
+    (λ i. ap (local_map r) (ring_letters-turn p i r.width some)) o
 
 -- the image of a ring weighs what the rule gives on the windows of a full turn from the first place on
 pub sum_by-ring_image-start : (r : LocalRule) (weight : ℕ → ℕ) (p : List ℕ) → 0 < length p

@@ -39,7 +39,8 @@ by_ends k n number phi = (
       let word = IsWord-word_of k (n + 1) v l in
       let long = length-word_of k (n + 1) v in
       let is = value-word_of k (n + 1) v l in
-      each w word long ∙ ap₂ (λ (x y : ℕ). phi x -ℤ phi y) (value-front k n w word long ∙ ap (λ x. x / k) is) (value-tail k n w word long ∙ ap (λ x. x % k ^ n) is),
+      each w word long
+      ∙ ap₂ (λ (x y : ℕ). phi x -ℤ phi y) (value-front k n w word long ∙ ap (λ x. x / k) is) (value-tail k n w word long ∙ ap (λ x. x % k ^ n) is),
   λ each w word long.
       ap number (sym (ap (λ j. word_of k j (value k w)) (sym long) ∙ word_of-value k w word))
       ∙ each (value k w) (subst (λ j. value k w < k ^ j) long (value-below k w word))

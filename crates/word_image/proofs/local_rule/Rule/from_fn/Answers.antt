@@ -1,7 +1,7 @@
-use Rattle.std.proofs.Common.{◌≡◌, ℕ, ◌-◌, ◌^◌, ◌<◌, ◌≤◌, List, length, take, drop, map, replicate, set, slice_index, sym, ap, ap₂, subst, subst₂, ◌∙◌, ℤ, w8, FitsSigned, to_z, of_z, arith, ext_get_or}
+use Rattle.std.proofs.Common.{◌≡◌, ℕ, ◌-◌, ◌^◌, ◌<◌, ◌≤◌, List, length, take, drop, map, replicate, set, slice_index, sym, ap, ap₂, subst, ◌∙◌, ℤ, w8, FitsSigned, to_z, of_z, arith, ext_get_or}
 use Rattle.std.proofs.lemmas.Int.{to_z-of_z}
 use Rattle.word_image.proofs.Common.{range_with_len, length-map-range_with_len, get_or-map-range_with_len}
-use Rattle.word_image.specs.LocalRules.{LocalRule, IsShape, IsRule}
+use Rattle.word_image.specs.LocalRules.{LocalRule, IsRule}
 use Rattle.word_image.specs.RulesBy.{IsRuleBy}
 use Rattle.word_image.specs.Storage.{padded}
 use Rattle.word_image.proofs.Storage.{in_row-more, take-in_row, drop-in_row}
@@ -21,10 +21,6 @@ windows by = ap₂ (λ (a b : ℕ). a ^ b) (sym by.states) (sym by.width) ∙ sy
 -- a rule has at most 256 windows
 few : {k m : ℕ} {o : ℤ} {gives : ℕ → ℕ → Type 0} {r : LocalRule} → IsRuleBy k m o gives r → k ^ m ≤ 256
 few {k} {m} {o} {gives} {r} by = omega (arith, windows by, by.rule.entries, window_count-le r.states r.width r.offset by.rule.shape)
-
--- the shape of a rule that is made is accepted
-shape_of : {k m : ℕ} {o : ℤ} {gives : ℕ → ℕ → Type 0} {r : LocalRule} → IsRuleBy k m o gives r → IsShape k m o
-shape_of {o = o} {r = r} by = subst₂ (λ (k m : ℕ). IsShape k m o) by.states by.width (subst (IsShape r.states r.width) by.offset by.rule.shape)
 
 -- a rule is made of its entries where all of them are there
 made : {k m : ℕ} {o : ℤ} {gives : ℕ → ℕ → Type 0} {r : LocalRule} → IsRuleBy k m o gives r → FitsSigned w8 o → (n : ℕ) (entries : List ℕ) → n ≡ k ^ m

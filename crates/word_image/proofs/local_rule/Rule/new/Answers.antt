@@ -7,13 +7,9 @@ use Rattle.word_image.proofs.laws.RuleFaults.{IsShape-shape_fault, IsWord-table_
 use Rattle.word_image.proofs.Storage.{take-in_row, drop-in_row}
 use Rattle.word_image.proofs.local_rule.Rule.new.Goals as goal
 
--- the fault of a shape whose offset was passed on
-passed : (k m : ℕ) (o : ℤ) → FitsSigned w8 o → shape_fault k m (to_z w8 (of_z w8 o)) ≡ shape_fault k m o
-passed k m o fits = ap (shape_fault k m) (to_z-of_z w8 o fits)
-
 -- a shape whose offset was passed on is accepted where it has no fault
 accepted_shape : (k m : ℕ) (o : ℤ) → FitsSigned w8 o → None ≡ shape_fault k m (to_z w8 (of_z w8 o)) → IsShape k m o
-accepted_shape k m o fits none = IsShape-shape_fault k m o (sym (passed k m o fits) ∙ sym none)
+accepted_shape k m o fits none = IsShape-shape_fault k m o (sym (none ∙ ap (shape_fault k m) (to_z-of_z w8 o fits)))
 
 -- parts without a fault, of which the offset was passed on, are those of a rule
 made : (k m : ℕ) (o : ℤ) (t : List ℕ) → FitsSigned w8 o → None ≡ shape_fault k m (to_z w8 (of_z w8 o)) → None ≡ table_fault k m t → IsRule (record { states = k; width = m; offset = o; table = t })
