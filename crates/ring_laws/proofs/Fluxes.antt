@@ -34,5 +34,5 @@ gain-flux {weight} {r} {phi} rule flux n x word e =
 -- where a flux exists each ring keeps its sum
 pub IsConserving-flux : {weight : ℕ → ℕ} {r : LocalRule} {phi : List ℤ} → IsRule r → IsFlux weight r phi → IsConserving weight r
 IsConserving-flux {weight} {r} {phi} rule flux p ring =
-    omega (arith, ints, ring-steps (flow_at r phi) (pos 0) (IsWindowSum-gain rule weight) (flux-steps rule flux) p ring,
-    gain-ring rule weight p (pos 0) ring.some)
+    let around = gain-ring rule weight p (pos 0) ring.some in
+    omega (arith, ints, around, ring-steps (flow_at r phi) (pos 0) (IsWindowSum-gain rule weight) (flux-steps rule flux) p ring)
