@@ -1,8 +1,9 @@
 -- An open rule is closing: under a surjective one, two configurations that are equal to the left, share an image and differ would lead from one node along more and more ways that read the same.
 use Rattle.std.proofs.Common.{◌≡◌, ◌≢◌, ℕ, zero, suc, ◌+◌, ◌-◌, ◌<◌, ◌≤◌, List, [], ◌++◌, length, take, drop, get_or, refl, sym, ap, ap₂, ◌∙◌, subst, arith, length-append, length-drop, take-append-drop, take_at, drop_at, append_assoc, append-nil, get_or-append-add, length-take-le}
-use Rattle.word_image.proofs.Common.{take-append-le, get_or_append_left, All-nil, All-append, All-drop, LocalRule, IsRule, IsWord, value, node_count, image, IsPreimage, IsSurjective, IsErasable, value-injective, IsWord-image, length-image, image-drop, twice_below}
+use Rattle.word_image.proofs.Common.{take-append-le, get_or_append_left, All-nil, All-append, All-drop, LocalRule, IsRule, IsWord, value, node_count, image, IsPreimage, IsSurjective, IsErasable, IsWord-image, length-image, image-drop, twice_below}
 use Rattle.pair_laws.proofs.Common.{image-cut, image-join}
-use Rattle.garden_laws.proofs.Blocks.{last-below}
+use Rattle.garden_laws.proofs.PairEnds.{last-below}
+use Rattle.garden_laws.proofs.Exchange.{IsErasable-nodes}
 use Rattle.garden_laws.proofs.GardenOfEden.{garden_of_eden}
 
 -- two words differ at a place of both
@@ -182,25 +183,13 @@ last {r} {v = v} b = value r.states (drop (length (v ++ [])) (whole b))
 
 -- two branches that differ and end at one node are an erasable pair
 IsErasable-branches : {r : LocalRule} {u v x y : List ℕ} → (b : IsBranch r u v x) (c : IsBranch r u v y) → Apart x y → last b ≡ last c → IsErasable r (whole b) (whole c)
-IsErasable-branches {r} {u} {v} {x} {y} b c apart e = ends (IsPreimage-whole b) (IsPreimage-whole c) (Apart-append x y _ _ apart) (front-append (r.width - 1) u x _ b.long b.front) (front-append (r.width - 1) u y _ c.long c.front) e
-  where
-    ends : {s t : List ℕ} → IsPreimage r (v ++ []) s → IsPreimage r (v ++ []) t → Apart s t → take (r.width - 1) s ≡ u → take (r.width - 1) t ≡ u
-        → value r.states (drop (length (v ++ [])) s) ≡ value r.states (drop (length (v ++ [])) t) → IsErasable r s t
-    ends {s} {t} p q differ first second same =
-        let n : ℕ = length (v ++ []) in
-        let Below : ℕ → Type 0 = λ a. a < r.states in
-        let place : (z : List ℕ) → IsPreimage r (v ++ []) z → length z - (r.width - 1) ≡ n = λ z h. omega (arith, h.long) in
-        let back : drop n s ≡ drop n t =
-        value-injective r.states (drop n s) (drop n t) (All-drop Below n s p.word) (All-drop Below n t q.word) (omega (arith, length-drop n s, length-drop n t, p.long, q.long)) same in
-        record {
-          first = p.word;
-          second = q.word;
-          one_length = p.long ∙ sym q.long;
-          different = λ equal. differ.3 (ap (λ w. get_or w differ.0 0) equal);
-          one_image = p.maps ∙ sym q.maps;
-          same_front = first ∙ sym second;
-          same_back = ap (λ h. drop h s) (place s p) ∙ back ∙ ap (λ h. drop h t) (sym (place t q));
-        }
+IsErasable-branches {r} {u} {v} {x} {y} b c apart e =
+    let p = IsPreimage-whole b in
+    let q = IsPreimage-whole c in
+    let differ : Apart (whole b) (whole c) = Apart-append x y _ _ apart in
+    let front = front-append (r.width - 1) u x _ b.long b.front ∙ sym (front-append (r.width - 1) u y _ c.long c.front) in
+    IsErasable-nodes (record { first = p.word; second = q.word; first_long = p.long; second_long = q.long; one_image = p.maps ∙ sym q.maps })
+    (λ equal. differ.3 (ap (λ w. get_or w differ.0 0) equal)) (ap (value r.states) front) e
 
 -- under a surjective rule there is no fork: of more branches than nodes two would end at one node
 pub no_fork : {r : LocalRule} {u v x y : List ℕ} → IsRule r → IsSurjective r → IsWord r.states u → IsWord r.states v → ¬ IsFork r u v x y
