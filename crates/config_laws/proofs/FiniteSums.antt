@@ -1,5 +1,5 @@
 -- If finite configurations weigh as much as their images, or finitely many new letters change both alike, rings keep their sums.
-use Rattle.std.proofs.Common.{◌≡◌, ℕ, zero, suc, ◌+◌, ◌-◌, ◌*◌, ◌<◌, ◌≤◌, ◌↔◌, ⊎_elim, List, [], ◌∷◌, All, length, replicate, sum_by, ℤ, pos, ◌+ℤ◌, ◌-ℤ◌, neg_ℤ, unsigned_abs, refl, sym, ap, ◌∙◌, arith, suc-mul, ◌<ℤ◌, ◌≤ℤ◌}
+use Rattle.std.proofs.Common.{◌≡◌, ℕ, zero, suc, ◌+◌, ◌-◌, ◌*◌, ◌<◌, ◌≤◌, ◌↔◌, ⊎_elim, List, [], ◌∷◌, All, length, get_or, replicate, sum_by, ℤ, pos, ◌+ℤ◌, ◌-ℤ◌, neg_ℤ, unsigned_abs, refl, sym, ap, ◌∙◌, arith, suc-mul, ◌<ℤ◌, ◌≤ℤ◌}
 use Rattle.std.proofs.lemmas.List.Folds.{sum_by-replicate}
 use Rattle.word_image.proofs.Common.{cases_lt, get_or_past, length-replicate, sum_by-cons, sum_by-le, All-head, All-tail, All-replicate, ints, by_lt_z, LocalRule, IsRule, image, IsRing, ring_letter, ring_image, IsConserving, some_letter, ring_letter-below, ring_letter-turn}
 use Rattle.ring_laws.proofs.Rings.{IsWord-ring_image, sum_by-ring_image}
@@ -106,8 +106,11 @@ IsConserving-finite {r} rule weight keeps p ring =
     let gains = ring_sum {p = replicate n c} rule weight keeps (record { word = All-replicate (λ d. d < r.states) n c (omega (arith, l)); some = omega (arith, ring.some, length-replicate n c) }) in
     omega (arith, gains, sum_by-replicate weight n c, ap (weight_on weight zeros (pos 0)) (length-replicate n c), ap (weight_on weight (image_of r zeros) (pos 0)) (length-replicate n c)) in
     let long : (c : ℕ) → length (ring_image r (replicate n c)) ≡ n = λ c. length-ring_image r (replicate n c) ∙ length-replicate n c in
-    let above = sum_by-le weight (weight a) (ring_image r (replicate n a)) (λ i d l. most _ (omega (arith, IsWord-ring_image rule (replicate n a) i d l))) in
-    let below = sum_by-ge weight (weight b) (ring_image r (replicate n b)) (λ i d l. omega (arith, most _ (omega (arith, IsWord-ring_image rule (replicate n b) i d l)), fewest _ (omega (arith, IsWord-ring_image rule (replicate n b) i d l)), most b hb)) in
+    let letter : (c i d : ℕ) → i < length (ring_image r (replicate n c)) → get_or (ring_image r (replicate n c)) i d < suc k = λ c i d l. omega (arith, IsWord-ring_image rule (replicate n c) i d l) in
+    let above = sum_by-le weight (weight a) (ring_image r (replicate n a)) (λ i d l. most (get_or (ring_image r (replicate n a)) i d) (letter a i d l)) in
+    let below = sum_by-ge weight (weight b) (ring_image r (replicate n b)) (λ i d l.
+    let e : ℕ = get_or (ring_image r (replicate n b)) i d in
+    omega (arith, most e (letter b i d l), fewest e (letter b i d l), most b hb)) in
     omega (arith, same a ha, same b hb, above, below, ap (λ l. l * weight a) (long a), ap (λ l. l * weight b) (long b), ring_sum rule weight keeps ring)
 
 -- a rule keeps the sums of rings exactly if it keeps those of finite configurations

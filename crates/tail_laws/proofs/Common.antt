@@ -4,7 +4,7 @@ pub use Rattle.tail_laws.specs.FirstLists.{IsFirstBelow, IsFirstFound, IsLeastOf
 pub use Rattle.tail_laws.specs.SplitWalks.{IsLeastSplitAt, IsNoSplitAt, IsSplitAt, first_tail, second_tail, split_of, tail_of, with_mark}
 pub use Rattle.tail_laws.specs.Turns.{IsTurn}
 pub use Rattle.tail_laws.proofs.Certainty.{IsInjective-from_mirrored, IsInjective-window, IsLeftClosing-mirrored, IsLeftClosing-window, IsRightClosing-window, closing_ahead, not_closing}
-pub use Rattle.tail_laws.proofs.Closing.{IsRightClosing-ahead, agree_ahead, ahead_letter}
+pub use Rattle.tail_laws.proofs.Closing.{IsRightClosing-ahead, agree_ahead, agree_on, ahead_letter}
 pub use Rattle.tail_laws.proofs.FirstLists.{IsFirstBelow-old, IsFirstFound-next, IsFirstFound-none, spelled_pair}
 pub use Rattle.tail_laws.proofs.Injective.{IsInjective-determined, agree_determined, determined_letter}
 pub use Rattle.tail_laws.proofs.LeastSplits.{IsLeastRightSplit-below, IsLeastSplitAt-walks, no_earlier-least, no_normal_split, splits_cmp-walks, splits_cmp_total}
