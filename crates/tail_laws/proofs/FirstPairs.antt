@@ -1,5 +1,5 @@
 -- A first pair from which a walk leads into a loop gives a normal right split.
-use Rattle.std.proofs.Common.{◌≡◌, ℕ, ◌+◌, ◌-◌, ◌<◌, List, [], ◌∷◌, ◌++◌, length, take, drop, get_or, Some, refl, sym, ap, ap₂, ◌∙◌, subst, subst₂, arith, length-append, take_at, drop_at, ◌≤◌, zip}
+use Rattle.std.proofs.Common.{◌≡◌, ℕ, ◌+◌, ◌-◌, ◌<◌, List, [], ◌∷◌, ◌++◌, length, take, drop, get_or, Some, refl, sym, ap, ◌∙◌, subst, subst₂, arith, length-append, take_at, drop_at, ◌≤◌, zip}
 use Rattle.word_image.proofs.Common.{All-append, All-push, get_or_at, LocalRule, IsRule, IsWord, value, word_of, node_count, pair_of, follow, pair_count, IsRing, IsFirstOfRight, length-word_of, IsWord-word_of, value-word_of, node_count_pos}
 use Rattle.tail_config.proofs.Common.{TailConfig, IsTail, IsNormalRightSplit, IsWord-zero}
 use Rattle.pair_laws.proofs.Walks.{LeadTogether}

@@ -1,5 +1,5 @@
 -- Twins are the closed walks in the graph of pairs of nodes whose letters differ somewhere.
-use Rattle.std.proofs.Common.{◌≡◌, ◌≢◌, ℕ, ◌+◌, ◌-◌, ◌<◌, ◌≤◌, List, [], length, ℤ, pos, negsuc, ◌+ℤ◌, ◌-ℤ◌, neg_ℤ, refl, sym, ap, ap₂, ◌∙◌, subst, subst₂, arith, ◌*◌, ◌≤ℤ◌, ◌↔◌, zip}
+use Rattle.std.proofs.Common.{◌≡◌, ◌≢◌, ℕ, ◌-◌, ◌<◌, ◌≤◌, List, [], length, ℤ, pos, negsuc, ◌+ℤ◌, ◌-ℤ◌, neg_ℤ, refl, sym, ap, ap₂, ◌∙◌, subst, subst₂, arith, ◌*◌, ◌≤ℤ◌, ◌↔◌, zip}
 use Rattle.word_image.proofs.Common.{mul-le, ints, LocalRule, IsRule, value, word_of, node_count, IsRing, IsTwins, pair_of, length-word_of, IsWord-word_of, value-word_of}
 use Rattle.tail_config.proofs.Common.{TailConfig, IsTail, ShareImage, cell, cells, run-same, cells-left, RepeatsRight-times}
 use Rattle.tail_laws.proofs.TwinTails.{round, IsTail-round, cells-round, cell-round_period, ShareImage-turn, ShareImage-rings, ring_image-shared}
