@@ -1,5 +1,5 @@
 -- The principle that of two tests one passes is needed: it follows if each configuration is an image under one surjective rule, which says of its letters only far away whether they are even or odd.
-use Rattle.std.proofs.Common.{◌≡◌, ◌⊎◌, ℕ, zero, suc, ◌+◌, ◌-◌, ◌%◌, ◌<◌, inl, inr, ⊎_elim, Bool, true, false, [], ◌∷◌, ℤ, pos, negsuc, ◌+ℤ◌, refl, sym, ap, ap₂, ◌∙◌, arith, true≢false}
+use Rattle.std.proofs.Common.{◌≡◌, ◌⊎◌, ℕ, zero, suc, ◌+◌, ◌%◌, ◌<◌, inl, inr, ⊎_elim, Bool, true, false, [], ◌∷◌, ℤ, pos, negsuc, ◌+ℤ◌, refl, sym, ap, ap₂, ◌∙◌, arith, true≢false}
 use Rattle.word_image.proofs.Common.{cases_Bool, cases_eq, ints, LocalRule, IsRule, local_map, IsSurjective, word_by_test}
 use Rattle.garden_laws.proofs.Examples.{IsPairList-tests}
 use Rattle.garden_laws.proofs.ReachedPairs.{IsSurjective-pair_list}

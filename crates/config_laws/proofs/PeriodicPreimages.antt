@@ -1,5 +1,5 @@
 -- A rule is surjective exactly if all preimages of periodic configurations are periodic: else more configurations than nodes have one image.
-use Rattle.std.proofs.Common.{◌≡◌, ℕ, zero, suc, ◌+◌, ◌-◌, ◌*◌, ◌<◌, ◌≤◌, ◌↔◌, ⊎_elim, List, length, ℤ, pos, ◌+ℤ◌, ◌-ℤ◌, unsigned_abs, refl, sym, ap, ◌∙◌, subst, arith, mul_comm, add-mul, ◌<ℤ◌, ◌≤ℤ◌}
+use Rattle.std.proofs.Common.{◌≡◌, ℕ, zero, suc, ◌+◌, ◌-◌, ◌*◌, ◌≤◌, ◌↔◌, ⊎_elim, List, length, ℤ, pos, ◌+ℤ◌, ◌-ℤ◌, unsigned_abs, refl, sym, ap, ◌∙◌, subst, arith, mul_comm, add-mul, ◌<ℤ◌, ◌≤ℤ◌}
 use Rattle.std.proofs.Math.Path.{fun_ext}
 use Rattle.word_image.proofs.Common.{cases_eq, ints, by_lt_z, mul-le, LocalRule, IsRule, node_count, IsSurjective, IsErasable, ring_letter}
 use Rattle.garden_laws.proofs.Exchange.{IsErasable-long}

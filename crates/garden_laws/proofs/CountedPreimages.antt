@@ -205,9 +205,12 @@ IsErasable-many {r} rule w more =
     let hj : j < count_of r w = omega (arith, most) in
     let p = c.preimage i hi in
     let q = c.preimage j hj in
-    let nodes = same_from_place _ _ _ _ (node_count r) (back i hi) (back j hj) same in
-    (c.at i, c.at j, IsErasable-nodes (record { first = p.word; second = q.word; first_long = p.long; second_long = q.long; one_image = p.maps ∙ sym q.maps })
-    (λ e. let one = (same_preimage r w w i j hi hj e).1 in omega (arith, less)) nodes.0 nodes.1)
+    let nodes = same_from_place _ _ _ _ (node_count r) (back i hi) (back j hj) same in (
+      c.at i,
+      c.at j,
+      IsErasable-nodes (record { first = p.word; second = q.word; first_long = p.long; second_long = q.long; one_image = p.maps ∙ sym q.maps })
+          (λ e. let one = (same_preimage r w w i j hi hj e).1 in omega (arith, less)) nodes.0 nodes.1,
+    )
 
 -- a word of l letters has as many preimages as words of l + m - 1 letters have an image of its value
 count_of-value : {r : LocalRule} → IsRule r → (l c : ℕ) → c < r.states ^ l

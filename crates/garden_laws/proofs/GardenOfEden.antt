@@ -1,5 +1,5 @@
 -- The Garden of Eden theorem: a rule is surjective exactly where no two words are an erasable pair (Moore 1962, Myhill 1963).
-use Rattle.std.proofs.Common.{◌≡◌, ◌≢◌, ℕ, zero, suc, ◌+◌, ◌-◌, ◌*◌, ◌^◌, ◌<◌, ◌≤◌, ◌↔◌, List, [], ◌++◌, length, take, drop, refl, sym, ap, ap₂, ◌∙◌, ⊎_elim, arith, append_assoc, length-append, take_at, drop_at}
+use Rattle.std.proofs.Common.{◌≡◌, ◌≢◌, ℕ, zero, suc, ◌-◌, ◌*◌, ◌^◌, ◌<◌, ◌≤◌, ◌↔◌, List, [], ◌++◌, length, take, drop, refl, sym, ap, ◌∙◌, ⊎_elim, arith, append_assoc, length-append, take_at, drop_at}
 use Rattle.word_image.proofs.Common.{cases_lt, mul-le, All-nil, All-append, LocalRule, IsRule, IsWord, value, word_of, node_count, image, IsPreimage, IsSurjective, IsErasable, value-below, word_of-value, IsWord-image, length-image, node_count_pos, some_below}
 use Rattle.garden_laws.proofs.Injections.{less_or_not, injective-le}
 use Rattle.garden_laws.proofs.Exchange.{IsErasable-long, image-exchange}
