@@ -44,10 +44,9 @@ pub record IsBranch (r : LocalRule) (u v z : List ℕ) : Type 0 where
 
 -- if there is a branch, every word has a preimage
 pub preimage_behind : {r : LocalRule} {u v z : List ℕ} → IsBranch r u v z → (w : List ℕ) → IsWord r.states w → (x : List ℕ) × IsPreimage r w x
-preimage_behind {r} {u} {v} {z} b w hw = behind (z ++ (b.leads w hw).0) (b.leads w hw).1
-  where
-    behind : (x : List ℕ) → IsPreimage r (v ++ w) x → (y : List ℕ) × IsPreimage r w y
-    behind x p = (
+preimage_behind {r} {u} {v} {z} b w hw =
+    let x : List ℕ = z ++ (b.leads w hw).0 in
+    let p : IsPreimage r (v ++ w) x = (b.leads w hw).1 in (
       drop (length v) x,
       record {
         word = All-drop (λ a. a < r.states) (length v) x p.word;
@@ -157,16 +156,14 @@ branches {r} {u} {v} {x} {y} rule hu hv fork (suc n) = more_branches rule hu hv 
 
 -- under a surjective rule there is no fork: more branches than nodes would be too many preimages of one word
 pub no_fork : {r : LocalRule} {u v x y : List ℕ} → IsRule r → IsSurjective r → IsWord r.states u → IsWord r.states v → ¬ IsFork r u v x y
-no_fork {r} rule every hu hv fork = too_many (branches rule hu hv fork (node_count r))
-  where
-    too_many : ¬ Branches r (suc (node_count r))
-    too_many b =
-        let w : List ℕ = b.v ++ [] in
-        let c = counted r w in
-        let more = λ (i : ℕ). b.leads i [] (All-nil (λ a. a < r.states)) in
-        let z : ℕ → List ℕ = λ i. b.at i ++ (more i).0 in
-        let is : (i : ℕ) → IsPreimage r w (z i) = λ i. (more i).1 in
-        let many = injective-le (suc (node_count r)) (count_of r w) (λ i. c.place (z i)) (λ i l. (c.back (z i) (is i)).0) (λ i j less last same.
-        let differ = Apart-append (b.at i) (b.at j) (more i).0 (more j).0 (b.apart i j less last) in
-        differ.3 (ap (λ x. get_or x differ.0 0) (sym (c.back (z i) (is i)).1 ∙ ap c.at same ∙ (c.back (z j) (is j)).1))) in
-        omega (arith, many, count_of-surjective rule every w (subst (IsWord r.states) (is 0).maps (IsWord-image rule (z 0))))
+no_fork {r} rule every hu hv fork =
+    let b : Branches r (suc (node_count r)) = branches rule hu hv fork (node_count r) in
+    let w : List ℕ = b.v ++ [] in
+    let c = counted r w in
+    let more = λ (i : ℕ). b.leads i [] (All-nil (λ a. a < r.states)) in
+    let z : ℕ → List ℕ = λ i. b.at i ++ (more i).0 in
+    let is : (i : ℕ) → IsPreimage r w (z i) = λ i. (more i).1 in
+    let many = injective-le (suc (node_count r)) (count_of r w) (λ i. c.place (z i)) (λ i l. (c.back (z i) (is i)).0) (λ i j less last same.
+    let differ = Apart-append (b.at i) (b.at j) (more i).0 (more j).0 (b.apart i j less last) in
+    differ.3 (ap (λ x. get_or x differ.0 0) (sym (c.back (z i) (is i)).1 ∙ ap c.at same ∙ (c.back (z j) (is j)).1))) in
+    omega (arith, many, count_of-surjective rule every w (subst (IsWord r.states) (is 0).maps (IsWord-image rule (z 0))))
