@@ -1,6 +1,6 @@
 -- Under a surjective rule each configuration that repeats far out is the image of one that does: a preimage of many periods passes one node twice, and goes round between for ever.
-use Rattle.std.proofs.Common.{◌≡◌, ℕ, ◌+◌, ◌*◌, ◌<◌, ◌↔◌, List, length, ℤ, pos, ◌+ℤ◌, ◌-ℤ◌, neg_ℤ, unsigned_abs, refl, sym, ap, ◌∙◌, arith, ◌<ℤ◌, ◌≤ℤ◌}
-use Rattle.word_image.proofs.Common.{ints, by_lt_z, LocalRule, IsRule, node_count, mirrored, IsPreimage, IsSurjective, IsRule-mirrored, some_letter}
+use Rattle.std.proofs.Common.{◌≡◌, ℕ, ◌+◌, ◌*◌, ◌<◌, ◌↔◌, length, ℤ, pos, ◌+ℤ◌, ◌-ℤ◌, neg_ℤ, unsigned_abs, refl, sym, ap, ◌∙◌, arith, ◌<ℤ◌, ◌≤ℤ◌}
+use Rattle.word_image.proofs.Common.{ints, by_lt_z, LocalRule, IsRule, node_count, mirrored, IsSurjective, IsRule-mirrored, some_letter}
 use Rattle.tail_config.proofs.Common.{RepeatsRight, Config, IsConfig, run, image_of, zeros}
 use Rattle.config_laws.specs.Sums.{IsFinite}
 use Rattle.config_laws.specs.Repeating.{RepeatsFarLeft, RepeatsFarRight, HasTails, IsOntoTails}
