@@ -6,7 +6,7 @@ use Rattle.search_laws.proofs.Common.{uncode}
 use Rattle.tail_config.proofs.Common.{TailConfig, IsTail, IsRightClosing, IsLeastRightSplit, TailOver}
 use Rattle.tail_config.specs.TailTexts.{IsShortTail}
 use Rattle.tail_laws.proofs.Common.{tail_of, IsLeastRightSplit-below, no_normal_split}
-use Rattle.tail_laws.proofs.NormalSplits.{IsRightClosing-no_normal}
+use Rattle.tail_laws.proofs.Certainty.{IsRightClosing-no_normal}
 use Rattle.closing_test.specs.declared.walks.Walks.{Walks}
 use Rattle.closing_test.specs.Walks.{middle_pairs, period_pairs, split_by, IsLeastSoFar}
 use Rattle.closing_test.specs.Closing.{IsShortOver, IsLeastSplitOf}

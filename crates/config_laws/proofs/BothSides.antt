@@ -3,7 +3,7 @@ use Rattle.std.proofs.Common.{◌≡◌, ℕ, ◌+◌, ◌-◌, ◌<◌, ℤ, po
 use Rattle.std.proofs.Math.IntN.{neg_ℤ-neg_ℤ}
 use Rattle.std.proofs.Math.Path.{fun_ext}
 use Rattle.word_image.proofs.Common.{ints, by_lt_z, LocalRule, IsRule, mirrored, IsRightAhead, IsLeftAhead, IsSurjective, IsRule-mirrored, mirrored-mirrored}
-use Rattle.tail_config.proofs.Common.{IsRightClosing, IsLeftClosing, IsOpen, Config, IsConfig, image_of, AgreeWithin, AgreeFarLeft, AgreeFarRight, image_of-window}
+use Rattle.tail_config.proofs.Common.{IsRightClosing, IsLeftClosing, IsOpen, Config, IsConfig, image_of, image_of-window}
 use Rattle.tail_laws.proofs.Common.{IsRightClosing-window, IsLeftClosing-window}
 use Rattle.garden_laws.proofs.Preinjective.{IsSurjective-right_closing}
 use Rattle.config_laws.specs.Maps.{IsNear, IsEvenlyOpenMap, IsOntoMap, IsRightContinuingMap, IsLeftContinuingMap}
@@ -60,17 +60,14 @@ pub between : {r : LocalRule} {n l : ℕ} {x y : Config} → IsRule r → IsRigh
     → ((j : ℤ) → p <ℤ (j +ℤ pos (enough r l)) → j <ℤ (q +ℤ pos (enough r n)) → image_of r x j ≡ y j) → Between r x y p q
 between {r} {n} {l} {x} {y} rule right left hx hy p q order agree =
     let g : GoesOn r x y q = goes_on rule right hx hy q (λ a h. agree (q +ℤ pos a) (omega (arith, ints, left.some)) (omega (arith, ints))) in
-    closed g (goes_back rule left g.config hy p (λ a h. far g (p -ℤ pos a) (omega (arith, ints))))
-  where
-    far : (g : GoesOn r x y q) (j : ℤ) → p <ℤ (j +ℤ pos (enough r l)) → image_of r g.z j ≡ y j
-    far g j low = by_lt_z j q (λ h. image_of-before g j h ∙ agree j low (omega (arith, ints))) (g.after j)
-
-    closed : (g : GoesOn r x y q) → GoesBack r g.z y p → Between r x y p q
-    closed g b = record {
+    let far : (j : ℤ) → p <ℤ (j +ℤ pos (enough r l)) → image_of r g.z j ≡ y j = λ j low.
+    by_lt_z j q (λ h. image_of-before g j h ∙ agree j low (omega (arith, ints))) (g.after j) in
+    let b : GoesBack r g.z y p = goes_back rule left g.config hy p (λ a h. far (p -ℤ pos a) (omega (arith, ints))) in
+    record {
       z = b.z;
       config = b.config;
       inside = λ j low high. b.after j low ∙ g.before j high;
-      image = image_of-back rule b (λ j h. far g j (omega (arith, ints)));
+      image = image_of-back rule b (λ j h. far j (omega (arith, ints)));
     }
 
 -- up to where the image has to agree for two look-aheads
@@ -80,10 +77,9 @@ most r n k l = n + unsigned_abs r.offset + r.width + enough r k + enough r l
 -- under two look-aheads what is near the image of x is the image of what is near x
 IsNear-ahead : {r : LocalRule} {k l : ℕ} {x : Config} → IsRule r → IsRightAhead r k → IsLeftAhead r l → IsConfig r.states x → (n : ℕ) → IsNear r x n (most r n k l)
 IsNear-ahead {r} {k} {l} {x} rule right left hx n y hy agree =
-    near (between rule right left hx hy (pos (enough r l) -ℤ pos (most r n k l)) (pos (most r n k l) -ℤ pos (enough r k)) (omega (arith, ints)) (λ j low high. agree j (omega (arith, ints)) (omega (arith, ints))))
-  where
-    near : Between r x y (pos (enough r l) -ℤ pos (most r n k l)) (pos (most r n k l) -ℤ pos (enough r k)) → (z : Config) × IsConfig r.states z × AgreeWithin n x z × (image_of r z ≡ y)
-    near b = (b.z, b.config, (λ j low high. sym (b.inside j (omega (arith, ints)) (omega (arith, ints)))), b.image)
+    let far : ℤ = pos (most r n k l) in
+    let b = between rule right left hx hy (pos (enough r l) -ℤ far) (far -ℤ pos (enough r k)) (omega (arith, ints)) (λ j low high. agree j (omega (arith, ints)) (omega (arith, ints))) in
+    (b.z, b.config, (λ j low high. sym (b.inside j (omega (arith, ints)) (omega (arith, ints)))), b.image)
 
 -- a rule that is closing on both sides is open, evenly
 pub IsEvenlyOpenMap-closing : {r : LocalRule} → IsRule r → IsOpen r → IsEvenlyOpenMap r
@@ -94,13 +90,11 @@ IsEvenlyOpenMap-closing {r} rule closing n =
 
 -- a surjective rule with two look-aheads takes some configuration to each
 IsOntoMap-ahead : {r : LocalRule} {k l : ℕ} → IsRule r → IsSurjective r → IsRightAhead r k → IsLeftAhead r l → IsOntoMap r
-IsOntoMap-ahead {r} {k} {l} rule every right left y hy = found (matches rule every hy (pos 0) (enough r l + enough r k))
-  where
-    found : Matches r y (pos 0) (enough r l + enough r k) → (z : Config) × IsConfig r.states z × (image_of r z ≡ y)
-    found m =
-        let p : ℤ = pos (enough r l) in
-        let b : Between r m.x y p p = between rule right left m.config hy p p (omega (arith, ints)) (λ j low high. matches-at m j (omega (arith, ints)) (omega (arith, ints))) in
-        (b.z, b.config, b.image)
+IsOntoMap-ahead {r} {k} {l} rule every right left y hy =
+    let m : Matches r y (pos 0) (enough r l + enough r k) = matches rule every hy (pos 0) (enough r l + enough r k) in
+    let p : ℤ = pos (enough r l) in
+    let b = between rule right left m.config hy p p (omega (arith, ints)) (λ j low high. matches-at m j (omega (arith, ints)) (omega (arith, ints))) in
+    (b.z, b.config, b.image)
 
 -- a rule that is closing on both sides takes some configuration to each
 pub IsOntoMap-closing : {r : LocalRule} → IsRule r → IsOpen r → IsOntoMap r
@@ -111,10 +105,8 @@ IsOntoMap-closing rule closing =
 pub IsRightContinuingMap-closing : {r : LocalRule} → IsRule r → IsRightClosing r → IsRightContinuingMap r
 IsRightContinuingMap-closing {r} rule closing x y hx hy (p, left) =
     let ahead = (IsRightClosing-window rule).0 closing in
-    found (p -ℤ pos (enough r ahead.0)) (omega (arith, ints)) (goes_on rule ahead.1 hx hy (p -ℤ pos (enough r ahead.0)) (λ a l. left (p -ℤ pos (enough r ahead.0) +ℤ pos a) (omega (arith, ints))))
-  where
-    found : (i : ℤ) → i ≤ℤ p → GoesOn r x y i → (z : Config) × IsConfig r.states z × AgreeFarLeft x z × (image_of r z ≡ y)
-    found i order g = (
+    let i : ℤ = p -ℤ pos (enough r ahead.0) in
+    let g = goes_on rule ahead.1 hx hy i (λ a l. left (i +ℤ pos a) (omega (arith, ints))) in (
       g.z,
       g.config,
       (i +ℤ r.offset, λ j l. sym (g.before j (omega (arith, ints)))),
@@ -125,7 +117,6 @@ IsRightContinuingMap-closing {r} rule closing x y hx hy (p, left) =
 pub IsLeftContinuingMap-closing : {r : LocalRule} → IsRule r → IsLeftClosing r → IsLeftContinuingMap r
 IsLeftContinuingMap-closing {r} rule closing x y hx hy (p, right) =
     let ahead = (IsLeftClosing-window rule).0 closing in
-    found (p +ℤ pos (enough r ahead.0)) (omega (arith, ints)) (goes_back rule ahead.1 hx hy (p +ℤ pos (enough r ahead.0)) (λ a l. right (p +ℤ pos (enough r ahead.0) -ℤ pos a) (omega (arith, ints))))
-  where
-    found : (i : ℤ) → p ≤ℤ i → GoesBack r x y i → (z : Config) × IsConfig r.states z × AgreeFarRight x z × (image_of r z ≡ y)
-    found i order g = (g.z, g.config, (i +ℤ r.offset, λ j l. sym (g.after j l)), image_of-back rule g (λ j l. right j (omega (arith, ints))))
+    let i : ℤ = p +ℤ pos (enough r ahead.0) in
+    let g = goes_back rule ahead.1 hx hy i (λ a l. right (i -ℤ pos a) (omega (arith, ints))) in
+    (g.z, g.config, (i +ℤ r.offset, λ j l. sym (g.after j l)), image_of-back rule g (λ j l. right j (omega (arith, ints))))

@@ -1,9 +1,10 @@
 -- An open rule is closing: under a surjective one, two configurations that are equal to the left, share an image and differ would lead from one node along more and more ways that read the same.
 use Rattle.std.proofs.Common.{◌≡◌, ◌≢◌, ℕ, zero, suc, ◌+◌, ◌-◌, ◌<◌, ◌≤◌, List, [], ◌++◌, length, take, drop, get_or, refl, sym, ap, ap₂, ◌∙◌, subst, arith, length-append, length-drop, take-append-drop, take_at, drop_at, append_assoc, append-nil, get_or-append-add, length-take-le}
-use Rattle.word_image.proofs.Common.{take-append-le, get_or_append_left, All-nil, All-append, All-drop, LocalRule, IsRule, IsWord, value, node_count, image, IsPreimage, IsSurjective, IsErasable, value-injective, IsWord-image, length-image, image-drop, twice_below}
+use Rattle.word_image.proofs.Common.{take-append-le, get_or_append_left, All-nil, All-append, All-drop, LocalRule, IsRule, IsWord, node_count, image, IsPreimage, IsSurjective, IsWord-image, length-image, image-drop}
 use Rattle.pair_laws.proofs.Common.{image-cut, image-join}
-use Rattle.garden_laws.proofs.Blocks.{last-below}
-use Rattle.garden_laws.proofs.GardenOfEden.{garden_of_eden}
+use Rattle.garden_laws.proofs.Injections.{injective-le}
+use Rattle.garden_laws.proofs.CountedPreimages.{counted, count_of}
+use Rattle.garden_laws.proofs.Balance.{count_of-surjective}
 
 -- two words differ at a place of both
 abbrev pub Apart : List ℕ → List ℕ → Type 0
@@ -31,18 +32,21 @@ Apart-behind s x y (i, first, second, other) = (
   λ e. other (sym (get_or-append-add s x i 0) ∙ e ∙ get_or-append-add s y i 0),
 )
 
--- a word that begins with the m - 1 letters u, and that can be made longer so that its image is v, and then whatever is wanted
+-- the word z can be made longer so that its image is v, and then whatever is wanted
+abbrev Leads : LocalRule → List ℕ → List ℕ → Type 0
+Leads r v z = (w : List ℕ) → IsWord r.states w → (s : List ℕ) × IsPreimage r (v ++ w) (z ++ s)
+
+-- a word that begins with the m - 1 letters u, and that can be made longer so
 pub record IsBranch (r : LocalRule) (u v z : List ℕ) : Type 0 where
   pub long : r.width - 1 ≤ length z
   pub front : take (r.width - 1) z ≡ u
-  pub leads : (w : List ℕ) → IsWord r.states w → (s : List ℕ) × IsPreimage r (v ++ w) (z ++ s)
+  pub leads : Leads r v z
 
 -- if there is a branch, every word has a preimage
 pub preimage_behind : {r : LocalRule} {u v z : List ℕ} → IsBranch r u v z → (w : List ℕ) → IsWord r.states w → (x : List ℕ) × IsPreimage r w x
-preimage_behind {r} {u} {v} {z} b w hw = behind (z ++ (b.leads w hw).0) (b.leads w hw).1
-  where
-    behind : (x : List ℕ) → IsPreimage r (v ++ w) x → (y : List ℕ) × IsPreimage r w y
-    behind x p = (
+preimage_behind {r} {u} {v} {z} b w hw =
+    let x : List ℕ = z ++ (b.leads w hw).0 in
+    let p : IsPreimage r (v ++ w) x = (b.leads w hw).1 in (
       drop (length v) x,
       record {
         word = All-drop (λ a. a < r.states) (length v) x p.word;
@@ -57,60 +61,44 @@ pub record IsFork (r : LocalRule) (u v x y : List ℕ) : Type 0 where
   pub second : IsBranch r u v y
   pub apart : Apart x y
 
--- branches, of which the first n differ, each from each other
-record Branches (r : LocalRule) (u : List ℕ) (n : ℕ) : Type 0 where
+-- words that can be made longer so, of which the first n differ, each from each other
+record Branches (r : LocalRule) (n : ℕ) : Type 0 where
   v : List ℕ
   at : ℕ → List ℕ
-  branch : (i : ℕ) → IsBranch r u v (at i)
+  leads : (i : ℕ) → Leads r v (at i)
   apart : (i j : ℕ) → i < j → j < n → Apart (at i) (at j)
 
--- the first m - 1 letters of a longer word
-front-append : (d : ℕ) (u z s : List ℕ) → d ≤ length z → take d z ≡ u → take d (z ++ s) ≡ u
-front-append d u z s long e = take-append-le d z s long ∙ e
-
--- behind a word that ends with u a branch is a branch: its image is that of the word, and then its own
-IsBranch-behind : {r : LocalRule} {u v x : List ℕ} → IsRule r → (z e : List ℕ) → (s : List ℕ) → e ≡ z ++ s → r.width - 1 ≤ length z → take (r.width - 1) z ≡ u → IsWord r.states (e ++ u)
-    → IsBranch r u v x → IsBranch r u (image r (e ++ u) ++ v) (e ++ x)
-IsBranch-behind {r} {u} {v} {x} rule z e s is long front word b =
+-- behind a word that is followed by u a branch can be made longer: its image is that of the word, and then its own
+Leads-behind : {r : LocalRule} {u v x : List ℕ} → IsRule r → (e : List ℕ) → IsWord r.states (e ++ u) → IsBranch r u v x → Leads r (image r (e ++ u) ++ v) (e ++ x)
+Leads-behind {r} {u} {v} {x} rule e word b w hw =
     let d : ℕ = r.width - 1 in
     let k : ℕ = r.states in
     let g : List ℕ = e ++ u in
-    let most : d ≤ length e = omega (arith, length-append z s, ap length is) in
-    let node : length u ≡ d = ap length (sym front) ∙ length-take-le d z long in
-    record {
-      long = omega (arith, length-append e x);
-      front = front-append d u e x most (ap (take d) is ∙ front-append d u z s long front);
-      leads = λ w hw.
-          let more = b.leads w hw in
-          let t : List ℕ = more.0 in
-          let p : IsPreimage r (v ++ w) (x ++ t) = more.1 in
-          let y : List ℕ = x ++ t in
-          let head : take d y ≡ u = front-append d u x t b.long b.front in
-          let parts : u ++ drop d y ≡ y = ap (λ a. a ++ drop d y) (sym head) ∙ take-append-drop d y in
-          let whole : (e ++ x) ++ t ≡ g ++ drop d y = append_assoc e x t ∙ ap (λ a. e ++ a) (sym parts) ∙ sym (append_assoc e u (drop d y)) in
-          let long_g : length g ≡ length e + d = length-append e u ∙ ap (λ a. length e + a) node in
-          let maps : image r (g ++ drop d y) ≡ (image r g ++ v) ++ w =
-          image-join rule (length e) g y long_g (drop_at e u (length e) refl ∙ sym head)
-          ∙ ap (λ a. image r g ++ a) p.maps ∙ sym (append_assoc (image r g) v w) in (
-            t,
-            record {
-              word = subst (IsWord k) (sym whole) (All-append (λ a. a < k) g (drop d y) word (All-drop (λ a. a < k) d y p.word));
-              long = omega (arith, length-append (e ++ x) t, length-append e x, length-append x t, p.long, length-append v w, length-append (image r g ++ v) w, length-append (image r g) v, length-image r g, long_g);
-              maps = ap (image r) whole ∙ maps;
-            },
-          );
-    }
+    let more = b.leads w hw in
+    let t : List ℕ = more.0 in
+    let p : IsPreimage r (v ++ w) (x ++ t) = more.1 in
+    let y : List ℕ = x ++ t in
+    let head : take d y ≡ u = take-append-le d x t b.long ∙ b.front in
+    let parts : u ++ drop d y ≡ y = ap (λ a. a ++ drop d y) (sym head) ∙ take-append-drop d y in
+    let whole : (e ++ x) ++ t ≡ g ++ drop d y = append_assoc e x t ∙ ap (λ a. e ++ a) (sym parts) ∙ sym (append_assoc e u (drop d y)) in
+    let long : length g ≡ length e + d = length-append e u ∙ ap (λ a. length e + a) (ap length (sym b.front) ∙ length-take-le d x b.long) in
+    let maps : image r (g ++ drop d y) ≡ (image r g ++ v) ++ w =
+    image-join rule (length e) g y long (drop_at e u (length e) refl ∙ sym head)
+    ∙ ap (λ a. image r g ++ a) p.maps ∙ sym (append_assoc (image r g) v w) in (
+      t,
+      record {
+        word = subst (IsWord k) (sym whole) (All-append (λ a. a < k) g (drop d y) word (All-drop (λ a. a < k) d y p.word));
+        long = omega (arith, length-append (e ++ x) t, length-append e x, length-append x t, p.long, length-append v w, length-append (image r g ++ v) w, length-append (image r g) v, length-image r g, long);
+        maps = ap (image r) whole ∙ maps;
+      },
+    )
 
--- a branch goes on being one if more of the image is known
-IsBranch-more : {r : LocalRule} {u v z : List ℕ} (w v' : List ℕ) → v' ≡ v ++ w → IsWord r.states w → IsBranch r u v z → IsBranch r u v' z
-IsBranch-more {r} {u} {v} {z} w v' is hw b = record {
-  long = b.long;
-  front = b.front;
-  leads = λ a ha.
-      let more = b.leads (w ++ a) (All-append (λ c. c < r.states) w a hw ha) in
-      let same : v ++ (w ++ a) ≡ v' ++ a = sym (append_assoc v w a) ∙ ap (λ c. c ++ a) (sym is) in
-      (more.0, subst (λ c. IsPreimage r c (z ++ more.0)) same more.1);
-}
+-- what can be made longer so still can if more of the image is known
+Leads-more : {r : LocalRule} (v z w v' : List ℕ) → v' ≡ v ++ w → IsWord r.states w → Leads r v z → Leads r v' z
+Leads-more {r} v z w v' is hw leads a ha =
+    let more = leads (w ++ a) (All-append (λ c. c < r.states) w a hw ha) in
+    let same : v ++ (w ++ a) ≡ v' ++ a = sym (append_assoc v w a) ∙ ap (λ c. c ++ a) (sym is) in
+    (more.0, subst (λ c. IsPreimage r c (z ++ more.0)) same more.1)
 
 -- x and y in the place of the first word
 abbrev parted : List ℕ → List ℕ → (ℕ → List ℕ) → ℕ → List ℕ
@@ -119,14 +107,13 @@ parted x y at (suc zero) = y
 parted x y at (suc (suc i)) = at (suc i)
 
 -- a fork makes one branch more
-more_branches : {r : LocalRule} {u v x y : List ℕ} {n : ℕ} → IsRule r → IsWord r.states u → IsWord r.states v → IsFork r u v x y → Branches r u n → Branches r u (suc n)
+more_branches : {r : LocalRule} {u v x y : List ℕ} {n : ℕ} → IsRule r → IsWord r.states u → IsWord r.states v → IsFork r u v x y → Branches r n → Branches r (suc n)
 more_branches {r} {u} {v} {x} {y} {n} rule hu hv fork b =
     let d : ℕ = r.width - 1 in
     let k : ℕ = r.states in
     let Below : ℕ → Type 0 = λ a. a < k in
     let z : List ℕ = b.at 0 in
-    let first : IsBranch r u b.v z = b.branch 0 in
-    let found = first.leads [] (All-nil Below) in
+    let found = b.leads 0 [] (All-nil Below) in
     let s : List ℕ = found.0 in
     let p : IsPreimage r (b.v ++ []) (z ++ s) = found.1 in
     let e : List ℕ = z ++ s in
@@ -140,14 +127,13 @@ more_branches {r} {u} {v} {x} {y} {n} rule hu hv fork b =
     let all : List ℕ = image r g ++ v in
     let whole : all ≡ b.v ++ (rest ++ v) = ap (λ a. a ++ v) more ∙ append_assoc b.v rest v in
     let on : IsWord k (rest ++ v) = All-append Below rest v (All-drop Below (length b.v) (image r g) (IsWord-image rule g)) hv in
-    let behind : (a : List ℕ) → IsBranch r u v a → IsBranch r u all (e ++ a) = λ a h. IsBranch-behind rule z e s refl first.long first.front word h in
     record {
       v = all;
       at = parted (e ++ x) (e ++ y) b.at;
-      branch = λ i. elim i as (λ j. IsBranch r u all (parted (e ++ x) (e ++ y) b.at j)) [
-        | zero ↦ behind x fork.first
-        | suc zero ↦ behind y fork.second
-        | suc (suc j) ↦ IsBranch-more (rest ++ v) all whole on (b.branch (suc j))
+      leads = λ i. elim i as (λ j. Leads r all (parted (e ++ x) (e ++ y) b.at j)) [
+        | zero ↦ Leads-behind rule e word fork.first
+        | suc zero ↦ Leads-behind rule e word fork.second
+        | suc (suc j) ↦ Leads-more b.v (b.at (suc j)) (rest ++ v) all whole on (b.leads (suc j))
       ];
       apart = apart s;
     }
@@ -164,49 +150,20 @@ more_branches {r} {u} {v} {x} {y} {n} rule hu hv fork b =
     apart s (suc (suc i)) (suc (suc j)) l h = b.apart (suc i) (suc j) (omega arith) (omega arith)
 
 -- a fork makes as many branches as are wanted
-branches : {r : LocalRule} {u v x y : List ℕ} → IsRule r → IsWord r.states u → IsWord r.states v → IsFork r u v x y → (n : ℕ) → Branches r u (suc n)
-branches {r} {u} {v} {x} {y} rule hu hv fork zero = record { v = v; at = λ i. x; branch = λ i. fork.first; apart = λ i j l h. absurd (omega arith) }
+branches : {r : LocalRule} {u v x y : List ℕ} → IsRule r → IsWord r.states u → IsWord r.states v → IsFork r u v x y → (n : ℕ) → Branches r (suc n)
+branches {r} {u} {v} {x} {y} rule hu hv fork zero = record { v = v; at = λ i. x; leads = λ i. fork.first.leads; apart = λ i j l h. absurd (omega arith) }
 branches {r} {u} {v} {x} {y} rule hu hv fork (suc n) = more_branches rule hu hv fork (branches rule hu hv fork n)
 
--- the branch itself, made longer by what reads nothing more
-abbrev whole : {r : LocalRule} {u v z : List ℕ} → IsBranch r u v z → List ℕ
-whole {r} {z = z} b = z ++ (b.leads [] (All-nil (λ a. a < r.states))).0
-
--- the branch, made longer by what reads nothing more, is a preimage of v
-IsPreimage-whole : {r : LocalRule} {u v z : List ℕ} → (b : IsBranch r u v z) → IsPreimage r (v ++ []) (whole b)
-IsPreimage-whole {r} b = (b.leads [] (All-nil (λ a. a < r.states))).1
-
--- the number of the last node of a branch
-abbrev last : {r : LocalRule} {u v z : List ℕ} → IsBranch r u v z → ℕ
-last {r} {v = v} b = value r.states (drop (length (v ++ [])) (whole b))
-
--- two branches that differ and end at one node are an erasable pair
-IsErasable-branches : {r : LocalRule} {u v x y : List ℕ} → (b : IsBranch r u v x) (c : IsBranch r u v y) → Apart x y → last b ≡ last c → IsErasable r (whole b) (whole c)
-IsErasable-branches {r} {u} {v} {x} {y} b c apart e = ends (IsPreimage-whole b) (IsPreimage-whole c) (Apart-append x y _ _ apart) (front-append (r.width - 1) u x _ b.long b.front) (front-append (r.width - 1) u y _ c.long c.front) e
-  where
-    ends : {s t : List ℕ} → IsPreimage r (v ++ []) s → IsPreimage r (v ++ []) t → Apart s t → take (r.width - 1) s ≡ u → take (r.width - 1) t ≡ u
-        → value r.states (drop (length (v ++ [])) s) ≡ value r.states (drop (length (v ++ [])) t) → IsErasable r s t
-    ends {s} {t} p q differ first second same =
-        let n : ℕ = length (v ++ []) in
-        let Below : ℕ → Type 0 = λ a. a < r.states in
-        let place : (z : List ℕ) → IsPreimage r (v ++ []) z → length z - (r.width - 1) ≡ n = λ z h. omega (arith, h.long) in
-        let back : drop n s ≡ drop n t =
-        value-injective r.states (drop n s) (drop n t) (All-drop Below n s p.word) (All-drop Below n t q.word) (omega (arith, length-drop n s, length-drop n t, p.long, q.long)) same in
-        record {
-          first = p.word;
-          second = q.word;
-          one_length = p.long ∙ sym q.long;
-          different = λ equal. differ.3 (ap (λ w. get_or w differ.0 0) equal);
-          one_image = p.maps ∙ sym q.maps;
-          same_front = first ∙ sym second;
-          same_back = ap (λ h. drop h s) (place s p) ∙ back ∙ ap (λ h. drop h t) (sym (place t q));
-        }
-
--- under a surjective rule there is no fork: of more branches than nodes two would end at one node
+-- under a surjective rule there is no fork: more branches than nodes would be too many preimages of one word
 pub no_fork : {r : LocalRule} {u v x y : List ℕ} → IsRule r → IsSurjective r → IsWord r.states u → IsWord r.states v → ¬ IsFork r u v x y
-no_fork {r} {u} {v} {x} {y} rule every hu hv fork = too_many (branches rule hu hv fork (node_count r))
-  where
-    too_many : ¬ Branches r u (suc (node_count r))
-    too_many b =
-        let (i, j, order, below, same) = twice_below (node_count r) (λ i. last (b.branch i)) (λ i l. let p = IsPreimage-whole (b.branch i) in last-below r (length (b.v ++ [])) (whole (b.branch i)) p.word p.long) in
-        (garden_of_eden rule).0 every (whole (b.branch i)) (whole (b.branch j)) (IsErasable-branches (b.branch i) (b.branch j) (b.apart i j order (omega arith)) same)
+no_fork {r} rule every hu hv fork =
+    let b : Branches r (suc (node_count r)) = branches rule hu hv fork (node_count r) in
+    let w : List ℕ = b.v ++ [] in
+    let c = counted r w in
+    let more = λ (i : ℕ). b.leads i [] (All-nil (λ a. a < r.states)) in
+    let z : ℕ → List ℕ = λ i. b.at i ++ (more i).0 in
+    let is : (i : ℕ) → IsPreimage r w (z i) = λ i. (more i).1 in
+    let many = injective-le (suc (node_count r)) (count_of r w) (λ i. c.place (z i)) (λ i l. (c.back (z i) (is i)).0) (λ i j less last same.
+    let differ = Apart-append (b.at i) (b.at j) (more i).0 (more j).0 (b.apart i j less last) in
+    differ.3 (ap (λ x. get_or x differ.0 0) (sym (c.back (z i) (is i)).1 ∙ ap c.at same ∙ (c.back (z j) (is j)).1))) in
+    omega (arith, many, count_of-surjective rule every w (subst (IsWord r.states) (is 0).maps (IsWord-image rule (z 0))))

@@ -1,8 +1,9 @@
 -- Under a surjective rule no more configurations than there are nodes have one image (Hedlund 1969).
-use Rattle.std.proofs.Common.{◌≡◌, ◌≢◌, ℕ, zero, suc, ◌+◌, ◌-◌, ◌<◌, ◌≤◌, ◌↔◌, ⊎_elim, ℤ, pos, ◌+ℤ◌, ◌-ℤ◌, neg_ℤ, unsigned_abs, sym, ap, ◌∙◌, subst, arith}
-use Rattle.word_image.proofs.Common.{cases_eq, ints, LocalRule, IsRule, node_count, IsPreimage, IsSurjective, twice_below}
-use Rattle.garden_laws.specs.Preimages.{HasPreimages}
-use Rattle.garden_laws.proofs.Balance.{IsSurjective-IsBalanced}
+use Rattle.std.proofs.Common.{◌≡◌, ◌≢◌, ℕ, zero, suc, ◌+◌, ◌-◌, ◌<◌, ◌≤◌, ◌↔◌, ⊎_elim, List, ℤ, pos, ◌+ℤ◌, ◌-ℤ◌, neg_ℤ, unsigned_abs, sym, ap, ◌∙◌, subst, arith}
+use Rattle.word_image.proofs.Common.{cases_eq, ints, LocalRule, IsRule, node_count, IsPreimage, IsSurjective}
+use Rattle.garden_laws.proofs.Injections.{injective-le}
+use Rattle.garden_laws.proofs.CountedPreimages.{counted, count_of}
+use Rattle.garden_laws.proofs.Balance.{count_of-surjective}
 use Rattle.tail_config.proofs.Common.{Config, run, image_of, IsWord-run, same-run}
 use Rattle.config_laws.specs.Maps.{Differ, AreMany}
 use Rattle.config_laws.proofs.Images.{IsConfig-image, IsPreimage-run}
@@ -27,30 +28,21 @@ runs_differ x y d b near l long same =
     let here : s +ℤ pos (unsigned_abs (d.0 -ℤ s)) ≡ d.0 = omega (arith, ints) in
     d.1 (sym (ap x here) ∙ same-run x y s s l same (unsigned_abs (d.0 -ℤ s)) (omega (arith, ints)) ∙ ap y here)
 
--- the preimages of a word are numbered, so of more configurations than nodes two have one run
-two_alike : {r : LocalRule} {xs : ℕ → Config} → IsRule r → IsSurjective r → AreMany r (node_count r) xs → (s : ℤ) (l : ℕ)
-    → (i : ℕ) × (j : ℕ) × (i < j) × (j ≤ node_count r) × (run (xs i) s (l + (r.width - 1)) ≡ run (xs j) s (l + (r.width - 1)))
-two_alike {r} {xs} rule every many s l =
-    let (i, j, order, below, same) = twice_below (node_count r) (λ i. (number i).0) (λ i h. (number i).1) in
-    (i, j, order, below, sym (number i).2 ∙ ap (λ c. balanced.at c) same ∙ (number j).2)
-  where
-    e : ℤ
-    e = s -ℤ r.offset
-
-    balanced : HasPreimages r (run (image_of r (xs 0)) e l) (node_count r)
-    balanced = (IsSurjective-IsBalanced rule).0 every (run (image_of r (xs 0)) e l) (IsWord-run (IsConfig-image rule (xs 0)) e l)
-
-    number : (i : ℕ) → (c : ℕ) × (c < node_count r) × (balanced.at c ≡ run (xs i) s (l + (r.width - 1)))
-    number i = balanced.all (run (xs i) s (l + (r.width - 1)))
-        (subst (λ (x : Config). IsPreimage r (run x e l) (run (xs i) s (l + (r.width - 1)))) (many.one_image i) (IsPreimage-run rule (many.configs i) e s l (omega (arith, ints))))
-
--- under a surjective rule no more configurations than there are nodes have one image
+-- under a surjective rule no more configurations than there are nodes have one image: runs of them that reach far enough are different preimages of one word
 pub not_many : {r : LocalRule} → IsRule r → IsSurjective r → (xs : ℕ → Config) → ¬ AreMany r (node_count r) xs
 not_many {r} rule every xs many =
-    let (bound, apart) = common (λ j b. (i : ℕ) → i < j → RunsDiffer (xs i) (xs j) b) (suc (node_count r)) (λ j most.
+    let (b, apart) = common (λ j b. (i : ℕ) → i < j → RunsDiffer (xs i) (xs j) b) (suc (node_count r)) (λ j most.
     common (λ i b. RunsDiffer (xs i) (xs j) b) j (λ i less. let d = many.differ i j less (omega arith) in (unsigned_abs d.0, runs_differ (xs i) (xs j) d))) in
-    let (i, j, order, below, same) = two_alike rule every many (neg_ℤ (pos bound)) (bound + bound + 1) in
-    apart bound (omega arith) j (omega arith) i order (bound + bound + 1 + (r.width - 1)) (omega arith) same
+    let s : ℤ = neg_ℤ (pos b) in
+    let l : ℕ = b + b + 1 in
+    let w : List ℕ = run (image_of r (xs 0)) (s -ℤ r.offset) l in
+    let c = counted r w in
+    let z : ℕ → List ℕ = λ i. run (xs i) s (l + (r.width - 1)) in
+    let is : (i : ℕ) → IsPreimage r w (z i) = λ i.
+    subst (λ (x : Config). IsPreimage r (run x (s -ℤ r.offset) l) (z i)) (many.one_image i) (IsPreimage-run rule (many.configs i) (s -ℤ r.offset) s l (omega (arith, ints))) in
+    let more = injective-le (suc (node_count r)) (count_of r w) (λ i. c.place (z i)) (λ i h. (c.back (z i) (is i)).0) (λ i j less last same.
+    apart b (omega arith) j last i less (l + (r.width - 1)) (omega arith) (sym (c.back (z i) (is i)).1 ∙ ap c.at same ∙ (c.back (z j) (is j)).1)) in
+    omega (arith, more, count_of-surjective rule every w (IsWord-run (IsConfig-image rule (xs 0)) (s -ℤ r.offset) l))
 
 -- a rule is surjective exactly if no more configurations than nodes have one image
 pub IsSurjective-few_to_one : {r : LocalRule} → IsRule r → IsSurjective r ↔ ((xs : ℕ → Config) → ¬ AreMany r (node_count r) xs)

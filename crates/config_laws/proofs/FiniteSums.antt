@@ -1,132 +1,85 @@
 -- If finite configurations weigh as much as their images, or finitely many new letters change both alike, rings keep their sums.
-use Rattle.std.proofs.Common.{◌≡◌, ℕ, zero, suc, ◌+◌, ◌-◌, ◌<◌, ◌≤◌, ◌↔◌, ⊎_elim, List, [], ◌∷◌, ◌++◌, length, take, drop, sum_by, get_or, ℤ, pos, ◌+ℤ◌, ◌-ℤ◌, neg_ℤ, unsigned_abs, refl, sym, ap, ◌∙◌, arith, length-append, take-append-drop, ◌<ℤ◌, ◌≤ℤ◌, take_at, drop_at, append_assoc, get_or-take, get_or-drop}
-use Rattle.word_image.proofs.Common.{cases_lt, ints, by_lt_z, All-nil, All-cons, All-append, length-map-range_with_len, LocalRule, IsRule, IsWord, local_map, image, IsRing, ring_letters, ring_image, IsConserving, some_letter, IsWord-ring_letters, ring_letters-turn}
-use Rattle.ring_laws.proofs.Gains.{gain, gain-short, gain-append, gain-ring}
-use Rattle.ring_laws.proofs.Rings.{IsWord-ring_image, length-ring_letters, take-ring_letters, drop-ring_letters}
-use Rattle.tail_config.proofs.Common.{Config, IsConfig, run, image_of, zeros, length-run, IsWord-run, run-same, run-append, take-run, image-run, image_of-window}
+use Rattle.std.proofs.Common.{◌≡◌, ℕ, zero, suc, ◌+◌, ◌-◌, ◌*◌, ◌<◌, ◌≤◌, ◌↔◌, ⊎_elim, List, [], ◌∷◌, All, length, get_or, replicate, sum_by, ℤ, pos, ◌+ℤ◌, ◌-ℤ◌, neg_ℤ, unsigned_abs, refl, sym, ap, ◌∙◌, arith, suc-mul, ◌<ℤ◌, ◌≤ℤ◌}
+use Rattle.std.proofs.lemmas.List.Folds.{sum_by-replicate}
+use Rattle.word_image.proofs.Common.{cases_lt, get_or_past, length-replicate, sum_by-cons, sum_by-le, All-head, All-tail, All-replicate, ints, by_lt_z, LocalRule, IsRule, image, IsRing, ring_letter, ring_image, IsConserving, some_letter, ring_letter-below, ring_letter-turn}
+use Rattle.ring_laws.proofs.Rings.{IsWord-ring_image, sum_by-ring_image}
+use Rattle.tail_config.proofs.Common.{Config, IsConfig, run, image_of, zeros, length-run, get_or-run, IsWord-run, run-same, image-run, image_of-window}
 use Rattle.config_laws.specs.Sums.{weight_on, weight_within, IsFinite, KeepsFiniteSums, KeepsChanges}
-use Rattle.config_laws.proofs.Joined.{joined-left, IsConfig-written, run-written, between_zeros, letter-right, IsFinite-between}
-use Rattle.config_laws.proofs.Sums.{AgreeOutside, weight_on-outside, weight_within-zeros, KeepsChanges-conserving}
+use Rattle.config_laws.proofs.Joined.{joined-left, IsConfig-written, between_zeros, letter-right, IsFinite-between}
+use Rattle.config_laws.proofs.RingImages.{length-ring_image, run-ring}
+use Rattle.config_laws.proofs.Sums.{weight_on-append, weight_within-zeros, KeepsChanges-conserving}
 
 -- two finite configurations and their images differ alike
 abbrev KeepsFiniteChanges : (ℕ → ℕ) → LocalRule → Type 0
 KeepsFiniteChanges weight r = (x y : Config) → IsConfig r.states x → IsConfig r.states y → IsFinite x → IsFinite y
     → (N : ℕ) × ((n : ℕ) → N ≤ n → weight_within weight n (image_of r x) + weight_within weight n y ≡ weight_within weight n (image_of r y) + weight_within weight n x)
 
--- two words of l + m - 1 letters with equal ends
-record HaveEqualEnds (r : LocalRule) (l : ℕ) (a b : List ℕ) : Type 0 where
-  first : IsWord r.states a
-  second : IsWord r.states b
-  first_long : length a ≡ l + (r.width - 1)
-  second_long : length b ≡ l + (r.width - 1)
-  front : take (r.width - 1) a ≡ take (r.width - 1) b
-  back : drop l a ≡ drop l b
+-- runs of two configurations, of which the first has n letters more from place s on, differ by the weight of these letters and of the last n letters of the other run
+weight_on-inserted : (weight : ℕ → ℕ) (u v : Config) (s : ℤ) (n : ℕ) → ((j : ℤ) → j <ℤ s → u j ≡ v j) → ((j : ℤ) → s ≤ℤ j → u (j +ℤ pos n) ≡ v j) → (i e : ℤ) (l : ℕ) → i ≤ℤ s → s ≤ℤ e → e +ℤ pos n ≡ i +ℤ pos l
+    → weight_on weight u i l + weight_on weight v e n ≡ weight_on weight v i l + weight_on weight u s n
+weight_on-inserted weight u v s n before after i e l low high end =
+    let a : ℕ = unsigned_abs (s -ℤ i) in
+    let b : ℕ = unsigned_abs (e -ℤ s) in
+    let t : ℤ = s +ℤ pos n in
+    let more : l ≡ a + (n + b) = omega (arith, ints) in
+    let turn : l ≡ a + (b + n) = omega (arith, ints) in
+    let of_u = ap (weight_on weight u i) more ∙ weight_on-append weight u i s a (n + b) (omega (arith, ints)) ∙ ap (λ w. weight_on weight u i a + w) (weight_on-append weight u s t n b refl) in
+    let of_v = ap (weight_on weight v i) turn ∙ weight_on-append weight v i s a (b + n) (omega (arith, ints)) ∙ ap (λ w. weight_on weight v i a + w) (weight_on-append weight v s e b n (omega (arith, ints))) in
+    let first = ap (sum_by weight) (run-same u v i i a (λ c h. before (i +ℤ pos c) (omega (arith, ints)))) in
+    let last = ap (sum_by weight) (run-same u v t s b (λ c h.
+    let place : t +ℤ pos c ≡ s +ℤ pos c +ℤ pos n = omega (arith, ints) in
+    ap u place ∙ after (s +ℤ pos c) (omega (arith, ints)))) in
+    omega (arith, of_u, of_v, first, last)
 
--- two words with equal ends gain the same
-gain-ends : {r : LocalRule} {l : ℕ} {a b : List ℕ} → IsRule r → (weight : ℕ → ℕ) → KeepsFiniteChanges weight r → HaveEqualEnds r l a b → gain weight r a ≡ gain weight r b
-gain-ends {r} {l} {a} {b} rule weight keeps h =
-    let d : ℕ = r.width - 1 in
-    let x : Config = between_zeros a in
-    let y : Config = between_zeros b in
-    let place : ℤ = neg_ℤ r.offset in
-    let at : place +ℤ r.offset ≡ pos 0 = omega (arith, ints) in
-    let some : 0 < r.states = some_letter rule in
-    let left : (j : ℤ) → j <ℤ pos d → x j ≡ y j = λ j k.
-    by_lt_z j (pos 0) (λ g. joined-left zeros (pos 0) (λ c. get_or a c 0) j g ∙ sym (joined-left zeros (pos 0) (λ c. get_or b c 0) j g))
-    (λ g. let c : ℕ = unsigned_abs j in
-    letter-right a j g ∙ sym (get_or-take d a c 0 (omega (arith, ints))) ∙ ap (λ w. get_or w c 0) h.front ∙ get_or-take d b c 0 (omega (arith, ints)) ∙ sym (letter-right b j g)) in
-    let right : (j : ℤ) → pos l ≤ℤ j → x j ≡ y j = λ j k.
-    let c : ℕ = unsigned_abs j - l in
-    let all : l + c ≡ unsigned_abs j = omega (arith, ints) in
-    let letter : (w : List ℕ) → between_zeros w j ≡ get_or (drop l w) c 0 = λ w. letter-right w j (omega (arith, ints)) ∙ sym (get_or-drop l w c 0 ∙ ap (λ i. get_or w i 0) all) in
-    letter a ∙ ap (λ w. get_or w c 0) h.back ∙ sym (letter b) in
-    let of_letters : AgreeOutside x y (pos 0) l = record { before = λ j k. left j (omega (arith, ints)); after = λ j k. right j (omega (arith, ints)) } in
-    let of_images : AgreeOutside (image_of r x) (image_of r y) place l = record {
-      before = λ j k. image_of-window r x y j j (λ c g. left (j +ℤ r.offset +ℤ pos c) (omega (arith, ints)));
-      after = λ j k. image_of-window r x y j j (λ c g. right (j +ℤ r.offset +ℤ pos c) (omega (arith, ints)));
-    } in
-    let found = keeps x y (IsConfig-written some (λ j. some) (pos 0) a h.first) (IsConfig-written some (λ j. some) (pos 0) b h.second) (IsFinite-between a) (IsFinite-between b) in
-    let n : ℕ = found.0 + l + unsigned_abs r.offset in
-    let i : ℤ = neg_ℤ (pos n) in
-    let letters = weight_on-outside weight x y (pos 0) l of_letters i (n + n + 1) (omega (arith, ints)) (omega (arith, ints)) in
-    let images = weight_on-outside weight (image_of r x) (image_of r y) place l of_images i (n + n + 1) (omega (arith, ints)) (omega (arith, ints)) in
-    let same = found.1 n (omega arith) in
-    let whole : (w : List ℕ) → length w ≡ l + d → run (between_zeros w) (pos 0) (l + d) ≡ w = λ w e.
-    ap (run (between_zeros w) (pos 0)) (sym e) ∙ run-written zeros (pos 0) w in
-    let image_part : (w : List ℕ) → length w ≡ l + d → weight_on weight (image_of r (between_zeros w)) place l ≡ sum_by weight (image r w) = λ w e.
-    ap (sum_by weight) (sym (image-run rule (between_zeros w) place (pos 0) l at) ∙ ap (image r) (whole w e)) in
-    let letter_part : (w : List ℕ) → length w ≡ l + d → weight_on weight (between_zeros w) (pos 0) l ≡ sum_by weight (take (length w - d) w) = λ w e.
-    let few : l ≡ length w - d = omega arith in
-    ap (sum_by weight) (sym (take-run (between_zeros w) (pos 0) (l + d) l (omega arith)) ∙ ap (take l) (whole w e)) ∙ ap (λ j. sum_by weight (take j w)) few in
-    let ia = image_part a h.first_long in
-    let ib = image_part b h.second_long in
-    let la = letter_part a h.first_long in
-    let lb = letter_part b h.second_long in
-    omega (arith, ints)
+-- the first c letters of a ring, and the ring's letters behind them, between zeros
+abbrev turning : List ℕ → ℕ → Config
+turning p c = between_zeros (run (ring_letter p) (pos 0) c)
 
--- what n windows of zeros gain
-abbrev zeros_gain : (ℕ → ℕ) → LocalRule → ℕ → ℤ
-zeros_gain weight r n = gain weight r (run zeros (pos 0) (n + (r.width - 1)))
+-- on its first places stand the letters of the ring
+turning-inside : (p : List ℕ) (c : ℕ) (j : ℤ) → pos 0 ≤ℤ j → j <ℤ pos c → turning p c j ≡ ring_letter p j
+turning-inside p c j low high = letter-right (run (ring_letter p) (pos 0) c) j low ∙ get_or-run (ring_letter p) (pos 0) j c (unsigned_abs j) (omega (arith, ints)) (omega (arith, ints))
 
--- a ring gains as much as zeros of its length: one turn put in between zeros, or as many zeros
-gain-zeros : {r : LocalRule} {p : List ℕ} → IsRule r → (weight : ℕ → ℕ) → KeepsFiniteChanges weight r → IsRing r.states p
-    → (pos (sum_by weight (ring_image r p)) -ℤ pos (sum_by weight p)) ≡ zeros_gain weight r (length p)
-gain-zeros {r} {p} rule weight keeps ring =
+-- behind them stand zeros
+turning-behind : (p : List ℕ) (c : ℕ) (j : ℤ) → pos c ≤ℤ j → turning p c j ≡ 0
+turning-behind p c j l =
+    let w : List ℕ = run (ring_letter p) (pos 0) c in
+    letter-right w j (omega (arith, ints)) ∙ get_or_past w (unsigned_abs j) 0 (omega (arith, ints, length-run (ring_letter p) (pos 0) c))
+
+-- a ring gains as much as zeros of its length: a turn more between zeros changes the weight of the image by as much as that of the letters
+ring_sum : {r : LocalRule} {p : List ℕ} → IsRule r → (weight : ℕ → ℕ) → KeepsFiniteChanges weight r → IsRing r.states p
+    → sum_by weight (ring_image r p) + weight_on weight zeros (pos 0) (length p) ≡ sum_by weight p + weight_on weight (image_of r zeros) (pos 0) (length p)
+ring_sum {r} {p} rule weight keeps ring =
     let d : ℕ = r.width - 1 in
     let n : ℕ = length p in
-    let o : ℤ = pos 0 in
-    let k : ℕ = r.states in
-    let Below : ℕ → Type 0 = λ a. a < k in
-    let z : List ℕ = run zeros o d in
-    let zs : List ℕ = run zeros o (n + d) in
-    let e : List ℕ = ring_letters p o d in
-    let t : List ℕ = ring_letters p o (n + d) in
-    let zeros_word : (j : ℕ) → IsWord k (run zeros o j) = λ j. IsWord-run (λ i. some_letter rule) o j in
-    let ring_word : (j : ℕ) → IsWord k (ring_letters p o j) = λ j. IsWord-ring_letters ring o j in
-    let order : n + d ≡ d + n = omega arith in
-    let zeros_long : (j : ℕ) → length (run zeros o j) ≡ j = length-run zeros o in
-    let ring_long : (j : ℕ) → length (ring_letters p o j) ≡ j = length-ring_letters p o in
-    let t_front : take d t ≡ e = take-ring_letters p o (n + d) d (omega arith) in
-    let t_back : drop n t ≡ e = drop-ring_letters p o n d ∙ ring_letters-turn p o d ring.some in
-    let t_first : t ≡ e ++ drop d t = sym (take-append-drop d t) ∙ ap (λ w. w ++ drop d t) t_front in
-    let t_last : t ≡ take n t ++ e = sym (take-append-drop n t) ∙ ap (λ w. take n t ++ w) t_back in
-    let zs_first : zs ≡ z ++ run zeros (o +ℤ pos d) n = ap (run zeros o) order ∙ run-append zeros o (o +ℤ pos d) d n refl in
-    let zs_last : zs ≡ run zeros o n ++ z = run-append zeros o (o +ℤ pos n) n d refl ∙ ap (λ w. run zeros o n ++ w) (run-same zeros zeros (o +ℤ pos n) o d (λ a l. refl)) in
-    let a : List ℕ = z ++ (e ++ zs) in
-    let b : List ℕ = z ++ (t ++ z) in
-    let l : ℕ = d + (d + n) in
-    let long_a : length a ≡ l + d = omega (arith, length-append z (e ++ zs), length-append e zs, zeros_long d, zeros_long (n + d), ring_long d) in
-    let long_b : length b ≡ l + d = omega (arith, length-append z (t ++ z), length-append t z, zeros_long d, ring_long (n + d)) in
-    let back_a : drop l a ≡ z =
-    ap (drop l) (ap (λ w. z ++ (e ++ w)) zs_last ∙ ap (λ w. z ++ w) (sym (append_assoc e (run zeros o n) z)) ∙ sym (append_assoc z (e ++ run zeros o n) z))
-    ∙ drop_at (z ++ (e ++ run zeros o n)) z l (omega (arith, length-append z (e ++ run zeros o n), length-append e (run zeros o n), zeros_long d, zeros_long n, ring_long d)) in
-    let back_b : drop l b ≡ z =
-    ap (drop l) (sym (append_assoc z t z)) ∙ drop_at (z ++ t) z l (omega (arith, length-append z t, zeros_long d, ring_long (n + d))) in
-    let same : gain weight r a ≡ gain weight r b = gain-ends {l = l} {a = a} {b = b} rule weight keeps (record {
-      first = All-append Below z (e ++ zs) (zeros_word d) (All-append Below e zs (ring_word d) (zeros_word (n + d)));
-      second = All-append Below z (t ++ z) (zeros_word d) (All-append Below t z (ring_word (n + d)) (zeros_word d));
-      first_long = long_a;
-      second_long = long_b;
-      front = take_at z (e ++ zs) d (zeros_long d) ∙ sym (take_at z (t ++ z) d (zeros_long d));
-      back = back_a ∙ sym back_b;
-    }) in
-    let ring_gain : gain weight r t ≡ pos (sum_by weight (ring_image r p)) -ℤ pos (sum_by weight p) = gain-ring rule weight p o ring.some in
-    let of_a : gain weight r a ≡ gain weight r (z ++ e) +ℤ gain weight r (e ++ zs) = gain-append rule weight z e zs (ring_long d) in
-    let more_a : gain weight r (e ++ zs) ≡ gain weight r (e ++ z) +ℤ gain weight r zs =
-    ap (λ w. gain weight r (e ++ w)) zs_first ∙ gain-append rule weight e z (run zeros (o +ℤ pos d) n) (zeros_long d) ∙ ap (λ w. gain weight r (e ++ z) +ℤ gain weight r w) (sym zs_first) in
-    let of_b : gain weight r b ≡ gain weight r (z ++ e) +ℤ gain weight r (t ++ z) =
-    ap (λ w. gain weight r (z ++ w)) (ap (λ w. w ++ z) t_first ∙ append_assoc e (drop d t) z) ∙ gain-append rule weight z e (drop d t ++ z) (ring_long d)
-    ∙ ap (λ w. gain weight r (z ++ e) +ℤ gain weight r w) (sym (ap (λ w. w ++ z) t_first ∙ append_assoc e (drop d t) z)) in
-    let more_b : gain weight r (t ++ z) ≡ gain weight r t +ℤ gain weight r (e ++ z) =
-    ap (gain weight r) (ap (λ w. w ++ z) t_last ∙ append_assoc (take n t) e z) ∙ gain-append rule weight (take n t) e z (ring_long d)
-    ∙ ap (λ w. gain weight r w +ℤ gain weight r (e ++ z)) (sym t_last) in
-    omega (arith, ints)
-
--- a list of one number sums to it
-sum_by-one : (f : ℕ → ℕ) (w : List ℕ) → length w ≡ 1 → sum_by f w ≡ f (get_or w 0 0)
-sum_by-one f [] e = absurd (omega arith)
-sum_by-one f (a ∷ []) e = omega arith
-sum_by-one f (a ∷ b ∷ w) e = absurd (omega arith)
+    let o : ℤ = neg_ℤ r.offset in
+    let u : Config = turning p (n + d) in
+    let v : Config = turning p d in
+    let some : 0 < r.states = some_letter rule in
+    let config : (c : ℕ) → IsConfig r.states (turning p c) = λ c. IsConfig-written some (λ j. some) (pos 0) _ (IsWord-run (ring_letter-below ring) (pos 0) c) in
+    let left : (j : ℤ) → j <ℤ pos d → u j ≡ v j = λ j l.
+    by_lt_z j (pos 0) (λ g. joined-left zeros (pos 0) _ j g ∙ sym (joined-left zeros (pos 0) _ j g))
+    (λ g. turning-inside p (n + d) j g (omega (arith, ints)) ∙ sym (turning-inside p d j g l)) in
+    let right : (j : ℤ) → pos 0 ≤ℤ j → u (j +ℤ pos n) ≡ v j = λ j l.
+    by_lt_z j (pos d) (λ g. turning-inside p (n + d) (j +ℤ pos n) (omega (arith, ints)) (omega (arith, ints)) ∙ ring_letter-turn p j ring.some ∙ sym (turning-inside p d j l g))
+    (λ g. turning-behind p (n + d) (j +ℤ pos n) (omega (arith, ints)) ∙ sym (turning-behind p d j g)) in
+    let found = keeps u v (config (n + d)) (config d) (IsFinite-between _) (IsFinite-between _) in
+    let m : ℕ = found.0 + n + d + unsigned_abs r.offset in
+    let i : ℤ = neg_ℤ (pos m) in
+    let l : ℕ = m + m + 1 in
+    let e : ℤ = i +ℤ pos l -ℤ pos n in
+    let letters = weight_on-inserted weight u v (pos 0) n (λ j h. left j (omega (arith, ints))) right i e l (omega (arith, ints)) (omega (arith, ints)) (omega (arith, ints)) in
+    let images = weight_on-inserted weight (image_of r u) (image_of r v) o n (λ j h. image_of-window r u v j j (λ c g. left (j +ℤ r.offset +ℤ pos c) (omega (arith, ints))))
+    (λ j h. image_of-window r u v (j +ℤ pos n) j (λ c g.
+    let place : j +ℤ pos n +ℤ r.offset +ℤ pos c ≡ j +ℤ r.offset +ℤ pos c +ℤ pos n = omega (arith, ints) in
+    ap u place ∙ right (j +ℤ r.offset +ℤ pos c) (omega (arith, ints)))) i e l (omega (arith, ints)) (omega (arith, ints)) (omega (arith, ints)) in
+    let inside : (c : ℕ) → c ≤ n + d → run u (pos 0) c ≡ run (ring_letter p) (pos 0) c = λ c h. run-same u (ring_letter p) (pos 0) (pos 0) c (λ a g. turning-inside p (n + d) (pos 0 +ℤ pos a) (omega (arith, ints)) (omega (arith, ints))) in
+    let turn : weight_on weight u (pos 0) n ≡ sum_by weight p = ap (sum_by weight) (inside n (omega arith) ∙ run-ring p) in
+    let image_turn : weight_on weight (image_of r u) o n ≡ sum_by weight (ring_image r p) =
+    ap (sum_by weight) (sym (image-run rule u o (pos 0) n (omega (arith, ints))) ∙ ap (image r) (inside (n + d) (omega arith))) ∙ sym (sum_by-ring_image rule weight p (pos 0) ring.some) in
+    let none : weight_on weight v e n ≡ weight_on weight zeros (pos 0) n = ap (sum_by weight) (run-same v zeros e (pos 0) n (λ a g. turning-behind p d (e +ℤ pos a) (omega (arith, ints)))) in
+    let image_none : weight_on weight (image_of r v) e n ≡ weight_on weight (image_of r zeros) (pos 0) n =
+    ap (sum_by weight) (run-same (image_of r v) (image_of r zeros) e (pos 0) n (λ a g. image_of-window r v zeros (e +ℤ pos a) (pos 0 +ℤ pos a) (λ c h. turning-behind p d (e +ℤ pos a +ℤ r.offset +ℤ pos c) (omega (arith, ints))))) in
+    omega (arith, found.1 m (omega arith), letters, images, turn, image_turn, none, image_none)
 
 -- of numbers below k one is greatest
 greatest : (f : ℕ → ℕ) (k : ℕ) → (a : ℕ) × (a < suc k) × ((b : ℕ) → b < suc k → f b ≤ f a)
@@ -137,55 +90,28 @@ greatest f (suc k) =
     (λ not_more. (a, omega arith, λ b l. ⊎_elim (λ g. most b g) (λ g. let e : b ≡ suc k = omega arith in omega (arith, ap f e)) (cases_lt b (suc k))))
     (cases_lt (f a) (f (suc k)))
 
--- a ring of one letter becomes one of one letter, which weighs more by what one window of zeros gains
-letter_gain : {r : LocalRule} → IsRule r → (weight : ℕ → ℕ) → KeepsFiniteChanges weight r → (a : ℕ) → a < r.states
-    → (b : ℕ) × (b < r.states) × ((pos (weight b) -ℤ pos (weight a)) ≡ zeros_gain weight r 1)
-letter_gain {r} rule weight keeps a below =
-    let p : List ℕ = a ∷ [] in
-    let ring : IsRing r.states p = record { word = All-cons (λ c. c < r.states) a [] below (All-nil (λ c. c < r.states)); some = omega arith } in
-    let q : List ℕ = ring_image r p in
-    let long : length q ≡ 1 = length-map-range_with_len (λ i. local_map r (ring_letters p (pos i +ℤ r.offset) r.width)) 0 (length p) ∙ omega arith in
-    let gains = gain-zeros rule weight keeps ring in
-    let one : length p ≡ 1 = omega arith in
-    let old : sum_by weight p ≡ weight a = omega arith in
-    let new : sum_by weight q ≡ weight (get_or q 0 0) = sum_by-one weight q long in
-    (get_or q 0 0, IsWord-ring_image rule p 0 0 (omega arith), omega (arith, ints))
+-- a word of letters that weigh m or more weighs m for each letter or more
+sum_by-ge : (f : ℕ → ℕ) (m : ℕ) (w : List ℕ) → All (λ a. m ≤ f a) w → length w * m ≤ sum_by f w
+sum_by-ge f m [] h = omega arith
+sum_by-ge f m (a ∷ w) h = omega (arith, sum_by-cons f a w, All-head (λ b. m ≤ f b) a w h, sum_by-ge f m w (All-tail (λ b. m ≤ f b) a w h), suc-mul (length w) m)
 
--- a window of zeros gains nothing: no letter weighs more than the heaviest, or less than the lightest
-zeros_gain-one : {r : LocalRule} → IsRule r → (weight : ℕ → ℕ) → KeepsFiniteChanges weight r → zeros_gain weight r 1 ≡ pos 0
-zeros_gain-one {r} rule weight keeps =
-    let k : ℕ = r.states - 1 in
-    let most = greatest weight k in
-    let fewest = greatest (λ a. weight most.0 - weight a) k in
-    let up = letter_gain rule weight keeps most.0 (omega (arith, most.1)) in
-    let down = letter_gain rule weight keeps fewest.0 (omega (arith, fewest.1)) in
-    omega (arith, ints, up.2, down.2, most.2 up.0 (omega (arith, up.1)), most.2 down.0 (omega (arith, down.1)), most.2 fewest.0 fewest.1, fewest.2 down.0 (omega (arith, down.1)))
-
--- windows of zeros gain nothing, however many they are
-zeros_gain-none : {r : LocalRule} → IsRule r → (weight : ℕ → ℕ) → KeepsFiniteChanges weight r → (n : ℕ) → zeros_gain weight r n ≡ pos 0
-zeros_gain-none {r} rule weight keeps zero = gain-short weight r (run zeros (pos 0) (0 + (r.width - 1))) (omega (arith, length-run zeros (pos 0) (0 + (r.width - 1))))
-zeros_gain-none {r} rule weight keeps (suc n) =
-    let d : ℕ = r.width - 1 in
-    let o : ℤ = pos 0 in
-    let i : ℤ = o +ℤ pos 1 in
-    let j : ℤ = i +ℤ pos d in
-    let all : suc n + d ≡ 1 + (d + n) = omega arith in
-    let turn : d + n ≡ n + d = omega arith in
-    let parts : run zeros o (suc n + d) ≡ run zeros o 1 ++ (run zeros i d ++ run zeros j n) =
-    ap (run zeros o) all ∙ run-append zeros o i 1 (d + n) refl ∙ ap (λ w. run zeros o 1 ++ w) (run-append zeros i j d n refl) in
-    let first : gain weight r (run zeros o 1 ++ run zeros i d) ≡ zeros_gain weight r 1 = ap (gain weight r) (sym (run-append zeros o i 1 d refl)) in
-    let rest : gain weight r (run zeros i d ++ run zeros j n) ≡ zeros_gain weight r n =
-    ap (gain weight r) (sym (run-append zeros i j d n refl) ∙ run-same zeros zeros i o (d + n) (λ a l. refl) ∙ ap (run zeros o) turn) in
-    let both = gain-append rule weight (run zeros o 1) (run zeros i d) (run zeros j n) (length-run zeros i d) in
-    let whole : zeros_gain weight r (suc n) ≡ gain weight r (run zeros o 1 ++ (run zeros i d ++ run zeros j n)) = ap (gain weight r) parts in
-    omega (arith, ints, zeros_gain-one rule weight keeps, zeros_gain-none rule weight keeps n)
-
--- if finite configurations and their images differ alike, rings keep their sums
+-- if finite configurations and their images differ alike, rings keep their sums: zeros gain nothing, since no ring weighs more than one of heaviest letters, or less than one of lightest
 IsConserving-finite : {r : LocalRule} → IsRule r → (weight : ℕ → ℕ) → KeepsFiniteChanges weight r → IsConserving weight r
 IsConserving-finite {r} rule weight keeps p ring =
-    let gains = gain-zeros rule weight keeps ring in
-    let none = zeros_gain-none rule weight keeps (length p) in
-    omega (arith, ints)
+    let n : ℕ = length p in
+    let k : ℕ = r.states - 1 in
+    let (a, ha, most) = greatest weight k in
+    let (b, hb, fewest) = greatest (λ c. weight a - weight c) k in
+    let same : (c : ℕ) → c < suc k → (sum_by weight (ring_image r (replicate n c)) + weight_on weight zeros (pos 0) n ≡ n * weight c + weight_on weight (image_of r zeros) (pos 0) n) = λ c l.
+    let gains = ring_sum {p = replicate n c} rule weight keeps (record { word = All-replicate (λ d. d < r.states) n c (omega (arith, l)); some = omega (arith, ring.some, length-replicate n c) }) in
+    omega (arith, gains, sum_by-replicate weight n c, ap (weight_on weight zeros (pos 0)) (length-replicate n c), ap (weight_on weight (image_of r zeros) (pos 0)) (length-replicate n c)) in
+    let long : (c : ℕ) → length (ring_image r (replicate n c)) ≡ n = λ c. length-ring_image r (replicate n c) ∙ length-replicate n c in
+    let letter : (c i d : ℕ) → i < length (ring_image r (replicate n c)) → get_or (ring_image r (replicate n c)) i d < suc k = λ c i d l. omega (arith, IsWord-ring_image rule (replicate n c) i d l) in
+    let above = sum_by-le weight (weight a) (ring_image r (replicate n a)) (λ i d l. most (get_or (ring_image r (replicate n a)) i d) (letter a i d l)) in
+    let below = sum_by-ge weight (weight b) (ring_image r (replicate n b)) (λ i d l.
+    let e : ℕ = get_or (ring_image r (replicate n b)) i d in
+    omega (arith, most e (letter b i d l), fewest e (letter b i d l), most b hb)) in
+    omega (arith, same a ha, same b hb, above, below, ap (λ l. l * weight a) (long a), ap (λ l. l * weight b) (long b), ring_sum rule weight keeps ring)
 
 -- a rule keeps the sums of rings exactly if it keeps those of finite configurations
 pub IsConserving-sums : {r : LocalRule} → IsRule r → (weight : ℕ → ℕ) → IsConserving weight r ↔ KeepsFiniteSums weight r

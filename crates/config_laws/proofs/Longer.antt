@@ -1,179 +1,135 @@
--- Under a right look-ahead what reads long words reads all longer ones: letters put in behind the first node of a preimage change its image so that none is lost.
-use Rattle.std.proofs.Common.{◌≡◌, ℕ, zero, suc, ◌+◌, ◌-◌, ◌^◌, ◌<◌, ◌≤◌, List, [], ◌∷◌, ◌++◌, length, take, drop, get_or, refl, sym, ap, ap₂, subst, ◌∙◌, arith, length-append, length-drop, length-take-le, take-take, take_at, drop_at, drop-drop, take_all, get_or-take, get_or-drop, take-append-drop, append_assoc}
-use Rattle.word_image.proofs.Common.{length_push, drop-take, take_more, get_or_at, All-append, All-cons, All-push, All-take, All-drop, LocalRule, IsRule, IsWord, value, image, IsPreimage, HaveOneImage, IsRightAhead, value-below, value-injective, IsWord-image, length-image, image-take, image-drop, twice_below}
-use Rattle.pair_laws.proofs.Common.{image-cut, HaveOneImage-take, HaveOneImage-drop}
+-- Under a right look-ahead what reads long words reads all longer ones: letters put in behind the first node change the image so that none is lost.
+use Rattle.std.proofs.Common.{◌≡◌, ℕ, zero, suc, ◌+◌, ◌-◌, ◌^◌, ◌<◌, ◌≤◌, List, [], ◌∷◌, ◌++◌, length, ℤ, pos, ◌+ℤ◌, ◌-ℤ◌, unsigned_abs, refl, sym, ap, ap₂, ◌∙◌, subst, ⊎_elim, arith, ◌<ℤ◌, ◌≤ℤ◌}
+use Rattle.word_image.proofs.Common.{cases_lt, length_push, ints, by_lt_z, All-push, LocalRule, IsRule, IsWord, IsRightAhead, value, value-below, value-injective, twice_below}
+use Rattle.tail_config.proofs.Common.{Config, IsConfig, run, image_of, length-run, IsWord-run, run-same, same-run, run-push, at_run, image_of-window}
+use Rattle.tail_laws.proofs.Common.{agree_on}
+use Rattle.config_laws.proofs.Images.{IsConfig-image}
+use Rattle.config_laws.proofs.Joined.{joined, joined-left, joined-right, IsConfig-joined}
 
--- two words with one image and the same first m - 1 letters have the same letters up to the last n - 1
-same_take : {r : LocalRule} {n l : ℕ} {x y : List ℕ} → IsRule r → IsRightAhead r n → HaveOneImage r l x y → take (r.width - 1) x ≡ take (r.width - 1) y
-    → (j : ℕ) → j + n ≤ l + 1 → take (j + (r.width - 1)) x ≡ take (j + (r.width - 1)) y
-same_take {r} {n} {l} {x} {y} rule ahead h front zero few =
-    let all : 0 + (r.width - 1) ≡ r.width - 1 = omega arith in
-    ap (λ i. take i x) all ∙ front ∙ sym (ap (λ i. take i y) all)
-same_take {r} {n} {l} {x} {y} rule ahead h front (suc j) few =
-    let d : ℕ = r.width - 1 in
-    let before : take (j + d) x ≡ take (j + d) y = same_take rule ahead h front j (omega arith) in
-    let one = HaveOneImage-take rule n (l - j - n) (l - j) (omega arith) (HaveOneImage-drop j (l - j) l (omega arith) h) in
-    let node : (z : List ℕ) → take d (take (n + d) (drop j z)) ≡ drop j (take (j + d) z) = λ z. take-take d (n + d) (drop j z) (omega arith) ∙ sym (drop-take j d z) in
-    let letter : (z : List ℕ) → get_or (take (n + d) (drop j z)) d 0 ≡ get_or z (j + d) 0 = λ z. get_or-take (n + d) (drop j z) d 0 (omega arith) ∙ get_or-drop j z d 0 in
-    let same : get_or x (j + d) 0 ≡ get_or y (j + d) 0 = sym (letter x) ∙ ahead.letter _ _ one (node x ∙ ap (drop j) before ∙ sym (node y)) ∙ letter y in
-    let more : suc j + d ≡ j + d + 1 = omega arith in
-    ap (λ i. take i x) more ∙ take_more x (j + d) 0 (omega (arith, h.first_long))
-    ∙ ap₂ (λ (u : List ℕ) (a : ℕ). u ++ a ∷ []) before same
-    ∙ sym (ap (λ i. take i y) more ∙ take_more y (j + d) 0 (omega (arith, h.second_long)))
+-- b, and then what f says
+abbrev first_then : ℕ → (ℕ → ℕ) → ℕ → ℕ
+first_then b f zero = b
+first_then b f (suc a) = f a
 
--- a letter put in behind the first m - 1 letters
-abbrev inserted : LocalRule → ℕ → List ℕ → List ℕ
-inserted r b x = take (r.width - 1) x ++ b ∷ drop (r.width - 1) x
+-- a configuration with the letter b put in at place e
+abbrev inserted : Config → ℤ → ℕ → Config
+inserted x e b = joined x e (first_then b (λ a. x (e +ℤ pos a)))
 
--- a word of l + m - 1 letters with a letter put in
-record IsInserted (r : LocalRule) (l b : ℕ) (x : List ℕ) : Type 0 where
-  word : IsWord r.states (inserted r b x)
-  long : length (inserted r b x) ≡ suc l + (r.width - 1)
-  front : take (r.width - 1) (inserted r b x) ≡ take (r.width - 1) x
-  letter : get_or (inserted r b x) (r.width - 1) 0 ≡ b
-  rest : drop (1 + (r.width - 1)) (inserted r b x) ≡ drop (r.width - 1) x
+-- the letter stands at its place
+inserted-here : (x : Config) (e : ℤ) (b : ℕ) → inserted x e b e ≡ b
+inserted-here x e b = joined-right x e (first_then b (λ a. x (e +ℤ pos a))) e 0 (omega (arith, ints))
 
-IsInserted-word : {r : LocalRule} → (l b : ℕ) (x : List ℕ) → b < r.states → IsWord r.states x → length x ≡ l + (r.width - 1) → IsInserted r l b x
-IsInserted-word {r} l b x hb h e =
-    let d : ℕ = r.width - 1 in
-    let z : List ℕ = take d x in
-    let s : List ℕ = drop d x in
-    let Below : ℕ → Type 0 = λ a. a < r.states in
-    let long : length z ≡ d = length-take-le d x (omega arith) in
-    let one : length (z ++ b ∷ []) ≡ 1 + d = omega (arith, length_push z b) in
+-- behind it stand the configuration's letters, one place further on
+inserted-behind : (x : Config) (e : ℤ) (b : ℕ) (j : ℤ) → e ≤ℤ j → inserted x e b (j +ℤ pos 1) ≡ x j
+inserted-behind x e b j l =
+    let a : ℕ = unsigned_abs (j -ℤ e) in
+    let here : e +ℤ pos a ≡ j = omega (arith, ints) in
+    joined-right x e (first_then b (λ c. x (e +ℤ pos c))) (j +ℤ pos 1) (suc a) (omega (arith, ints)) ∙ ap x here
+
+-- a configuration with a letter put in is one over the same letters
+IsConfig-inserted : {k : ℕ} {x : Config} → IsConfig k x → (e : ℤ) (b : ℕ) → b < k → IsConfig k (inserted x e b)
+IsConfig-inserted {k} {x} hx e b hb = IsConfig-joined hx e letter
+  where
+    letter : (a : ℕ) → first_then b (λ c. x (e +ℤ pos c)) a < k
+    letter zero = hb
+    letter (suc a) = hx (e +ℤ pos a)
+
+-- the place behind the first node under place i
+abbrev pub behind : LocalRule → ℤ → ℤ
+behind r i = i +ℤ r.offset +ℤ pos (r.width - 1)
+
+-- from the images with letters put in behind a node come the letters and the images without them
+inserted-injective : {r : LocalRule} {n : ℕ} {x y : Config} → IsRule r → IsRightAhead r n → IsConfig r.states x → IsConfig r.states y → (i : ℤ) (l a b : ℕ) → r.width - 1 + n ≤ l + 1 → a < r.states → b < r.states
+    → ((j : ℤ) → j <ℤ behind r i → x j ≡ y j) → ((c : ℕ) → c < suc l → image_of r (inserted x (behind r i) a) (i +ℤ pos c) ≡ image_of r (inserted y (behind r i) b) (i +ℤ pos c))
+    → ((c : ℕ) → c < l → image_of r x (i +ℤ pos c) ≡ image_of r y (i +ℤ pos c)) × (a ≡ b)
+inserted-injective {r} {n} {x} {y} rule ahead hx hy i l a b enough ha hb agree same =
+    let e : ℤ = behind r i in
+    let q : ℕ = l + 1 - n in
+    let u : Config = inserted x e a in
+    let v : Config = inserted y e b in
+    let left : (j : ℤ) → j <ℤ e → u j ≡ v j = λ j h. joined-left x e _ j h ∙ agree j h ∙ sym (joined-left y e _ j h) in
+    let share : (j : ℤ) → (j +ℤ r.offset +ℤ pos r.width) <ℤ (e +ℤ pos (suc q + n)) → image_of r u j ≡ image_of r v j = λ j h.
+    by_lt_z j i (λ g. image_of-window r u v j j (λ c k. left (j +ℤ r.offset +ℤ pos c) (omega (arith, ints))))
+    (λ g. at_run (image_of r u) (image_of r v) i (suc l) same j g (omega (arith, ints, rule.shape.least_width))) in
+    let alike : (j : ℤ) → j <ℤ (e +ℤ pos (suc q)) → u j ≡ v j = agree_on rule ahead (IsConfig-inserted hx e a ha) (IsConfig-inserted hy e b hb) e left (suc q) share in
+    let letters : (j : ℤ) → j <ℤ (e +ℤ pos q) → x j ≡ y j = λ j h.
+    by_lt_z j e (agree j) (λ g. sym (inserted-behind x e a j g) ∙ alike (j +ℤ pos 1) (omega (arith, ints)) ∙ inserted-behind y e b j g) in
+    let moved : (z : Config) (d c : ℕ) → q ≤ c → image_of r (inserted z e d) (i +ℤ pos (suc c)) ≡ image_of r z (i +ℤ pos c) = λ z d c g.
+    image_of-window r (inserted z e d) z (i +ℤ pos (suc c)) (i +ℤ pos c) (λ t k.
+    let place : i +ℤ pos (suc c) +ℤ r.offset +ℤ pos t ≡ i +ℤ pos c +ℤ r.offset +ℤ pos t +ℤ pos 1 = omega (arith, ints) in
+    ap (inserted z e d) place ∙ inserted-behind z e d (i +ℤ pos c +ℤ r.offset +ℤ pos t) (omega (arith, ints))) in (
+      λ c h. ⊎_elim (λ g. image_of-window r x y (i +ℤ pos c) (i +ℤ pos c) (λ t k. letters (i +ℤ pos c +ℤ r.offset +ℤ pos t) (omega (arith, ints))))
+          (λ g. sym (moved x a c g) ∙ same (suc c) (omega arith) ∙ moved y b c g) (cases_lt c q),
+      sym (inserted-here x e a) ∙ alike e (omega (arith, ints)) ∙ inserted-here y e b,
+    )
+
+-- a configuration with a letter put in behind the first node under place i, and the letter of its image l places after i, which is put in next
+abbrev next_put : LocalRule → ℤ → ℕ → Config × ℕ → Config × ℕ
+next_put r i l s = (inserted s.0 (behind r i) s.1, image_of r (inserted s.0 (behind r i) s.1) (i +ℤ pos l))
+
+-- the same t times
+abbrev puts : LocalRule → ℤ → ℕ → Config × ℕ → ℕ → Config × ℕ
+puts r i l s zero = s
+puts r i l s (suc t) = next_put r i l (puts r i l s t)
+
+-- a configuration over the rule's letters that is equal to x up to the first node under place i, and a letter
+record IsPut (r : LocalRule) (i : ℤ) (x : Config) (s : Config × ℕ) : Type 0 where
+  config : IsConfig r.states s.0
+  letter : s.1 < r.states
+  left : (j : ℤ) → j <ℤ behind r i → s.0 j ≡ x j
+
+-- letters that are put in change nothing before their place
+IsPut-puts : {r : LocalRule} {i : ℤ} {x : Config} {s : Config × ℕ} → IsRule r → IsPut r i x s → (l t : ℕ) → IsPut r i x (puts r i l s t)
+IsPut-puts rule h l zero = h
+IsPut-puts {r} {i} {s = s} rule h l (suc t) =
+    let before = IsPut-puts rule h l t in
+    let p : Config × ℕ = puts r i l s t in
     record {
-      word = All-append Below z (b ∷ s) (All-take Below d x h) (All-cons Below b s hb (All-drop Below d x h));
-      long = omega (arith, length-append z (b ∷ s), length-drop d x);
-      front = take_at z (b ∷ s) d long;
-      letter = get_or_at z b s 0 d long;
-      rest = ap (drop (1 + d)) (sym (append_assoc z (b ∷ []) s)) ∙ drop_at (z ++ b ∷ []) s (1 + d) one;
+      config = IsConfig-inserted before.config (behind r i) p.1 before.letter;
+      letter = IsConfig-image rule (inserted p.0 (behind r i) p.1) (i +ℤ pos l);
+      left = λ j g. joined-left p.0 (behind r i) (first_then p.1 (λ a. p.0 (behind r i +ℤ pos a))) j g ∙ before.left j g;
     }
 
--- from the image of the longer word come the letter and the image of the shorter one
-inserted-injective : {r : LocalRule} {n : ℕ} → IsRule r → IsRightAhead r n → (l : ℕ) → r.width - 1 + n ≤ l + 1 → (x y : List ℕ) (a b : ℕ) → IsWord r.states x → IsWord r.states y
-    → length x ≡ l + (r.width - 1) → length y ≡ l + (r.width - 1) → a < r.states → b < r.states → take (r.width - 1) x ≡ take (r.width - 1) y
-    → image r (inserted r a x) ≡ image r (inserted r b y) → (image r x ≡ image r y) × (a ≡ b)
-inserted-injective {r} {n} rule ahead l enough x y a b hx hy long_x long_y ha hb front same =
-    let d : ℕ = r.width - 1 in
-    let q : ℕ = l + 1 - n in
-    let u : List ℕ = inserted r a x in
-    let v : List ℕ = inserted r b y in
-    let in_u : IsInserted r l a x = IsInserted-word l a x ha hx long_x in
-    let in_v : IsInserted r l b y = IsInserted-word l b y hb hy long_y in
-    let one : HaveOneImage r (suc l) u v = record { first = in_u.word; second = in_v.word; first_long = in_u.long; second_long = in_v.long; one_image = same } in
-    let alike : take (suc q + d) u ≡ take (suc q + d) v = same_take rule ahead one (in_u.front ∙ front ∙ sym in_v.front) (suc q) (omega (arith, ahead.some)) in
-    let letter : (z : List ℕ) → get_or z d 0 ≡ get_or (take (suc q + d) z) d 0 = λ z. sym (get_or-take (suc q + d) z d 0 (omega arith)) in
-    let order : suc q + d ≡ 1 + d + q = omega arith in
-    let middle : take q (drop d x) ≡ take q (drop d y) =
-    ap (take q) (sym in_u.rest) ∙ sym (drop-take (1 + d) q u) ∙ ap (λ i. drop (1 + d) (take i u)) (sym order)
-    ∙ ap (drop (1 + d)) alike
-    ∙ ap (λ i. drop (1 + d) (take i v)) order ∙ drop-take (1 + d) q v ∙ ap (take q) in_v.rest in
-    let cut : (z : List ℕ) → take (q + d) z ≡ take d z ++ take q (drop d z) = λ z.
-    let turn : q + d ≡ d + q = omega arith in
-    ap (λ i. take i z) turn ∙ sym (take-append-drop d (take (d + q) z)) ∙ ap₂ (λ (s t : List ℕ). s ++ t) (take-take d (d + q) z (omega arith)) (drop-take d q z) in
-    let begins : take (q + d) x ≡ take (q + d) y = cut x ∙ ap₂ (λ (s t : List ℕ). s ++ t) front middle ∙ sym (cut y) in
-    let behind : (z w : List ℕ) → drop (1 + d) w ≡ drop d z → drop q z ≡ drop (suc q) w = λ z w e.
-    let more : d + (q - d) ≡ q = omega arith in
-    let most : 1 + d + (q - d) ≡ suc q = omega arith in
-    sym (drop-drop (q - d) d z ∙ ap (λ i. drop i z) more) ∙ ap (drop (q - d)) (sym e) ∙ drop-drop (q - d) (1 + d) w ∙ ap (λ i. drop i w) most in
-    let ends : image r (drop q x) ≡ image r (drop q y) =
-    ap (image r) (behind x u in_u.rest) ∙ image-drop r (suc q) u ∙ ap (drop (suc q)) same ∙ sym (ap (image r) (behind y v in_v.rest) ∙ image-drop r (suc q) v) in (
-      image-cut rule q x ∙ ap₂ (λ (s t : List ℕ). s ++ t) (ap (image r) begins) ends ∙ sym (image-cut rule q y),
-      sym in_u.letter ∙ letter u ∙ ap (λ z. get_or z d 0) alike ∙ sym (letter v) ∙ in_v.letter,
-    )
+-- the l letters of the image from place i on, and then the letter that is put in next
+abbrev said : LocalRule → ℤ → ℕ → Config × ℕ → List ℕ
+said r i l s = run (image_of r s.0) i l ++ s.1 ∷ []
 
--- a word of l + m - 1 letters that begins with z, and a letter
-record State (r : LocalRule) (l : ℕ) (z : List ℕ) : Type 0 where
-  x : List ℕ
-  b : ℕ
-  word : IsWord r.states x
-  long : length x ≡ l + (r.width - 1)
-  front : take (r.width - 1) x ≡ z
-  letter : b < r.states
-
--- what a state says: the image of its word, and then its letter
-abbrev said : {r : LocalRule} {l : ℕ} {z : List ℕ} → State r l z → List ℕ
-said {r} s = image r s.x ++ s.b ∷ []
-
--- the word's image followed by the letter is a word of l + 1 letters
-IsWord-said : {r : LocalRule} {l : ℕ} {z : List ℕ} → IsRule r → (s : State r l z) → IsWord r.states (said s) × (length (said s) ≡ suc l)
-IsWord-said {r} {l} rule s = (
-  All-push (λ a. a < r.states) (image r s.x) s.b (IsWord-image rule s.x) s.letter,
-  omega (arith, length_push (image r s.x) s.b, length-image r s.x, s.long),
-)
-
--- the letter is put in, and the word read anew
-next_state : {r : LocalRule} {l : ℕ} {z : List ℕ} → IsRule r → (s : State r l z) → (t : State r l z) × (said t ≡ image r (inserted r s.b s.x))
-next_state {r} {l} {z} rule s =
-    let d : ℕ = r.width - 1 in
-    let u : List ℕ = inserted r s.b s.x in
-    let in_u : IsInserted r l s.b s.x = IsInserted-word l s.b s.x s.letter s.word s.long in
-    let long : length (image r u) ≡ suc l = omega (arith, length-image r u, in_u.long) in
-    let back : l + d - d ≡ l = omega arith in
-    let all : l + 1 ≡ suc l = omega arith in (
-      record {
-        x = take (l + d) u;
-        b = get_or (image r u) l 0;
-        word = All-take (λ a. a < r.states) (l + d) u in_u.word;
-        long = length-take-le (l + d) u (omega (arith, in_u.long));
-        front = take-take d (l + d) u (omega arith) ∙ in_u.front ∙ s.front;
-        letter = IsWord-image rule u l 0 (omega arith);
-      },
-      ap (λ w. w ++ get_or (image r u) l 0 ∷ []) (image-take rule (l + d) u ∙ ap (λ i. take i (image r u)) back)
-          ∙ sym (take_more (image r u) l 0 (omega arith)) ∙ ap (λ i. take i (image r u)) all ∙ take_all (suc l) (image r u) (omega arith),
-    )
-
--- the states that come of putting letters in again and again
-abbrev states : {r : LocalRule} {l : ℕ} {z : List ℕ} → IsRule r → State r l z → ℕ → State r l z
-states rule s zero = s
-states rule s (suc i) = (next_state rule (states rule s i)).0
+-- once a letter was put in, these are l + 1 letters of the image
+said-next : (r : LocalRule) (i : ℤ) (l : ℕ) (s : Config × ℕ) → said r i l (next_put r i l s) ≡ run (image_of r (inserted s.0 (behind r i) s.1)) i (l + 1)
+said-next r i l s = sym (run-push (image_of r (inserted s.0 (behind r i) s.1)) i (i +ℤ pos l) l refl)
 
 -- what comes back first is what was said first
-said-back : {r : LocalRule} {n l : ℕ} {z : List ℕ} → (rule : IsRule r) → IsRightAhead r n → r.width - 1 + n ≤ l + 1 → (s : State r l z) (i e : ℕ)
-    → said (states rule s i) ≡ said (states rule s (i + e)) → said s ≡ said (states rule s e)
-said-back {r} {n} {l} rule ahead enough s zero e same = let all : 0 + e ≡ e = omega arith in same ∙ ap (λ j. said (states rule s j)) all
-said-back {r} {n} {l} rule ahead enough s (suc i) e same =
-    let a : State r l _ = states rule s i in
-    let b : State r l _ = states rule s (i + e) in
-    let on : suc i + e ≡ suc (i + e) = omega arith in
-    let next : said (states rule s (suc i)) ≡ said (states rule s (suc (i + e))) = same ∙ ap (λ j. said (states rule s j)) on in
-    let parts = inserted-injective rule ahead l enough a.x b.x a.b b.b a.word b.word a.long b.long a.letter b.letter (a.front ∙ sym b.front)
-    (sym (next_state rule a).1 ∙ next ∙ (next_state rule b).1) in
-    said-back rule ahead enough s i e (ap₂ (λ (w : List ℕ) (c : ℕ). w ++ c ∷ []) parts.0 parts.1)
+said-back : {r : LocalRule} {n : ℕ} {i : ℤ} {x : Config} {s : Config × ℕ} → IsRule r → IsRightAhead r n → IsPut r i x s → (l : ℕ) → r.width - 1 + n ≤ l + 1 → (t e : ℕ)
+    → said r i l (puts r i l s t) ≡ said r i l (puts r i l s (t + e)) → said r i l s ≡ said r i l (puts r i l s e)
+said-back {r} {i = i} {s = s} rule ahead h l enough zero e same = let all : 0 + e ≡ e = omega arith in same ∙ ap (λ j. said r i l (puts r i l s j)) all
+said-back {r} {i = i} {s = s} rule ahead h l enough (suc t) e same =
+    let p : Config × ℕ = puts r i l s t in
+    let q : Config × ℕ = puts r i l s (t + e) in
+    let hp : IsPut r i _ p = IsPut-puts rule h l t in
+    let hq : IsPut r i _ q = IsPut-puts rule h l (t + e) in
+    let on : suc t + e ≡ suc (t + e) = omega arith in
+    let runs = sym (said-next r i l p) ∙ same ∙ ap (λ j. said r i l (puts r i l s j)) on ∙ said-next r i l q in
+    let parts = inserted-injective rule ahead hp.config hq.config i l p.1 q.1 enough hp.letter hq.letter (λ j g. hp.left j g ∙ sym (hq.left j g)) (λ c g. same-run (image_of r (puts r i l s (suc t)).0) (image_of r (puts r i l s (suc (t + e))).0) i i (l + 1) runs c (omega arith)) in
+    said-back rule ahead h l enough t e (ap₂ (λ (w : List ℕ) (c : ℕ). w ++ c ∷ []) (run-same (image_of r p.0) (image_of r q.0) i i l parts.0) parts.1)
 
--- since there are finitely many words, some later state says what the first one says
-comes_back : {r : LocalRule} {n l : ℕ} {z : List ℕ} → (rule : IsRule r) → IsRightAhead r n → r.width - 1 + n ≤ l + 1 → (s : State r l z) → (e : ℕ) × (said s ≡ said (states rule s (suc e)))
-comes_back {r} {n} {l} {z} rule ahead enough s =
-    let found = twice_below (r.states ^ suc l) (λ i. value r.states (said (states rule s i))) (λ i h. said-below i) in
-    let e : ℕ = found.1 - found.0 - 1 in
-    let more : found.1 ≡ found.0 + suc e = omega (arith, found.2) in
-    (e, said-back rule ahead enough s found.0 (suc e) (same found.0 found.1 found.4 ∙ ap (λ j. said (states rule s j)) more))
+-- since there are finitely many words, some later configuration says what the first one says
+comes_back : {r : LocalRule} {n : ℕ} {i : ℤ} {x : Config} {s : Config × ℕ} → IsRule r → IsRightAhead r n → IsPut r i x s → (l : ℕ) → r.width - 1 + n ≤ l + 1 → (e : ℕ) × (said r i l s ≡ said r i l (puts r i l s (suc e)))
+comes_back {r} {i = i} {s = s} rule ahead h l enough =
+    let (t, u, less, most, same) = twice_below (r.states ^ suc l) (λ t. value r.states (said r i l (puts r i l s t))) (λ t g.
+    subst (λ j. value r.states (said r i l (puts r i l s t)) < r.states ^ j) (word t).1 (value-below r.states _ (word t).0)) in
+    let more : u ≡ t + suc (u - t - 1) = omega (arith, less) in
+    (u - t - 1, said-back rule ahead h l enough t (suc (u - t - 1)) (value-injective r.states _ _ (word t).0 (word u).0 ((word t).1 ∙ sym (word u).1) same ∙ ap (λ j. said r i l (puts r i l s j)) more))
   where
-    said-below : (i : ℕ) → value r.states (said (states rule s i)) < r.states ^ suc l
-    said-below i =
-        let is = IsWord-said rule (states rule s i) in
-        subst (λ j. value r.states (said (states rule s i)) < r.states ^ j) is.1 (value-below r.states (said (states rule s i)) is.0)
+    word : (t : ℕ) → IsWord r.states (said r i l (puts r i l s t)) × (length (said r i l (puts r i l s t)) ≡ suc l)
+    word t =
+        let p : Config × ℕ = puts r i l s t in
+        (All-push (λ a. a < r.states) (run (image_of r p.0) i l) p.1 (IsWord-run (IsConfig-image rule p.0) i l) (IsPut-puts rule h l t).letter, omega (arith, length_push (run (image_of r p.0) i l) p.1, length-run (image_of r p.0) i l))
 
-    same : (i j : ℕ) → value r.states (said (states rule s i)) ≡ value r.states (said (states rule s j)) → said (states rule s i) ≡ said (states rule s j)
-    same i j e =
-        let first = IsWord-said rule (states rule s i) in
-        let second = IsWord-said rule (states rule s j) in
-        value-injective r.states (said (states rule s i)) (said (states rule s j)) first.0 second.0 (first.1 ∙ sym second.1) e
-
--- what the next state says has a preimage that begins with z
-state_preimage : {r : LocalRule} {l : ℕ} {z : List ℕ} → (rule : IsRule r) (s : State r l z) (v : List ℕ) → v ≡ said (next_state rule s).0 → (y : List ℕ) × IsPreimage r v y × (take (r.width - 1) y ≡ z)
-state_preimage {r} {l} {z} rule s v e =
-    let in_s : IsInserted r l s.b s.x = IsInserted-word l s.b s.x s.letter s.word s.long in
-    let long : length v ≡ suc l = ap length e ∙ (IsWord-said rule (next_state rule s).0).1 in (
-      inserted r s.b s.x,
-      record { word = in_s.word; long = in_s.long ∙ ap (λ j. j + (r.width - 1)) (sym long); maps = sym (next_state rule s).1 ∙ sym e },
-      in_s.front ∙ s.front,
-    )
-
--- a word that is longer by a letter has a preimage that begins as one of the word, if the word has letters enough
-pub longer_preimage : {r : LocalRule} {n : ℕ} {w x : List ℕ} → IsRule r → IsRightAhead r n → r.width - 1 + n ≤ length w + 1 → IsPreimage r w x → (b : ℕ) → b < r.states
-    → (y : List ℕ) × IsPreimage r (w ++ b ∷ []) y × (take (r.width - 1) y ≡ take (r.width - 1) x)
-longer_preimage {r} {n} {w} {x} rule ahead enough p b hb =
-    let s : State r (length w) (take (r.width - 1) x) = record { x = x; b = b; word = p.word; long = p.long; front = refl; letter = hb } in
-    let (e, back) = comes_back rule ahead enough s in
-    state_preimage rule (states rule s e) (w ++ b ∷ []) (ap (λ v. v ++ b ∷ []) (sym p.maps) ∙ back)
+-- if l letters are enough, some configuration that is equal up to the first node under place i has an image with these letters from place i on and then the letter b
+pub longer : {r : LocalRule} {n : ℕ} {x : Config} → IsRule r → IsRightAhead r n → IsConfig r.states x → (i : ℤ) (l b : ℕ) → r.width - 1 + n ≤ l + 1 → b < r.states
+    → (z : Config) × IsConfig r.states z × ((j : ℤ) → j <ℤ behind r i → z j ≡ x j) × (run (image_of r x) i l ++ b ∷ [] ≡ run (image_of r z) i (l + 1))
+longer {r} {n} {x} rule ahead hx i l b enough hb =
+    let start : IsPut r i x (x, b) = record { config = hx; letter = hb; left = λ j h. refl } in
+    let (e, same) = comes_back rule ahead start l enough in
+    let h = IsPut-puts rule start l (suc e) in
+    ((puts r i l (x, b) (suc e)).0, h.config, h.left, same ∙ said-next r i l (puts r i l (x, b) e))

@@ -1,7 +1,8 @@
 -- The principle that of two tests one passes is needed: it follows if each configuration is an image under one surjective rule, which says of its letters only far away whether they are even or odd.
-use Rattle.std.proofs.Common.{◌≡◌, ◌⊎◌, ℕ, zero, suc, ◌+◌, ◌-◌, ◌%◌, ◌<◌, inl, inr, ⊎_elim, Bool, true, false, List, [], ◌∷◌, ℤ, pos, negsuc, ◌+ℤ◌, refl, sym, ap, ap₂, ◌∙◌, arith, true≢false}
-use Rattle.word_image.proofs.Common.{cases_Bool, cases_eq, All-cons, All-tail, ints, LocalRule, IsRule, IsWord, local_map, IsPreimage, IsSurjective, word_by_test}
-use Rattle.pair_laws.proofs.Common.{image-cut}
+use Rattle.std.proofs.Common.{◌≡◌, ◌⊎◌, ℕ, zero, suc, ◌+◌, ◌%◌, ◌<◌, inl, inr, ⊎_elim, Bool, true, false, [], ◌∷◌, ℤ, pos, negsuc, ◌+ℤ◌, refl, sym, ap, ap₂, ◌∙◌, arith, true≢false}
+use Rattle.word_image.proofs.Common.{cases_Bool, cases_eq, ints, LocalRule, IsRule, local_map, IsSurjective, word_by_test}
+use Rattle.garden_laws.proofs.Examples.{IsPairList-tests}
+use Rattle.garden_laws.proofs.ReachedPairs.{IsSurjective-pair_list}
 use Rattle.tail_config.proofs.Common.{Config, IsConfig}
 use Rattle.config_laws.specs.Maps.{IsOntoMap}
 use Rattle.config_laws.specs.OneOfTwo.{Falls, OneOfTwo, AllOrNot}
@@ -47,53 +48,9 @@ says a b ha hb = each_letter (λ a. Says a b)
     (each_letter (λ b. Says 3 b) (λ e. absurd (omega arith), λ e. absurd (omega arith), λ e. refl) (λ e. absurd (omega arith), λ e. absurd (omega arith), λ e. refl) (λ e. absurd (omega arith), λ e. absurd (omega arith), λ e. refl) (λ e. absurd (omega arith), λ e. absurd (omega arith), λ e. refl) b hb)
     a ha
 
--- the letter that becomes y before b
-abbrev before : ℕ → ℕ → ℕ
-before zero b = b % 2
-before (suc zero) b = 2
-before (suc (suc zero)) b = 3
-before (suc (suc (suc y))) b = 1 - b % 2
-
--- the letter that becomes y before b is below 4, and the rule gives y on it and b
-abbrev Becomes : ℕ → ℕ → Type 0
-Becomes y b = (before y b < 4) × (gives (before y b) b ≡ y)
-
-becomes : (y b : ℕ) → y < 4 → b < 4 → Becomes y b
-becomes y b hy hb = each_letter (λ y. Becomes y b)
-    (each_letter (λ b. Becomes 0 b) (omega arith, refl) (omega arith, refl) (omega arith, refl) (omega arith, refl) b hb)
-    (each_letter (λ b. Becomes 1 b) (omega arith, refl) (omega arith, refl) (omega arith, refl) (omega arith, refl) b hb)
-    (each_letter (λ b. Becomes 2 b) (omega arith, refl) (omega arith, refl) (omega arith, refl) (omega arith, refl) b hb)
-    (each_letter (λ b. Becomes 3 b) (omega arith, refl) (omega arith, refl) (omega arith, refl) (omega arith, refl) b hb)
-    y hy
-
--- the first letter of the preimage of a word that ends with 0, and the others
-abbrev first : List ℕ → ℕ
-first [] = 0
-first (y ∷ w) = before y (first w)
-
-abbrev rest : List ℕ → List ℕ
-rest [] = []
-rest (y ∷ w) = first w ∷ rest w
-
-first-below : (w : List ℕ) → IsWord 4 w → first w < 4
-first-below [] h = omega arith
-first-below (y ∷ w) h = (becomes y (first w) (h 0 0 (omega arith)) (first-below w (All-tail (λ a. a < 4) y w h))).0
-
--- the first letter and the others are a preimage of the word
-IsPreimage-first : (w : List ℕ) → IsWord 4 w → IsPreimage parities w (first w ∷ rest w)
-IsPreimage-first [] h = record { word = word_by_test 4 (0 ∷ []) refl; long = refl; maps = refl }
-IsPreimage-first (y ∷ w) h =
-    let tail : IsWord 4 w = All-tail (λ a. a < 4) y w h in
-    let p : IsPreimage parities w (first w ∷ rest w) = IsPreimage-first w tail in
-    let at : Becomes y (first w) = becomes y (first w) (h 0 0 (omega arith)) (first-below w tail) in
-    record {
-      word = All-cons (λ a. a < 4) (before y (first w)) (first w ∷ rest w) at.0 p.word;
-      long = omega (arith, p.long);
-      maps = image-cut IsRule-parities 1 (before y (first w) ∷ first w ∷ rest w) ∙ ap₂ (λ (a : ℕ) (u : List ℕ). a ∷ u) at.1 p.maps;
-    }
-
+-- all pairs of different letters are a pair list of the rule
 IsSurjective-parities : IsSurjective parities
-IsSurjective-parities w h = (first w ∷ rest w, IsPreimage-first w h)
+IsSurjective-parities = IsSurjective-pair_list {pairs = 1 ∷ 2 ∷ 3 ∷ 4 ∷ 6 ∷ 7 ∷ 8 ∷ 9 ∷ 11 ∷ 12 ∷ 13 ∷ 14 ∷ []} IsRule-parities (IsPairList-tests refl refl refl refl)
 
 -- 0 if both tests pass, and else which doesn't
 abbrev mark : Bool → Bool → ℕ

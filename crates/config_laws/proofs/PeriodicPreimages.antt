@@ -1,10 +1,10 @@
 -- A rule is surjective exactly if all preimages of periodic configurations are periodic: else more configurations than nodes have one image.
-use Rattle.std.proofs.Common.{◌≡◌, ◌⊎◌, ℕ, zero, suc, ◌+◌, ◌-◌, ◌*◌, ◌<◌, ◌≤◌, ◌↔◌, inl, inr, ⊎_elim, List, length, ℤ, pos, ◌+ℤ◌, ◌-ℤ◌, neg_ℤ, unsigned_abs, refl, sym, ap, ◌∙◌, subst, arith, mul_comm, ◌<ℤ◌, ◌≤ℤ◌}
+use Rattle.std.proofs.Common.{◌≡◌, ℕ, zero, suc, ◌+◌, ◌-◌, ◌*◌, ◌≤◌, ◌↔◌, ⊎_elim, List, length, ℤ, pos, ◌+ℤ◌, ◌-ℤ◌, unsigned_abs, refl, sym, ap, ◌∙◌, subst, arith, mul_comm, add-mul, ◌<ℤ◌, ◌≤ℤ◌}
 use Rattle.std.proofs.Math.Path.{fun_ext}
 use Rattle.word_image.proofs.Common.{cases_eq, ints, by_lt_z, mul-le, LocalRule, IsRule, node_count, IsSurjective, IsErasable, ring_letter}
 use Rattle.garden_laws.proofs.Exchange.{IsErasable-long}
 use Rattle.garden_laws.proofs.GardenOfEden.{garden_of_eden}
-use Rattle.tail_config.proofs.Common.{DifferAt, differ_at, Config, IsConfig, image_of}
+use Rattle.tail_config.proofs.Common.{DifferAt, differ_at, Config, IsConfig, image_of, RepeatsRight, RepeatsRight-times, same_right-back}
 use Rattle.config_laws.specs.Periodic.{HasPeriod, HasPeriodicPreimages}
 use Rattle.config_laws.proofs.Images.{image_of-moved}
 use Rattle.config_laws.proofs.Joined.{meeting, meeting-left, meeting-right, IsConfig-meeting, image_of-meeting}
@@ -13,94 +13,39 @@ use Rattle.config_laws.proofs.Exchange.{placed-inside, placed-behind, one_other,
 use Rattle.config_laws.proofs.FewPreimages.{not_many}
 use Rattle.config_laws.proofs.Periods.{rounds, IsConfig-rounds, HasPeriod-rounds, RepeatsRight-period, HasPeriod-times, HasPeriod-image, HasPeriod-ring}
 
--- n steps of d places
-abbrev steps : ℤ → ℕ → ℤ
-steps d zero = pos 0
-steps d (suc n) = steps d n +ℤ d
-
--- a + b steps are a steps and b steps
-steps-add : (d : ℤ) (a b : ℕ) → steps d (a + b) ≡ steps d a +ℤ steps d b
-steps-add d a zero = let all : a + 0 ≡ a = omega arith in ap (steps d) all ∙ omega (arith, ints)
-steps-add d a (suc b) = let all : a + suc b ≡ suc (a + b) = omega arith in ap (steps d) all ∙ omega (arith, ints, steps-add d a b)
-
--- steps of -p places lead to the left
-steps-left : (p n : ℕ) → 1 ≤ p → steps (neg_ℤ (pos p)) (suc n) <ℤ pos 0
-steps-left p zero some = omega (arith, ints)
-steps-left p (suc n) some = omega (arith, ints, steps-left p n some)
-
--- steps of p places lead to the right
-steps-right : (p n : ℕ) → 1 ≤ p → pos 0 <ℤ steps (pos p) (suc n)
-steps-right p zero some = omega (arith, ints)
-steps-right p (suc n) some = omega (arith, ints, steps-right p n some)
-
--- letters that come again one step on come again some steps on
-steps-again : (x : Config) (d : ℤ) → ((i : ℤ) → x (i +ℤ d) ≡ x i) → (n : ℕ) (i : ℤ) → x (i +ℤ steps d n) ≡ x i
-steps-again x d again zero i = let place : i +ℤ pos 0 ≡ i = omega (arith, ints) in ap x place
-steps-again x d again (suc n) i =
-    let place : i +ℤ (steps d n +ℤ d) ≡ (i +ℤ steps d n) +ℤ d = omega (arith, ints) in
-    ap x place ∙ again (i +ℤ steps d n) ∙ steps-again x d again n i
-
--- under a surjective rule, if the image is the same d places on, and the letters 1, 2, 3, .. steps of d places after a place are equal, the letter at the place is too
-one_more : {r : LocalRule} {z : Config} → IsRule r → IsSurjective r → IsConfig r.states z → (d i : ℤ) → ((j : ℤ) → image_of r z (j +ℤ d) ≡ image_of r z j)
-    → (b : ℕ) → ((n : ℕ) → z (i +ℤ steps d (suc n)) ≡ b) → z i ≡ b
-one_more {r} {z} rule every hz d i again b same = ⊎_elim (λ e. e) (λ other. absurd (not_many rule every (λ n j. z (j +ℤ steps d n)) (record {
-  configs = λ n j. hz (j +ℤ steps d n);
+-- under a surjective rule z has the letter of c at a place if it has the letters of c before it, and c and the image of z have one period: else z, moved by one period, by two and so on, is too many configurations with one image
+same_next : {r : LocalRule} {z c : Config} {p : ℕ} → IsRule r → IsSurjective r → IsConfig r.states z → HasPeriod p (image_of r z) → HasPeriod p c
+    → (i : ℤ) → ((j : ℤ) → j <ℤ i → z j ≡ c j) → z i ≡ c i
+same_next {r} {z} {c} {p} rule every hz image period i before = ⊎_elim (λ e. e) (λ other. absurd (not_many rule every (λ n j. z (j +ℤ pos (n * p))) (record {
+  configs = λ n j. hz (j +ℤ pos (n * p));
   differ = λ m n l most. (
-    i -ℤ steps d m,
+    i -ℤ pos (n * p),
     λ e.
-        let all : n ≡ m + suc (n - m - 1) = omega arith in
-        let first : i -ℤ steps d m +ℤ steps d m ≡ i = omega (arith, ints) in
-        let second : i -ℤ steps d m +ℤ steps d n ≡ i +ℤ steps d (suc (n - m - 1)) = omega (arith, ints, ap (steps d) all, steps-add d m (suc (n - m - 1))) in
-        other (sym (ap z first) ∙ e ∙ ap z second ∙ same (n - m - 1)),
+        let q : ℤ = i -ℤ pos (n * p) +ℤ pos (m * p) in
+        let far : 1 * 1 ≤ (n - m) * p = mul-le 1 1 (n - m) p (omega arith) period.some in
+        let all : n ≡ m + (n - m) = omega arith in
+        let turns : n * p ≡ m * p + (n - m) * p = ap (λ a. a * p) all ∙ add-mul m (n - m) p in
+        let here : i -ℤ pos (n * p) +ℤ pos (n * p) ≡ i = omega (arith, ints) in
+        let on : q +ℤ pos ((n - m) * p) ≡ i = omega (arith, ints) in
+        other (sym (ap z here) ∙ sym e ∙ before q (omega (arith, ints)) ∙ sym (RepeatsRight-times (n - m) p c q (RepeatsRight-period period q) q (omega (arith, ints))) ∙ ap c on),
   );
-  one_image = λ n. fun_ext (λ j. shifted n j ∙ sym (shifted 0 j));
-}))) (cases_eq (z i) b)
+  one_image = λ n. fun_ext (λ j. moved n j ∙ sym (moved 0 j));
+}))) (cases_eq (z i) (c i))
   where
-    shifted : (n : ℕ) (j : ℤ) → image_of r (λ k. z (k +ℤ steps d n)) j ≡ image_of r z j
-    shifted n j = image_of-moved r z (steps d n) j ∙ steps-again (image_of r z) d again n j
+    moved : (n : ℕ) (j : ℤ) → image_of r (λ k. z (k +ℤ pos (n * p))) j ≡ image_of r z j
+    moved n j = image_of-moved r z (pos (n * p)) j ∙ RepeatsRight-times n p (image_of r z) j (RepeatsRight-period image j) j (omega (arith, ints))
 
--- under a surjective rule z has the letters of c at numbered places if it has them wherever steps from one of these places lead, but at places with a smaller number
-all_more : {r : LocalRule} {z c : Config} → IsRule r → IsSurjective r → IsConfig r.states z → (d : ℤ) → ((j : ℤ) → image_of r z (j +ℤ d) ≡ image_of r z j) → ((j : ℤ) → c (j +ℤ d) ≡ c j)
-    → (place : ℕ → ℤ) → ((a n : ℕ) → (z (place a +ℤ steps d (suc n)) ≡ c (place a +ℤ steps d (suc n))) ⊎ ((e : ℕ) × (e < a) × (place e ≡ place a +ℤ steps d (suc n))))
-    → (m a : ℕ) → a < m → z (place a) ≡ c (place a)
-all_more rule every hz d again turn place cases zero a l = absurd (omega arith)
-all_more {r} {z} {c} rule every hz d again turn place cases (suc m) a l =
-    one_more rule every hz d (place a) again (c (place a)) (λ n.
-    ⊎_elim (λ same. same) (λ (e, less, is). sym (ap z is) ∙ all_more rule every hz d again turn place cases m e (omega arith) ∙ ap c is) (cases a n)
-    ∙ steps-again c d turn (suc n) (place a))
+-- under a surjective rule z has the letters of c if it has them before some place, and c and the image of z have one period
+same_up_to : {r : LocalRule} {z c : Config} {p : ℕ} → IsRule r → IsSurjective r → IsConfig r.states z → HasPeriod p (image_of r z) → HasPeriod p c
+    → (s : ℤ) → ((j : ℤ) → j <ℤ s → z j ≡ c j) → (a : ℕ) (j : ℤ) → j <ℤ (s +ℤ pos a) → z j ≡ c j
+same_up_to rule every hz image period s before zero j l = before j (omega (arith, ints))
+same_up_to rule every hz image period s before (suc a) j l =
+    let up_to = same_up_to rule every hz image period s before a in
+    by_lt_z j (s +ℤ pos a) (up_to j) (λ h. same_next rule every hz image period j (λ k g. up_to k (omega (arith, ints))))
 
--- the letters of a periodic configuration come again one period back
-one_back : {p : ℕ} {x : Config} → HasPeriod p x → (i : ℤ) → x (i +ℤ neg_ℤ (pos p)) ≡ x i
-one_back {p} {x} h i =
-    let place : i +ℤ neg_ℤ (pos p) +ℤ pos p ≡ i = omega (arith, ints) in
-    sym (h.again (i +ℤ neg_ℤ (pos p))) ∙ ap x place
-
--- under a surjective rule z has the letters of c from a place on if it has them before, and c and the image of z have one period
-same_behind : {r : LocalRule} {z c : Config} {p : ℕ} → IsRule r → IsSurjective r → IsConfig r.states z → HasPeriod p (image_of r z) → HasPeriod p c
-    → (s : ℤ) → ((j : ℤ) → j <ℤ s → z j ≡ c j) → (j : ℤ) → s ≤ℤ j → z j ≡ c j
-same_behind {r} {z} {c} {p} rule every hz image period s before j l =
-    let a : ℕ = unsigned_abs (j -ℤ s) in
-    let here : s +ℤ pos a ≡ j = omega (arith, ints) in
-    subst (λ i. z i ≡ c i) here (all_more rule every hz (neg_ℤ (pos p)) (one_back image) (one_back period) (λ b. s +ℤ pos b) (λ b n.
-    let q : ℤ = s +ℤ pos b +ℤ steps (neg_ℤ (pos p)) (suc n) in
-    by_lt_z q s (λ h. inl (before q h)) (λ h. inr (unsigned_abs (q -ℤ s), omega (arith, ints, steps-left p n period.some), omega (arith, ints)))) (suc a) a (omega arith))
-
--- under a surjective rule z has the letters of c before a place if it has them from there on, and c and the image of z have one period
-same_before : {r : LocalRule} {z c : Config} {p : ℕ} → IsRule r → IsSurjective r → IsConfig r.states z → HasPeriod p (image_of r z) → HasPeriod p c
-    → (s : ℤ) → ((j : ℤ) → s ≤ℤ j → z j ≡ c j) → (j : ℤ) → j <ℤ s → z j ≡ c j
-same_before {r} {z} {c} {p} rule every hz image period s behind j l =
-    let a : ℕ = unsigned_abs (s -ℤ j) - 1 in
-    let here : s -ℤ pos (suc a) ≡ j = omega (arith, ints) in
-    subst (λ i. z i ≡ c i) here (all_more rule every hz (pos p) image.again period.again (λ b. s -ℤ pos (suc b)) (λ b n.
-    let q : ℤ = s -ℤ pos (suc b) +ℤ steps (pos p) (suc n) in
-    by_lt_z q s (λ h. inr (unsigned_abs (s -ℤ q) - 1, omega (arith, ints, steps-right p n period.some), omega (arith, ints))) (λ h. inl (behind q h))) (suc a) a (omega arith))
-
--- under a surjective rule a preimage of y has the period of a loop in it, if y has that period
-HasPeriod-loop : {r : LocalRule} {x y : Config} {i : ℤ} {p : ℕ} → IsRule r → IsSurjective r → IsConfig r.states x → image_of r x ≡ y → HasPeriod p y → IsLoop r x y i p → HasPeriod p x
-HasPeriod-loop {r} {x} {y} {i} {p} rule every hx image period h =
-    subst (HasPeriod p) (fun_ext (λ j. by_lt_z j s
-    (λ l. sym (same_before rule every (IsConfig-meeting hx hc s) (subst (HasPeriod p) (sym second) period) turns s (meeting-right x c s) j l) ∙ meeting-left x c s j l)
-    (λ l. sym (same_behind rule every (IsConfig-meeting hc hx s) (subst (HasPeriod p) (sym first) period) turns s (meeting-left c x s) j l) ∙ meeting-right c x s j l))) turns
+-- under a surjective rule a preimage of y has the period of a loop from the loop on, if y has that period
+RepeatsRight-loop : {r : LocalRule} {x y : Config} {i : ℤ} {p : ℕ} → IsRule r → IsSurjective r → IsConfig r.states x → image_of r x ≡ y → HasPeriod p y → IsLoop r x y i p → RepeatsRight p x (i +ℤ r.offset)
+RepeatsRight-loop {r} {x} {y} {i} {p} rule every hx image period h j l = at (j +ℤ pos p) (omega (arith, ints)) ∙ turns.again j ∙ sym (at j l)
   where
     s : ℤ
     s = i +ℤ r.offset
@@ -108,26 +53,39 @@ HasPeriod-loop {r} {x} {y} {i} {p} rule every hx image period h =
     c : Config
     c = rounds x s p
 
-    hc : IsConfig r.states c
-    hc = IsConfig-rounds hx h.some s
-
     turns : HasPeriod p c
     turns = HasPeriod-rounds x s h.some
 
-    node : (a : ℕ) → a < r.width - 1 → c (s +ℤ pos a) ≡ x (s +ℤ pos a)
-    node a l = rounds-loop h a (omega arith)
+    one : image_of r (meeting c x s) ≡ y
+    one = image_of-meeting r c x i (λ a k. rounds-loop h a (omega arith)) (image_of-rounds h period) image
 
-    first : image_of r (meeting c x s) ≡ y
-    first = image_of-meeting r c x i node (image_of-rounds h period) image
+    at : (k : ℤ) → s ≤ℤ k → x k ≡ c k
+    at k g =
+        let hz : IsConfig r.states (meeting c x s) = IsConfig-meeting (IsConfig-rounds hx h.some s) hx s in
+        sym (meeting-right c x s k g) ∙ same_up_to rule every hz (subst (HasPeriod p) (sym one) period) turns s (meeting-left c x s) (suc (unsigned_abs (k -ℤ s))) k (omega (arith, ints))
 
-    second : image_of r (meeting x c s) ≡ y
-    second = image_of-meeting r x c i (λ a l. sym (node a l)) image (image_of-rounds h period)
-
--- under a surjective rule each preimage of a periodic configuration is periodic, with a period of at most as many periods as there are nodes
+-- under a surjective rule each preimage of a periodic configuration is periodic, with a period of at most as many periods as there are nodes: a loop far on the left has a period too, so the period of one loop goes back to it
 pub HasPeriod-preimage : {r : LocalRule} {x : Config} {p : ℕ} → IsRule r → IsSurjective r → IsConfig r.states x → HasPeriod p (image_of r x) → (l : ℕ) × (1 ≤ l) × (l ≤ node_count r) × HasPeriod (l * p) x
 HasPeriod-preimage {r} {x} {p} rule every hx period =
-    let at : SomeLoop r x (image_of r x) (pos 0) p = some_loop rule hx (pos 0) p period.some (RepeatsRight-period period (pos 0)) (λ a l. refl) in
-    (at.turns, at.some, at.few, HasPeriod-loop rule every hx refl (HasPeriod-times at.turns at.some period) at.loop)
+    let at : SomeLoop r x (image_of r x) (pos 0) p = loop (pos 0) in
+    (at.turns, at.some, at.few, record { some = at.loop.some; again = again at })
+  where
+    loop : (i : ℤ) → SomeLoop r x (image_of r x) i p
+    loop i = some_loop rule hx i p period.some (RepeatsRight-period period i) (λ a l. refl)
+
+    repeats : {i : ℤ} (at : SomeLoop r x (image_of r x) i p) → RepeatsRight (at.turns * p) x (at.place +ℤ r.offset)
+    repeats at = RepeatsRight-loop rule every hx refl (HasPeriod-times at.turns at.some period) at.loop
+
+    again : (at : SomeLoop r x (image_of r x) (pos 0) p) (j : ℤ) → x (j +ℤ pos (at.turns * p)) ≡ x j
+    again at j =
+        let q : ℕ = at.turns * p in
+        let before : SomeLoop r x (image_of r x) (j -ℤ pos (node_count r * p) -ℤ r.offset) p = loop (j -ℤ pos (node_count r * p) -ℤ r.offset) in
+        let t : ℕ = before.turns * p in
+        let moved : RepeatsRight t (λ k. x (k +ℤ pos q)) (before.place +ℤ r.offset) = λ k l.
+        let place : k +ℤ pos t +ℤ pos q ≡ k +ℤ pos q +ℤ pos t = omega (arith, ints) in
+        ap x place ∙ repeats before (k +ℤ pos q) (omega (arith, ints)) in
+        same_right-back (λ k. x (k +ℤ pos q)) x t t (before.place +ℤ r.offset) (at.place +ℤ r.offset) before.loop.some before.loop.some moved (repeats before)
+        (λ k l. repeats at k (omega (arith, ints))) j (omega (arith, ints, before.within))
 
 -- one word of an erasable pair again and again, but for one block, isn't periodic
 one_other-aperiodic : {r : LocalRule} {x y : List ℕ} → IsErasable r x y → 1 ≤ length x → (i p : ℕ) → ¬ HasPeriod p (one_other x y i)

@@ -2,7 +2,7 @@
 use Rattle.std.proofs.Common.{◌≡◌, ℕ, ◌↔◌, List, length, pos, refl, sym, ap, ap₂, ◌∙◌, subst}
 use Rattle.word_image.proofs.Common.{LocalRule, IsRule, IsRing, ring_letter, ring_image, ring_letter-below}
 use Rattle.tail_config.proofs.Common.{Config, IsInjective, run, length-run}
-use Rattle.tail_laws.proofs.NoTwins.{IsInjective-no_twins}
+use Rattle.tail_laws.proofs.Certainty.{IsInjective-no_twins}
 use Rattle.config_laws.specs.Periodic.{HasPeriod}
 use Rattle.config_laws.specs.RingMaps.{IsBijectiveOnRings}
 use Rattle.config_laws.proofs.Bijective.{one_preimage}

@@ -29,6 +29,10 @@ pub record AgreeOutside (x y : Config) (p : ℤ) (l : ℕ) : Type 0 where
   pub before : (j : ℤ) → j <ℤ p → x j ≡ y j
   pub after : (j : ℤ) → (p +ℤ pos l) ≤ℤ j → x j ≡ y j
 
+-- the weight of two runs side by side is the sum of their weights
+pub weight_on-append : (weight : ℕ → ℕ) (x : Config) (i j : ℤ) (a b : ℕ) → i +ℤ pos a ≡ j → weight_on weight x i (a + b) ≡ weight_on weight x i a + weight_on weight x j b
+weight_on-append weight x i j a b e = ap (sum_by weight) (run-append x i j a b e) ∙ sum_by-append weight (run x i a) (run x j b)
+
 -- runs that have all of the letters that may differ differ by their weight
 pub weight_on-outside : (weight : ℕ → ℕ) (x y : Config) (p : ℤ) (l : ℕ) → AgreeOutside x y p l → (i : ℤ) (n : ℕ) → i ≤ℤ p → (p +ℤ pos l) ≤ℤ (i +ℤ pos n)
     → weight_on weight x i n + weight_on weight y p l ≡ weight_on weight y i n + weight_on weight x p l
@@ -38,9 +42,7 @@ weight_on-outside weight x y p l agree i n low high =
     let e : ℤ = p +ℤ pos l in
     let all : n ≡ a + (l + b) = omega (arith, ints) in
     let cut : (z : Config) → weight_on weight z i n ≡ weight_on weight z i a + (weight_on weight z p l + weight_on weight z e b) = λ z.
-    ap (λ j. weight_on weight z i j) all
-    ∙ ap (sum_by weight) (run-append z i p a (l + b) (omega (arith, ints))) ∙ sum_by-append weight (run z i a) (run z p (l + b))
-    ∙ ap (λ j. weight_on weight z i a + j) (ap (sum_by weight) (run-append z p e l b refl) ∙ sum_by-append weight (run z p l) (run z e b)) in
+    ap (weight_on weight z i) all ∙ weight_on-append weight z i p a (l + b) (omega (arith, ints)) ∙ ap (λ j. weight_on weight z i a + j) (weight_on-append weight z p e l b refl) in
     let first : weight_on weight x i a ≡ weight_on weight y i a = ap (sum_by weight) (run-same x y i i a (λ c h. agree.before (i +ℤ pos c) (omega (arith, ints)))) in
     let last : weight_on weight x e b ≡ weight_on weight y e b = ap (sum_by weight) (run-same x y e e b (λ c h. agree.after (e +ℤ pos c) (omega (arith, ints)))) in
     omega (arith, cut x, cut y)

@@ -1,6 +1,6 @@
 -- Under a surjective rule each configuration that repeats far out is the image of one that does: a preimage of many periods passes one node twice, and goes round between for ever.
-use Rattle.std.proofs.Common.{◌≡◌, ℕ, ◌+◌, ◌*◌, ◌<◌, ◌↔◌, List, length, ℤ, pos, ◌+ℤ◌, ◌-ℤ◌, neg_ℤ, unsigned_abs, refl, sym, ap, ◌∙◌, arith, ◌<ℤ◌, ◌≤ℤ◌}
-use Rattle.word_image.proofs.Common.{ints, by_lt_z, LocalRule, IsRule, node_count, mirrored, IsPreimage, IsSurjective, IsRule-mirrored, some_letter}
+use Rattle.std.proofs.Common.{◌≡◌, ℕ, ◌+◌, ◌*◌, ◌<◌, ◌↔◌, length, ℤ, pos, ◌+ℤ◌, ◌-ℤ◌, neg_ℤ, unsigned_abs, refl, sym, ap, ◌∙◌, arith, ◌<ℤ◌, ◌≤ℤ◌}
+use Rattle.word_image.proofs.Common.{ints, by_lt_z, LocalRule, IsRule, node_count, mirrored, IsSurjective, IsRule-mirrored, some_letter}
 use Rattle.tail_config.proofs.Common.{RepeatsRight, Config, IsConfig, run, image_of, zeros}
 use Rattle.config_laws.specs.Sums.{IsFinite}
 use Rattle.config_laws.specs.Repeating.{RepeatsFarLeft, RepeatsFarRight, HasTails, IsOntoTails}
@@ -105,10 +105,9 @@ HasTails-finite {x} ((p, left), (q, right)) = (
 
 -- a rule that takes configurations that repeat far out to all of them takes some word to each
 IsSurjective-tails : {r : LocalRule} → IsRule r → IsOntoTails r → IsSurjective r
-IsSurjective-tails {r} rule onto w hw = found (onto (between_zeros w) (IsConfig-written (some_letter rule) (λ j. some_letter rule) (pos 0) w hw) (HasTails-finite (IsFinite-between w)))
-  where
-    found : (x : Config) × IsConfig r.states x × HasTails x × (image_of r x ≡ between_zeros w) → (z : List ℕ) × IsPreimage r w z
-    found (x, hx, tails, same) = preimage_inside rule hx w (ap (λ z. run z (pos 0) (length w)) same ∙ run-written zeros (pos 0) w)
+IsSurjective-tails {r} rule onto w hw =
+    let (x, hx, tails, same) = onto (between_zeros w) (IsConfig-written (some_letter rule) (λ j. some_letter rule) (pos 0) w hw) (HasTails-finite (IsFinite-between w)) in
+    preimage_inside rule hx w (ap (λ z. run z (pos 0) (length w)) same ∙ run-written zeros (pos 0) w)
 
 -- a rule is surjective exactly if each configuration that repeats far out is the image of one that does
 pub IsSurjective-repeating : {r : LocalRule} → IsRule r → IsSurjective r ↔ IsOntoTails r

@@ -30,7 +30,7 @@
 //!
 //! Conversely, suppose that an open rule has a right split. From the node before the split, two walks write the same
 //! word. Each walk can be continued by anything, for example by a walk back to the node and then by the split again.
-//! After some rounds there are more walks than nodes, and two walks that end at the same node form an erasable pair.
+//! After some rounds there are more walks than nodes, so some word has more preimages than there are nodes.
 //!
 //! An injective rule is open, so it maps the configurations one-to-one onto all configurations, and the rings of each
 //! length, too. It has an inverse map. The composition of two rules is surjective, injective, closing on a side or
@@ -40,8 +40,9 @@
 //! periodic configuration is periodic. To see this, take the nodes of x at places that are one period of the image
 //! apart. Among k^(m - 1) + 1 of these nodes two are equal. Repeat the part of x between these two for ever, and you
 //! have a periodic preimage z. Suppose that x differs from z on the right. Take z to the left of a node and x to the
-//! right of it, and move the node by one period of z, by two, and so on. All these configurations have the same image,
-//! and all differ, so there are too many.
+//! right of it, and move this configuration by one period of z, by two, and so on. All these configurations have the
+//! same image, and all differ, so there are too many. So x is periodic to the right of the node, and there are such
+//! nodes as far to the left as you like.
 //!
 //! Each ring, repeated often enough, is the image of a ring. Take a preimage of a long repetition. Two of its nodes
 //! that are whole repetitions apart are equal. The part between them is a ring, and its image is the first ring,

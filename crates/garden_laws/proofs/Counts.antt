@@ -1,6 +1,6 @@
--- How many of the numbers below a bound pass a test: as many as can be numbered.
-use Rattle.std.proofs.Common.{◌≡◌, ℕ, zero, suc, ◌+◌, ◌-◌, ◌%◌, ◌<◌, ◌≤◌, Bool, true, false, refl, sym, ap, ap₂, ◌∙◌, ⊎_elim, arith, mod-lt, mod-eq_of_lt}
-use Rattle.word_image.proofs.Common.{from_bool, cases_lt, twice_below}
+-- How many of the numbers below a bound pass a test, and which they are.
+use Rattle.std.proofs.Common.{◌≡◌, ℕ, zero, suc, ◌+◌, ◌-◌, ◌<◌, ◌≤◌, Bool, true, false, ltb, lt-ltb, le-ltb, if◌then◌else◌, refl, ap, ap₂, ⊎_elim, arith}
+use Rattle.word_image.proofs.Common.{from_bool, cases_Bool, cases_lt}
 use Rattle.garden_laws.specs.ZeroPairs.{count_below}
 
 -- no number below 0 passes a test
@@ -30,49 +30,28 @@ count_below-less p i j passes less =
 count_below-injective : (p : ℕ → Bool) (i j : ℕ) → p i ≡ true → p j ≡ true → count_below p i ≡ count_below p j → i ≡ j
 count_below-injective p i j hi hj e = grind (arith, count_below-less, cases_lt)
 
--- a number that passes with i before it, if there are more than i
-nth : (p : ℕ → Bool) (n i : ℕ) → i < count_below p n → (v : ℕ) × (v < n) × (p v ≡ true) × (count_below p v ≡ i)
+-- the number that passes with i before it, if one below n does
+abbrev pub nth : (ℕ → Bool) → ℕ → ℕ → ℕ
+nth p zero i = 0
+nth p (suc n) i = if ltb i (count_below p n) then nth p n i else n
+
+-- if more than i numbers below n pass, one passes with i before it
+pub nth-passes : (p : ℕ → Bool) (n i : ℕ) → i < count_below p n → (nth p n i < n) × (p (nth p n i) ≡ true) × (count_below p (nth p n i) ≡ i)
 unfolding count_below
-nth p zero i l = absurd (omega arith)
-nth p (suc n) i l =
+nth-passes p zero i l = absurd (omega arith)
+nth-passes p (suc n) i l =
     ⊎_elim
-    (λ before. let found = nth p n i before in (found.0, omega (arith, found.1), found.2, found.3))
-    (λ last. elim (p n) as (λ b. i < count_below p n + from_bool b → p n ≡ b → (v : ℕ) × (v < suc n) × (p v ≡ true) × (count_below p v ≡ i)) [
-      | true ↦ (λ more is. (n, omega arith, is, omega arith))
-      | false ↦ (λ more is. absurd (omega arith))
-    ] l refl)
+    (λ before. let is = nth-passes p n i before in rw (lt-ltb i (count_below p n) before) (omega (arith, is.0), is.1, is.2))
+    (λ none. let passes : p n ≡ true = ⊎_elim (λ yes. yes) (λ no. absurd (omega (arith, ap from_bool no))) (cases_Bool (p n)) in
+    rw (le-ltb i (count_below p n) none) (omega arith, passes, omega (arith, ap from_bool passes)))
     (cases_lt i (count_below p n))
 
--- as many numbers pass as there are in a list of all that pass, each once
-pub count_below-exact : (p : ℕ → Bool) (n m : ℕ) (at : ℕ → ℕ) → ((i : ℕ) → i < m → (at i < n) × (p (at i) ≡ true)) → ((i j : ℕ) → i < m → j < m → at i ≡ at j → i ≡ j)
-    → ((v : ℕ) → v < n → p v ≡ true → (i : ℕ) × (i < m) × (at i ≡ v)) → count_below p n ≡ m
-count_below-exact p n m at holds apart all =
-    ⊎_elim
-    (λ fewer.
-    let number : ℕ → ℕ = λ i. count_below p (at i) in
-    let within : (i : ℕ) → i ≤ count_below p n → number i < count_below p n = λ i l.
-    let is = holds i (omega arith) in
-    count_below-less p (at i) n is.1 is.0 in
-    let found = twice_below (count_below p n) number within in
-    let first = holds found.0 (omega (arith, found.2, found.3)) in
-    let second = holds found.1 (omega (arith, found.3)) in
-    let same = count_below-injective p (at found.0) (at found.1) first.1 second.1 found.4 in
-    absurd (omega (arith, found.2, apart found.0 found.1 (omega (arith, found.2, found.3)) (omega (arith, found.3)) same)))
-    (λ enough. ⊎_elim
-    (λ more.
-    let some : 0 < m + 1 = omega arith in
-    let place : (i : ℕ) → (v : ℕ) × (v < n) × (p v ≡ true) × (count_below p v ≡ i % (m + 1)) = λ i. nth p n (i % (m + 1)) (omega (arith, mod-lt i some, more)) in
-    let index : (i : ℕ) → (j : ℕ) × (j < m) × (at j ≡ (place i).0) = λ i. all (place i).0 (place i).1 (place i).2 in
-    let found = twice_below m (λ i. (index i).0) (λ i l. (index i).1) in
-    let i : ℕ = found.0 in
-    let j : ℕ = found.1 in
-    let one : (place i).0 ≡ (place j).0 = sym (index i).2 ∙ ap at found.4 ∙ (index j).2 in
-    let first : i % (m + 1) ≡ i = mod-eq_of_lt {n = i} (omega (arith, found.2, found.3)) in
-    let second : j % (m + 1) ≡ j = mod-eq_of_lt {n = j} (omega (arith, found.3)) in
-    absurd (omega (arith, sym (place i).3 ∙ ap (count_below p) one ∙ (place j).3, first, second, found.2)))
-    (λ most. omega arith)
-    (cases_lt m (count_below p n)))
-    (cases_lt (count_below p n) m)
+-- a number that passes has as many before it as its place says, and comes back from there
+pub nth-place : (p : ℕ → Bool) (n a : ℕ) → a < n → p a ≡ true → (count_below p a < count_below p n) × (nth p n (count_below p a) ≡ a)
+nth-place p n a l passes =
+    let few = count_below-less p a n passes l in
+    let is = nth-passes p n (count_below p a) few in
+    (few, count_below-injective p (nth p n (count_below p a)) a is.1 passes is.2)
 
 -- of two tests that agree as many numbers pass the one as the other
 pub count_below-agree : (p q : ℕ → Bool) (n : ℕ) → ((a : ℕ) → a < n → p a ≡ q a) → count_below p n ≡ count_below q n
@@ -93,3 +72,15 @@ count_below-add p n (suc d) =
     let e : n + suc d ≡ n + d + 1 = omega arith in
     let f : suc d ≡ d + 1 = omega arith in
     omega (arith, ap (count_below p) e, count_below-more p (n + d), count_below-add p n d, ap (count_below (λ a. p (n + a))) f, count_below-more (λ a. p (n + a)) d)
+
+-- if a test passes where one of two others does, and those never pass both, its count is the sum of their counts
+pub count_below-split : (p q s : ℕ → Bool) (n : ℕ) → ((a : ℕ) → from_bool (s a) ≡ from_bool (p a) + from_bool (q a)) → count_below s n ≡ count_below p n + count_below q n
+unfolding count_below
+count_below-split p q s zero each = refl
+count_below-split p q s (suc n) each = omega (arith, count_below-split p q s n each, each n)
+
+-- all numbers are counted if all pass
+pub count_below-all : (p : ℕ → Bool) (n : ℕ) → ((a : ℕ) → a < n → p a ≡ true) → count_below p n ≡ n
+unfolding count_below
+count_below-all p zero passes = refl
+count_below-all p (suc n) passes = omega (arith, count_below-all p n (λ a l. passes a (omega arith)), ap from_bool (passes n (omega arith)))

@@ -6,36 +6,36 @@ use Rattle.word_image.specs.Examples.{stay, sum_mod_two}
 use Rattle.garden_laws.specs.Examples.{left_of_three}
 
 -- each number below n passes the test
-abbrev passes_below : ℕ → (ℕ → Bool) → Bool
+abbrev pub passes_below : ℕ → (ℕ → Bool) → Bool
 passes_below n test = list_all test (range_with_len 0 n)
 
 -- all letter pairs pass the test
-abbrev all_letters : LocalRule → (ℕ → ℕ → Bool) → Bool
+abbrev pub all_letters : LocalRule → (ℕ → ℕ → Bool) → Bool
 all_letters r test = passes_below r.states (λ a. passes_below r.states (test a))
 
 -- the list has the pair
-abbrev has : List ℕ → ℕ → Bool
+abbrev pub has : List ℕ → ℕ → Bool
 has pairs p = list_any (eqb p) pairs
 
 -- the list has the pair that follows, if one follows
-abbrev has_some : List ℕ → Option ℕ → Bool
+abbrev pub has_some : List ℕ → Option ℕ → Bool
 has_some pairs None = true
 has_some pairs (Some q) = has pairs q
 
 -- the list has pairs alone
-abbrev below_test : LocalRule → List ℕ → Bool
+abbrev pub below_test : LocalRule → List ℕ → Bool
 below_test r pairs = list_all (λ p. ltb p (pair_count r)) pairs
 
 -- the list has the first pairs of the right
-abbrev firsts_test : LocalRule → List ℕ → Bool
+abbrev pub firsts_test : LocalRule → List ℕ → Bool
 firsts_test r pairs = passes_below (node_count r) (λ u. all_letters r (λ a b. a == b || not (label r u a == label r u b) || has pairs (pair_of r (next r u a) (next r u b))))
 
 -- the list has what follows its pairs
-abbrev closed_test : LocalRule → List ℕ → Bool
+abbrev pub closed_test : LocalRule → List ℕ → Bool
 closed_test r pairs = list_all (λ p. all_letters r (λ a b. has_some pairs (follow r p a b))) pairs
 
 -- the list has no pair of a node with itself
-abbrev apart_test : LocalRule → List ℕ → Bool
+abbrev pub apart_test : LocalRule → List ℕ → Bool
 apart_test r pairs = list_all (λ p. not (first_of r p == second_of r p)) pairs
 
 -- what all pass, each passes
@@ -51,7 +51,7 @@ last_test : (p q s : Bool) → p ≡ false → q ≡ false → (p || q || s) ≡
 last_test p q s first second e = cc
 
 -- a list that passes all four is a pair list
-IsPairList-tests : {r : LocalRule} {pairs : List ℕ} → below_test r pairs ≡ true → firsts_test r pairs ≡ true → closed_test r pairs ≡ true → apart_test r pairs ≡ true → IsPairList r pairs
+pub IsPairList-tests : {r : LocalRule} {pairs : List ℕ} → below_test r pairs ≡ true → firsts_test r pairs ≡ true → closed_test r pairs ≡ true → apart_test r pairs ≡ true → IsPairList r pairs
 IsPairList-tests {r} {pairs} below firsts closed apart = record {
   below = λ p contains. (Decides-ltb p (pair_count r)).0 (passes (λ p. ltb p (pair_count r)) pairs p below contains);
   firsts = λ p first.

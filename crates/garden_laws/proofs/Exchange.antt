@@ -1,9 +1,8 @@
 -- Either word of an erasable pair may stand for the other in any word and in any configuration, and the image stays.
-use Rattle.std.proofs.Common.{◌≡◌, ℕ, ◌+◌, ◌-◌, ◌<◌, ◌≤◌, List, [], ◌∷◌, ◌++◌, length, map, take, drop, refl, sym, ap, ap₂, ◌∙◌, ⊎_elim, arith, append_assoc, ℤ, pos, ◌+ℤ◌, ◌-ℤ◌, unsigned_abs, subst, ◌<ℤ◌, ◌≤ℤ◌, take_all, take_at}
-use Rattle.word_image.proofs.Common.{ints, cases_lt, take-append-le, drop-append-le, take-append-add, drop-append_seam, LocalRule, IsRule, value, word_of, image, IsErasable, word_of-value, moved, but_cases}
+use Rattle.std.proofs.Common.{◌≡◌, ◌≢◌, ℕ, ◌+◌, ◌-◌, ◌<◌, ◌≤◌, List, ◌++◌, length, take, drop, refl, sym, ap, ap₂, ◌∙◌, arith, ℤ, pos, ◌+ℤ◌, ◌-ℤ◌, unsigned_abs, subst, ◌<ℤ◌, ◌≤ℤ◌, length-drop, length-take-le, take_all, take_at}
+use Rattle.word_image.proofs.Common.{ints, cases_lt, take-append-le, drop-append-le, take-append-add, drop-append_seam, All-take, All-drop, LocalRule, IsRule, value, image, HaveOneImage, IsErasable, value-injective}
 use Rattle.tail_config.proofs.Common.{Config, run, image_of, run-same, same-run, run-append, image-run}
 use Rattle.pair_laws.proofs.Common.{image-cut}
-use Rattle.garden_laws.proofs.Blocks.{spread}
 
 -- the image of a word between two others: windows that begin before it see its first m - 1 letters, windows that end behind it its last
 image-between : {r : LocalRule} → IsRule r → (p x s : List ℕ) → r.width - 1 ≤ length x
@@ -18,6 +17,26 @@ image-between {r} rule p x s long =
     image-cut rule (length p) (p ++ (x ++ s))
     ∙ ap₂ (λ (u v : List ℕ). image r u ++ image r v) front (drop-append_seam p (x ++ s))
     ∙ ap (λ z. image r (p ++ take d x) ++ z) (image-cut rule n (x ++ s) ∙ ap₂ (λ (u v : List ℕ). image r u ++ image r v) middle back)
+
+-- two different words with one image that begin with one node, and end with one, are an erasable pair
+pub IsErasable-nodes : {r : LocalRule} {n : ℕ} {x y : List ℕ} → HaveOneImage r n x y → x ≢ y → value r.states (take (r.width - 1) x) ≡ value r.states (take (r.width - 1) y)
+    → value r.states (drop n x) ≡ value r.states (drop n y) → IsErasable r x y
+IsErasable-nodes {r} {n} {x} {y} h other first last =
+    let d : ℕ = r.width - 1 in
+    let Below : ℕ → Type 0 = λ a. a < r.states in
+    let place : (z : List ℕ) → length z ≡ n + d → length z - d ≡ n = λ z e. omega arith in
+    let front = value-injective r.states (take d x) (take d y) (All-take Below d x h.first) (All-take Below d y h.second)
+    (length-take-le d x (omega (arith, h.first_long)) ∙ sym (length-take-le d y (omega (arith, h.second_long)))) first in
+    let back = value-injective r.states (drop n x) (drop n y) (All-drop Below n x h.first) (All-drop Below n y h.second) (omega (arith, length-drop n x, length-drop n y, h.first_long, h.second_long)) last in
+    record {
+      first = h.first;
+      second = h.second;
+      one_length = h.first_long ∙ sym h.second_long;
+      different = other;
+      one_image = h.one_image;
+      same_front = front;
+      same_back = ap (λ i. drop i x) (place x h.first_long) ∙ back ∙ ap (λ i. drop i y) (sym (place y h.second_long));
+    }
 
 -- an erasable word has more than m - 1 letters
 pub IsErasable-long : {r : LocalRule} {x y : List ℕ} → IsErasable r x y → r.width - 1 < length x
@@ -47,24 +66,3 @@ image_of-exchange {r} {x} {y} {f} {g} rule h s at_f at_g before after j =
     let under : o +ℤ r.offset ≡ i = omega (arith, ints) in
     subst (λ k. image_of r f k ≡ image_of r g k) (omega (arith, ints))
     (same-run (image_of r f) (image_of r g) o o n (sym (image-run rule f o i n under) ∙ same ∙ image-run rule g o i n under) (unsigned_abs (j -ℤ o)) (omega (arith, ints)))
-
--- x may stand for every block y at once
-pub image-replaced : {r : LocalRule} {x y : List ℕ} → IsRule r → IsErasable r x y → (p ds s : List ℕ)
-    → image r (p ++ (spread r.states (length x) ds ++ s)) ≡ image r (p ++ (spread r.states (length x) (map (moved (value r.states y) (value r.states x)) ds) ++ s))
-image-replaced rule h p [] s = refl
-image-replaced {r} {x} {y} rule h p (d ∷ ds) s =
-    let k : ℕ = r.states in
-    let l : ℕ = length x in
-    let new : ℕ → ℕ = moved (value k y) (value k x) in
-    let after : List ℕ = spread k l (map new ds) ++ s in
-    let word_y : word_of k l (value k y) ≡ y = ap (λ n. word_of k n (value k y)) h.one_length ∙ word_of-value k y h.second in
-    let cut : (c : ℕ) (es : List ℕ) → p ++ (spread k l (c ∷ es) ++ s) ≡ p ++ (word_of k l c ++ (spread k l es ++ s)) = λ c es. ap (λ z. p ++ z) (append_assoc (word_of k l c) (spread k l es) s) in
-    ap (image r) (cut d ds ∙ sym (append_assoc p (word_of k l d) (spread k l ds ++ s)))
-    ∙ image-replaced rule h (p ++ word_of k l d) ds s
-    ∙ ap (image r) (append_assoc p (word_of k l d) after)
-    ∙ ⊎_elim
-    (λ at. ap (λ w. image r (p ++ (w ++ after))) (ap (word_of k l) at.0 ∙ word_y) ∙ sym (image-exchange rule h p after)
-    ∙ ap (λ w. image r (p ++ (w ++ after))) (sym (ap (word_of k l) at.1 ∙ word_of-value k x h.first)))
-    (λ at. ap (λ c. image r (p ++ (word_of k l c ++ after))) (sym at.1))
-    (but_cases (λ c. c) (value k y) (value k x) d)
-    ∙ ap (image r) (sym (cut (new d) (map new ds)))

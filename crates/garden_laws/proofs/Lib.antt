@@ -1,15 +1,14 @@
-pub mod Powers
-pub mod Blocks
-pub mod Exchange
-pub mod Orphans
-pub mod GardenOfEden
+pub mod Injections
+pub mod Counts
+pub mod Numbered
 pub mod PairEnds
+pub mod Exchange
+pub mod CountedPreimages
+pub mod Balance
+pub mod GardenOfEden
 pub mod ReachedPairs
 pub mod Preinjective
-pub mod Numbered
-pub mod Balance
-mod Examples
-pub mod Counts
+pub mod Examples
 pub mod TestedWords
 pub mod EvenTables
 pub mod ZeroPairs

@@ -1,8 +1,11 @@
 -- Two words with one image by the pair of their last nodes: one more letter each is a step from this pair.
-use Rattle.std.proofs.Common.{◌≡◌, ℕ, ◌+◌, ◌-◌, ◌<◌, List, [], ◌∷◌, ◌++◌, length, take, drop, get_or, Some, sym, ap, ap₂, ◌∙◌, arith}
-use Rattle.word_image.proofs.Common.{same_from_push, LocalRule, IsRule, value, image, HaveOneImage, next, label, follow, pair_of, first_of, second_of, split_last, value-next}
+use Rattle.std.proofs.Common.{◌≡◌, ℕ, ◌+◌, ◌-◌, ◌<◌, List, [], ◌∷◌, ◌++◌, length, take, drop, get_or, Some, sym, ap, ap₂, ◌∙◌, arith, length-drop}
+use Rattle.word_image.proofs.Common.{same_from_push, All-drop, LocalRule, IsRule, IsWord, value, node_count, image, HaveOneImage, next, label, follow, pair_of, first_of, second_of, split_last, value-next, value-node}
 use Rattle.pair_laws.proofs.Common.{HaveOneImage-take, image-push, HaveOneImage-push, first_of-pair_of, second_of-pair_of, follow-some}
-use Rattle.garden_laws.proofs.Blocks.{last-below}
+
+-- the last m - 1 letters of a word are a node
+pub last-below : (r : LocalRule) (n : ℕ) (x : List ℕ) → IsWord r.states x → length x ≡ n + (r.width - 1) → value r.states (drop n x) < node_count r
+last-below r n x h long = value-node r (drop n x) (All-drop (λ a. a < r.states) n x h) (omega (arith, length-drop n x))
 
 -- the pair of the nodes behind the first n letters of two words
 abbrev pub pair_behind : LocalRule → ℕ → List ℕ → List ℕ → ℕ

@@ -1,13 +1,12 @@
 -- The pairs that are reached from the first pairs of the right: none of them has two equal nodes exactly where the rule is surjective. So a pair list proves surjectivity.
-use Rattle.std.proofs.Common.{◌≡◌, ◌≢◌, ℕ, zero, suc, ◌+◌, ◌-◌, ◌<◌, ◌⊎◌, inl, inr, ◌↔◌, List, [], ◌∷◌, ◌++◌, length, take, drop, Contains, Some, refl, sym, ap, ap₂, ◌∙◌, subst, ⊎_elim, arith, length-drop, take_all}
-use Rattle.word_image.proofs.Common.{cases_eq, take-append-le, same_from_push, All-drop, LocalRule, IsRule, value, word_of, IsSurjective, HaveOneImage, next, label, follow, pair_of, first_of, second_of, pair_count, IsErasable, IsPairList, IsFirstOfRight, value-injective, length-word_of, IsWord-word_of, value-word_of}
+use Rattle.std.proofs.Common.{◌≡◌, ◌≢◌, ℕ, zero, suc, ◌+◌, ◌-◌, ◌<◌, ◌⊎◌, inl, inr, ◌↔◌, List, [], ◌∷◌, ◌++◌, length, take, drop, Contains, Some, refl, sym, ap, ap₂, ◌∙◌, subst, ⊎_elim, arith, take_all}
+use Rattle.word_image.proofs.Common.{cases_eq, take-append-le, same_from_push, LocalRule, IsRule, value, word_of, IsSurjective, HaveOneImage, next, label, follow, pair_of, first_of, second_of, pair_count, IsErasable, IsPairList, IsFirstOfRight, length-word_of, IsWord-word_of, value-word_of}
 use Rattle.pair_laws.proofs.Common.{HaveOneImage-none, follow-pair_of, follow-below, IsFirstOfRight-below}
 use Rattle.garden_laws.specs.ReachedPairs.{IsReached}
 use Rattle.garden_laws.specs.ReachedPairs.IsReached.{First, On}
-use Rattle.garden_laws.proofs.Blocks.{last-below}
-use Rattle.garden_laws.proofs.Exchange.{IsErasable-long}
+use Rattle.garden_laws.proofs.Exchange.{IsErasable-long, IsErasable-nodes}
 use Rattle.garden_laws.proofs.GardenOfEden.{IsSurjective-none_erasable, none_erasable-surjective}
-use Rattle.garden_laws.proofs.PairEnds.{pair_behind, first_of-behind, second_of-behind, HaveOneImage-follow, IsPush-some}
+use Rattle.garden_laws.proofs.PairEnds.{last-below, pair_behind, first_of-behind, second_of-behind, HaveOneImage-follow, IsPush-some}
 
 -- with one letter more at the end, two words begin alike exactly where they did
 take-push : {r : LocalRule} {n : ℕ} {x y : List ℕ} (a b : ℕ) → HaveOneImage r n x y → take (r.width - 1) (x ++ a ∷ []) ≡ take (r.width - 1) (y ++ b ∷ []) ↔ (take (r.width - 1) x ≡ take (r.width - 1) y)
@@ -87,23 +86,9 @@ words-reached rule (On p a b q reached ha hb f) =
 
 -- if the pair has two equal nodes, the words are an erasable pair
 pub IsErasable-words : {r : LocalRule} {p : ℕ} → (w : ReachingWords r p) → first_of r p ≡ second_of r p → IsErasable r w.x w.y
-IsErasable-words {r} {p} w same =
+IsErasable-words {r} w same =
     let h = w.one_image in
-    let Below : ℕ → Type 0 = λ a. a < r.states in
-    let first : value r.states (drop w.n w.x) ≡ first_of r p = sym (first_of-behind h) ∙ ap (first_of r) w.pair in
-    let second : value r.states (drop w.n w.y) ≡ second_of r p = sym (second_of-behind h) ∙ ap (second_of r) w.pair in
-    let back = value-injective r.states (drop w.n w.x) (drop w.n w.y) (All-drop Below w.n w.x h.first) (All-drop Below w.n w.y h.second)
-    (omega (arith, length-drop w.n w.x, length-drop w.n w.y, h.first_long, h.second_long)) (first ∙ same ∙ sym second) in
-    let place : (z : List ℕ) → length z ≡ w.n + (r.width - 1) → length z - (r.width - 1) ≡ w.n = λ z e. omega arith in
-    record {
-      first = h.first;
-      second = h.second;
-      one_length = h.first_long ∙ sym h.second_long;
-      different = w.different;
-      one_image = h.one_image;
-      same_front = w.same_front;
-      same_back = ap (λ i. drop i w.x) (place w.x h.first_long) ∙ back ∙ ap (λ i. drop i w.y) (sym (place w.y h.second_long));
-    }
+    IsErasable-nodes h w.different (ap (value r.states) w.same_front) (sym (first_of-behind h) ∙ ap (first_of r) w.pair ∙ same ∙ sym (sym (second_of-behind h) ∙ ap (second_of r) w.pair))
 
 -- an erasable pair is two words with one image
 pub HaveOneImage-erasable : {r : LocalRule} {x y : List ℕ} → IsErasable r x y → HaveOneImage r (length x - (r.width - 1)) x y

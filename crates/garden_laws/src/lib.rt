@@ -8,12 +8,15 @@
 //! So some word has no preimage, for example 101. The sum of two cells modulo 2 has no erasable pair, since the first
 //! letter of a word and its image determine all other letters.
 //!
-//! Both directions of the theorem are proved by counting words that consist of j blocks of l letters. Let
-//! N = k^(m - 1), q = k^l - 1 and j = q N. Only q^j of these words avoid a given block, and q^j N is less than k^(j l).
-//! First suppose that an orphan, which is a word without a preimage, has l letters. Every image avoids the orphan, so
-//! there are few images. Hence two words with the same ends have the same image. Now suppose that the words of an
-//! erasable pair have l letters. The words that avoid one of these two words already give all images, so there are few
-//! images. Hence some word has no preimage.
+//! Both directions of the theorem are proved by counting preimages. Let N = k^(m - 1). All words of l letters together
+//! have N k^l preimages, so each has N on average. Let w be a word with c preimages. Any two preimages of w, one behind
+//! the other, are a preimage of a word w v w, where v has m - 1 letters. So the N words w v w together have c^2
+//! preimages. If c is greater than N, one of them has more than c preimages. If c is less than N, one of them has fewer
+//! than c. First suppose that there is an orphan, which is a word without a preimage. Then another word of its length
+//! has more than N preimages, so some longer word has more than N^2. Two of these preimages have the same ends, so they
+//! are an erasable pair. Now suppose that there is an erasable pair. Write one of its words N times in a row, and
+//! replace any one of these N words by the other word of the pair. The image stays the same, so it has more than N
+//! preimages. Then another word of its length has fewer than N, so some longer word has none.
 //!
 //! An erasable pair is also a walk of pairs of nodes of the de Bruijn graph. A first pair on the right consists of two
 //! nodes that two different letters reach from the same node, along edges with equal labels. A pair of nodes is reached

@@ -8,10 +8,10 @@ pub use Rattle.tail_config.specs.TailTexts.{HasParts, IsShortTail, Spells}
 pub use Rattle.tail_config.specs.TailValues.{IsAcceptedTail, TailOver, config_of}
 pub use Rattle.tail_config.specs.Tails.{AgreeLeft, AgreeRight, Different, IsInjective, IsLeftClosing, IsOpen, IsRightClosing, IsRightSplit, IsTail, Same, ShareImage, TailConfig, cell, cells, image_cell, mirror_of}
 pub use Rattle.tail_config.proofs.laws.Cells.{IsTail-inside_zeros, IsWord-zero, cell-below, cell-middle, cell-right, cells-left, cells-middle, cells-right, inside_zeros, same_left_part}
-pub use Rattle.tail_config.proofs.laws.Decisions.{Different-from_not_same, agree_left_or_not, agree_right_or_not, same_or_different}
+pub use Rattle.tail_config.proofs.laws.Decisions.{Different-from_not_same, same_or_different}
 pub use Rattle.tail_config.proofs.laws.Differences.{DifferAt, DifferAt-different, differ_at, same_or_differ}
 pub use Rattle.tail_config.proofs.laws.Mirror.{IsTail-mirror, cell-mirror, image_of-backwards}
-pub use Rattle.tail_config.proofs.laws.Periods.{RepeatsLeft, RepeatsLeft-times, RepeatsRight, RepeatsRight-times, at_run, left_from, repeats-mod, right_from, same_right-back, same_right-period}
+pub use Rattle.tail_config.proofs.laws.Periods.{RepeatsLeft, RepeatsLeft-times, RepeatsRight, RepeatsRight-times, at_run, same_right-back, same_right-period}
 pub use Rattle.tail_config.proofs.laws.Repeats.{cell-left_period, cell-right_period, image_of-right_period}
 pub use Rattle.tail_config.proofs.laws.Runs.{HaveOneImage-run, IsWord-run, drop-run, get_or-run, image-run, image_of-window, last-run, length-run, run-append, run-by_letters, run-cons, run-push, run-same, same-run, slice_range-run, take-run}
 pub use Rattle.tail_config.proofs.laws.TailTexts.{HasParts-unique, Spells-word_text}

@@ -1,18 +1,17 @@
 -- Every rule has a determined window or twins, and on each side a look-ahead or a normal split (Amoroso and Patt 1972, Sutner 1991).
-use Rattle.std.proofs.Common.{◌≡◌, ◌≢◌, ◌⊎◌, ℕ, ◌<◌, inl, inr, refl, ⊎_elim, subst, arith, ◌↔◌}
-use Rattle.word_image.proofs.Common.{cases_eq, cases_lt, LocalRule, IsRule, node_count, IsDetermined, IsRightAhead, next, label, first_of, second_of, pair_count, BeginTogether, next-below, IsRule-mirrored, PairGoes, IsLeftAhead, seen_from, some_below, decide_both, exists_below}
+use Rattle.std.proofs.Common.{◌≡◌, ◌≢◌, ◌⊎◌, ℕ, ◌<◌, List, neg_ℤ, inl, inr, refl, ⊎_elim, subst, arith, ◌↔◌}
+use Rattle.word_image.proofs.Common.{cases_eq, cases_lt, LocalRule, IsRule, mirrored, node_count, IsDetermined, IsTwins, IsRightAhead, next, label, first_of, second_of, pair_count, BeginTogether, next-below, IsRule-mirrored, PairGoes, IsLeftAhead, seen_from, some_below, decide_both, exists_below}
 use Rattle.word_image.specs.declared.side.Side.{Side}
 use Rattle.word_image.specs.declared.side.Side.TheVariants.{Right, Left}
 use Rattle.pair_laws.proofs.Common.{HasEndlessFirst, first_of-below, second_of-below, PairGoes-pair_of, Together-decide, IsDetermined-none_both_ways, some_ahead, no_ahead}
-use Rattle.tail_config.proofs.Common.{IsInjective, IsRightClosing, IsLeftClosing}
+use Rattle.tail_config.proofs.Common.{TailConfig, IsInjective, IsRightClosing, IsLeftClosing, IsNormalRightSplit, cell, mirror_of, cell-below}
 use Rattle.tail_laws.specs.Closing.{IsClosing}
-use Rattle.tail_laws.proofs.Injective.{IsInjective-determined}
+use Rattle.tail_laws.proofs.Injective.{IsInjective-determined, agree_determined}
 use Rattle.tail_laws.proofs.Closing.{IsRightClosing-ahead}
-use Rattle.tail_laws.proofs.Sides.{IsLeftClosing-mirrored, IsLeftClosing-ahead}
+use Rattle.tail_laws.proofs.Sides.{flip, same_from_mirrored, IsLeftClosing-ahead, IsLeftSplit-mirror}
 use Rattle.tail_laws.proofs.TwinTails.{no_twins}
-use Rattle.tail_laws.proofs.NoTwins.{HasTwins}
-use Rattle.tail_laws.proofs.Verdicts.{IsRightClosing-none}
-use Rattle.tail_laws.proofs.EndlessPairs.{HasNormalSplit, normal_split-begins, has_twins-both_ways}
+use Rattle.tail_laws.proofs.Verdicts.{IsRightClosing-none, IsLeftClosing-none}
+use Rattle.tail_laws.proofs.EndlessPairs.{HasNormalSplit, normal_split-begins, HasTwins, has_twins-both_ways}
 
 -- a rule has a determined window
 abbrev pub HasWindow : LocalRule → Type 0
@@ -40,6 +39,13 @@ window_or_twins {r} rule =
     ⊎_elim (λ h. inr (has_twins-both_ways rule h.2.1.0 h.2.1.1.0 h.2.1.1.1))
     (λ none. inl (_, _, IsDetermined-none_both_ways rule (λ p l other endless. none p l (l, (other, (endless.ends (pair_count r), endless.begins (pair_count r)))))))
     (some_below (λ p. (p < pair_count r) × IsLongBothWays r p) (long_or_not rule) (pair_count r))
+
+-- a rule is injective exactly where it has no twins
+pub IsInjective-no_twins : {r : LocalRule} → IsRule r → IsInjective r ↔ ((x y : List ℕ) → ¬ IsTwins r x y)
+IsInjective-no_twins {r} rule = (
+  λ injective x y twins. no_twins twins injective,
+  λ none. ⊎_elim (λ w. IsInjective-determined rule w.2) (λ t. absurd (none t.0 t.1 t.2)) (window_or_twins rule),
+)
 
 -- a rule is injective exactly where it has a determined window
 pub IsInjective-window : {r : LocalRule} → IsRule r → IsInjective r ↔ HasWindow r
@@ -85,19 +91,40 @@ ahead_or_split {r} rule =
     ))))
     (some_below (λ node. (a : ℕ) × (a < r.states) × ((b : ℕ) × (b < r.states) × IsLongFirst r node a b)) letters (node_count r))
 
+-- a rule is right-closing exactly where it has no normal right split
+pub IsRightClosing-no_normal : {r : LocalRule} → IsRule r → IsRightClosing r ↔ ((x y : TailConfig) → ¬ IsNormalRightSplit r x y)
+IsRightClosing-no_normal {r} rule = (
+  λ closing x y s. (IsRightClosing-none r).0 closing x y s.split,
+  λ none. ⊎_elim (λ a. IsRightClosing-ahead rule a.1) (λ s. absurd (none s.0 s.1 s.2)) (ahead_or_split rule),
+)
+
 -- a rule is right-closing exactly where it looks ahead to the right
 pub IsRightClosing-window : {r : LocalRule} → IsRule r → IsRightClosing r ↔ ((n : ℕ) × IsRightAhead r n)
 IsRightClosing-window {r} rule = (
-  λ closing. ⊎_elim (λ a. a) (λ s. absurd ((IsRightClosing-none r).0 closing s.0 s.1 s.2.split)) (ahead_or_split rule),
+  λ closing. ⊎_elim (λ a. a) (λ s. absurd ((IsRightClosing-no_normal rule).0 closing s.0 s.1 s.2)) (ahead_or_split rule),
   λ a. IsRightClosing-ahead rule a.1,
 )
+
+-- a rule is injective if the mirrored rule is
+pub IsInjective-from_mirrored : {r : LocalRule} → IsRule r → IsInjective (mirrored r) → IsInjective r
+IsInjective-from_mirrored {r} rule injective x y hx hy share =
+    let window = (IsInjective-window (IsRule-mirrored rule)).0 injective in
+    same_from_mirrored rule (cell-below hx) (cell-below hy) share
+    (agree_determined {r = mirrored r} {x = flip (cell x)} {y = flip (cell y)} (IsRule-mirrored rule) window.2 (λ j. cell-below hx (neg_ℤ j)) (λ j. cell-below hy (neg_ℤ j)))
 
 -- a rule is left-closing exactly where it looks ahead to the left
 pub IsLeftClosing-window : {r : LocalRule} → IsRule r → IsLeftClosing r ↔ ((n : ℕ) × IsLeftAhead r n)
 IsLeftClosing-window {r} rule = (
-  λ closing. (IsRightClosing-window (IsRule-mirrored rule)).0 ((IsLeftClosing-mirrored rule).0 closing),
+  λ closing. ⊎_elim (λ a. a) (λ s. absurd ((IsLeftClosing-none r).0 closing (mirror_of s.0) (mirror_of s.1) (IsLeftSplit-mirror rule s.2.middles s.2.split))) (ahead_or_split (IsRule-mirrored rule)),
   λ a. IsLeftClosing-ahead rule a.1,
 )
+
+-- a rule is left-closing exactly where the mirrored rule is right-closing
+pub IsLeftClosing-mirrored : {r : LocalRule} → IsRule r → IsLeftClosing r ↔ IsRightClosing (mirrored r)
+IsLeftClosing-mirrored {r} rule =
+    let left = IsLeftClosing-window rule in
+    let right = IsRightClosing-window (IsRule-mirrored rule) in
+    (λ closing. right.1 (left.0 closing), λ closing. left.1 (right.0 closing))
 
 -- a rule closes on a side exactly where it looks ahead there
 pub closing_ahead : (side : Side) {r : LocalRule} → IsRule r → IsClosing side r ↔ ((n : ℕ) × IsRightAhead (seen_from side r) n)

@@ -1,17 +1,16 @@
 -- Nodes that begin or end together for as long as there are pairs give loops, and loops give splits and twins.
-use Rattle.std.proofs.Common.{◌≡◌, ◌≢◌, ℕ, ◌-◌, ◌<◌, List, ◌++◌, length, take, drop, ℤ, pos, ◌+ℤ◌, ◌-ℤ◌, refl, sym, ap, ap₂, ◌∙◌, subst, subst₂, arith, length-drop, length-append, take_at, zip}
-use Rattle.word_image.proofs.Common.{ints, same_from_place, All-append, All-drop, LocalRule, IsRule, IsWord, value, node_count, pair_of, follow, pair_count, BeginTogether, EndTogether, IsFirstOfRight, PairGoes}
-use Rattle.pair_laws.proofs.Walks.{LeadTogether, LeadTogether-first, LeadTogether-last}
+use Rattle.std.proofs.Common.{◌≡◌, ◌≢◌, ℕ, ◌+◌, ◌-◌, ◌<◌, List, length, drop, pos, refl, sym, ap, ap₂, ◌∙◌, subst, subst₂, ⊎_elim, arith, length-drop, zip}
+use Rattle.word_image.proofs.Common.{cases_eq, All-drop, LocalRule, IsRule, IsWord, pair_of, pair_count, IsRing, IsTwins, BeginTogether, EndTogether, IsFirstOfRight, PairGoes}
 use Rattle.word_image.specs.declared.side.Side.TheVariants.{Right}
+use Rattle.pair_laws.proofs.Walks.{LeadTogether, LeadTogether-first, LeadTogether-join}
 use Rattle.pair_laws.proofs.Common.{BeginTogether-walk, EndTogether-walk, pair_of-first_of, Loops-long}
-use Rattle.tail_config.proofs.Common.{TailConfig, IsTail, Different, cells, cell, IsNormalRightSplit, run-same, take-run, cells-middle, Different-from_not_same}
-use Rattle.tail_laws.proofs.Nodes.{node_at, node_at-below}
-use Rattle.search_laws.proofs.Common.{LetterPairStep, Walk-join}
-use Rattle.tail_laws.proofs.PairLeads.{PairLeads, pair_at, cells-PairLeads}
-use Rattle.tail_laws.proofs.WordWalks.{PairLeads-words, zip-append}
-use Rattle.tail_laws.proofs.FirstPairs.{LeadsToLoop, normal_split-loop}
-use Rattle.tail_laws.proofs.TwoLoops.{pair_at-loop, has_twins-loops}
-use Rattle.tail_laws.proofs.NoTwins.{HasTwins}
+use Rattle.tail_config.proofs.Common.{TailConfig, IsNormalRightSplit}
+use Rattle.tail_laws.proofs.TwinTails.{round}
+use Rattle.tail_laws.proofs.Nodes.{node_at}
+use Rattle.tail_laws.proofs.PairLeads.{PairLeads}
+use Rattle.tail_laws.proofs.TwinWalks.{node_at-loop, IsTwins-walk}
+use Rattle.tail_laws.proofs.WordWalks.{PairLeads-words}
+use Rattle.tail_laws.proofs.FirstPairs.{LeadsToLoop, normal_split-loop, LeadTogether-diagonal}
 
 -- the letters of a walk of n steps from the nodes u and v to the nodes s and t
 pub record IsLetterWalk (r : LocalRule) (u v n s t : ℕ) : Type 0 where
@@ -70,48 +69,46 @@ normal_split-begins {r} {p} rule f h =
     let w : LeadsToLoop r p = subst (LeadsToLoop r) (pair_of-first_of r p) (LeadsToLoop-begin rule h) in
     (_, _, normal_split-loop rule f w)
 
--- two configurations that go through the pair of two different nodes are different
-Different-nodes : {r : LocalRule} {x y : TailConfig} → IsRule r → IsTail r.states x → IsTail r.states y → (i : ℤ) (u v : ℕ) → v < node_count r → u ≢ v → pair_at r x y i ≡ pair_of r u v → Different x y
-Different-nodes {r} {x} {y} rule hx hy i u v hv other e =
-    let nodes = same_from_place (node_at r x i) (node_at r y i) u v (node_count r) (node_at-below rule hy i) hv e in
-    let start : ℤ = i -ℤ pos (r.width - 1) in
-    Different-from_not_same hx hy (λ same.
-    other (sym nodes.0 ∙ ap (value r.states) (run-same (cell x) (cell y) start start (r.width - 1) (λ a l. same (start +ℤ pos a))) ∙ nodes.1))
+-- a rule has twins
+abbrev pub HasTwins : LocalRule → Type 0
+HasTwins r = (x : List ℕ) × (y : List ℕ) × IsTwins r x y
 
--- the configuration with two words between its periods
-IsTail-words : {k : ℕ} {x z : List ℕ} (v w : List ℕ) → IsWord k x → IsWord k v → IsWord k w → IsWord k z → 0 < length x → 0 < length z → IsTail k (record { left = x; middle = v ++ w; right = z })
-IsTail-words {k} v w x_word v_word w_word z_word x_some z_some = record {
-  left_some = x_some;
-  right_some = z_some;
-  left_word = x_word;
-  middle_word = All-append (λ c. c < k) v w v_word w_word;
-  right_word = z_word;
-}
+-- a walk from two different nodes back to them gives twins
+has_twins-round : {r : LocalRule} {u v n : ℕ} → IsRule r → u ≢ v → 0 < n → LeadTogether r u v n u v → HasTwins r
+has_twins-round {r} {u} {v} rule other some walk =
+    let w = IsLetterWalk-walk rule walk in
+    let nodes = LeadTogether-first walk in
+    let first : IsRing r.states w.a = record { word = w.a_word; some = omega (arith, w.a_long) } in
+    let second : IsRing r.states w.b = record { word = w.b_word; some = omega (arith, w.b_long) } in
+    let long : length w.a ≡ length w.b = w.a_long ∙ sym w.b_long in
+    let at = node_at-loop rule first second long u v nodes.0 nodes.1 w.leads in (
+      w.a,
+      w.b,
+      (IsTwins-walk rule).1 (record {
+        first = first;
+        second = second;
+        one_length = long;
+        different = λ e. other (sym at.0 ∙ ap (λ p. node_at r (round p) (pos 0)) e ∙ at.1);
+        u = u;
+        v = v;
+        in_nodes = nodes;
+        loop = w.leads;
+      }),
+    )
 
--- two different nodes that end and begin together for as long as there are pairs give twins
+-- two different nodes that end and begin together for as long as there are pairs give twins: before and after them are loops, and if each loop is at one node twice a walk leads from the second back to the first
 pub has_twins-both_ways : {r : LocalRule} {u v : ℕ} → IsRule r → u ≢ v → EndTogether r u v (pair_count r) → BeginTogether r u v (pair_count r) → HasTwins r
 has_twins-both_ways {r} {u} {v} rule other back on =
     let from = Loops-long rule (omega arith) (EndTogether-walk back).2 in
     let to = Loops-long rule (omega arith) (BeginTogether-walk on).2 in
-    let before = IsLetterWalk-walk rule from.loop in
-    let way = IsLetterWalk-walk rule from.after in
-    let out = IsLetterWalk-walk rule to.before in
-    let after = IsLetterWalk-walk rule to.loop in
-    let start = LeadTogether-first from.loop in
-    let nodes = LeadTogether-last from.after in
-    let x : TailConfig = record { left = before.a; middle = way.a ++ out.a; right = after.a } in
-    let y : TailConfig = record { left = before.b; middle = way.b ++ out.b; right = after.b } in
-    let hx : IsTail r.states x = IsTail-words way.a out.a before.a_word way.a_word out.a_word after.a_word (omega (arith, before.a_long)) (omega (arith, after.a_long)) in
-    let hy : IsTail r.states y = IsTail-words way.b out.b before.b_word way.b_word out.b_word after.b_word (omega (arith, before.b_long)) (omega (arith, after.b_long)) in
-    let lefts : length before.a ≡ length before.b = before.a_long ∙ sym before.b_long in
-    let ins : length way.a ≡ length way.b = way.a_long ∙ sym way.b_long in
-    let middles : length (way.a ++ out.a) ≡ length (way.b ++ out.b) = omega (arith, length-append way.a out.a, length-append way.b out.b, out.a_long, out.b_long) in
-    let reach = subst (λ ab. PairLeads r (pair_of r from.s from.t) ab (pair_of r to.s to.t)) (sym (zip-append way.a out.a way.b out.b ins))
-    (Walk-join (LetterPairStep (follow r)) (zip way.a way.b) (zip out.a out.b) (pair_of r from.s from.t) (pair_of r u v) (pair_of r to.s to.t) way.leads out.leads) in
-    let prefix : (t : TailConfig) (a c : List ℕ) → t.middle ≡ a ++ c → length a ≡ from.k → cells t (pos 0) from.k ≡ a = λ t a c e long.
-    sym (take-run (cell t) (pos 0) (length t.middle) from.k (omega (arith, ap length e, length-append a c))) ∙ ap (take from.k) (cells-middle t ∙ e) ∙ take_at a c from.k long in
-    let inside = subst₂ (λ p ab. PairLeads r p ab (pair_of r u v)) (sym (pair_at-loop rule hx hy lefts from.s from.t start.0 start.1 before.leads))
-    (sym (ap₂ (λ (a b : List ℕ). zip a b) (prefix x way.a out.a refl way.a_long) (prefix y way.b out.b refl way.b_long))) way.leads in
-    let there = cells-PairLeads rule hx hy from.k (pos 0) (pos from.k) (pair_of r u v) (omega (arith, ints)) inside in
-    has_twins-loops rule hx hy lefts middles (after.a_long ∙ sym after.b_long) from.s from.t (pair_of r to.s to.t) start.0 start.1 before.leads reach after.leads
-    (Different-nodes rule hx hy (pos from.k) u v nodes.1 other there.1)
+    let d : ℕ = r.width - 1 in
+    ⊎_elim
+    (λ first. ⊎_elim
+    (λ second.
+    let way = LeadTogether-diagonal {r = r} to.s from.s (LeadTogether-first to.loop).0 (LeadTogether-first from.loop).0 in
+    has_twins-round rule other (omega (arith, rule.shape.least_width)) (LeadTogether-join {n = to.i + (d + from.k)} rule refl to.before
+    (LeadTogether-join {n = d + from.k} rule refl (subst₂ (λ a b. LeadTogether r to.s a d from.s b) second first way) from.after)))
+    (λ apart. has_twins-round rule apart (omega arith) to.loop)
+    (cases_eq to.s to.t))
+    (λ apart. has_twins-round rule apart (omega arith) from.loop)
+    (cases_eq from.s from.t)

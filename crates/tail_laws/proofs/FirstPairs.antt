@@ -1,29 +1,43 @@
 -- A first pair from which a walk leads into a loop gives a normal right split.
-use Rattle.std.proofs.Common.{◌≡◌, ℕ, ◌+◌, ◌-◌, ◌<◌, List, [], ◌∷◌, ◌++◌, length, take, drop, get_or, Some, refl, sym, ap, ap₂, ◌∙◌, subst, subst₂, arith, length-append, take_at, drop_at, ◌≤◌, zip}
-use Rattle.word_image.proofs.Common.{All-append, All-push, get_or_at, LocalRule, IsRule, IsWord, value, word_of, node_count, HaveOneImage, pair_of, follow, pair_count, IsRing, IsFirstOfRight, length-word_of, IsWord-word_of, value-word_of, node_count_pos}
+use Rattle.std.proofs.Common.{◌≡◌, ℕ, ◌+◌, ◌-◌, ◌<◌, List, [], ◌∷◌, ◌++◌, length, take, drop, get_or, Some, refl, sym, ap, ◌∙◌, subst, subst₂, arith, length-append, take_at, drop_at, ◌≤◌, zip}
+use Rattle.word_image.proofs.Common.{All-append, All-push, get_or_at, LocalRule, IsRule, IsWord, value, word_of, node_count, pair_of, follow, pair_count, IsRing, IsFirstOfRight, length-word_of, IsWord-word_of, value-word_of, node_count_pos}
 use Rattle.tail_config.proofs.Common.{TailConfig, IsTail, IsNormalRightSplit, IsWord-zero}
+use Rattle.pair_laws.proofs.Walks.{LeadTogether}
 use Rattle.pair_laws.proofs.Common.{follow-pair_of}
 use Rattle.search_laws.proofs.Common.{LetterPairStep, Walk-join}
 use Rattle.tail_laws.proofs.PairLeads.{PairLeads}
 use Rattle.tail_laws.proofs.WordWalks.{PairLeads-words, zip-append}
 use Rattle.tail_laws.proofs.Settled.{IsNormalRightSplit-walk}
 
--- from each node to each other one leads the word of the latter, so from the pair of the one twice to that of the other twice
-pub PairLeads-diagonal : {r : LocalRule} → IsRule r → (u v : ℕ) → u < node_count r → v < node_count r
-    → PairLeads r (pair_of r u u) (zip (word_of r.states (r.width - 1) v) (word_of r.states (r.width - 1) v)) (pair_of r v v)
-PairLeads-diagonal {r} rule u v hu hv =
+-- from each node a walk of m - 1 steps leads to each other one, so from the pair of the one twice to that of the other twice
+abbrev pub LeadTogether-diagonal : {r : LocalRule} → (u v : ℕ) → u < node_count r → v < node_count r → LeadTogether r u u (r.width - 1) v v
+LeadTogether-diagonal {r} u v hu hv =
     let m : ℕ = r.width - 1 in
     let a = word_of r.states m u in
     let b = word_of r.states m v in
     let long_a = length-word_of r.states m u in
-    let long_b = length-word_of r.states m v in
     let word = All-append (λ c. c < r.states) a b (IsWord-word_of r.states m u hu) (IsWord-word_of r.states m v hv) in
-    let long = length-append a b ∙ ap₂ (λ c d. c + d) long_a long_b in
-    let whole : HaveOneImage r m (a ++ b) (a ++ b) = record { first = word; second = word; first_long = long; second_long = long; one_image = refl } in
+    let long : length (a ++ b) ≡ m + m = omega (arith, length-append a b, long_a, length-word_of r.states m v) in
     let front : value r.states (take m (a ++ b)) ≡ u = ap (value r.states) (take_at a b m long_a) ∙ value-word_of r.states m u hu in
     let back : value r.states (drop m (a ++ b)) ≡ v = ap (value r.states) (drop_at a b m long_a) ∙ value-word_of r.states m v hv in
-    subst (λ w. PairLeads r (pair_of r u u) (zip w w) (pair_of r v v)) (drop_at a b m long_a)
-    (subst₂ (λ c d. PairLeads r (pair_of r c c) (zip (drop m (a ++ b)) (drop m (a ++ b))) (pair_of r d d)) front back (PairLeads-words rule whole))
+    record {
+      x = a ++ b;
+      y = a ++ b;
+      one_image = record { first = word; second = word; first_long = long; second_long = long; one_image = refl };
+      first = front;
+      second = front;
+      first_last = back;
+      second_last = back;
+    }
+
+-- so the word of a node leads from the pair of another node twice to that of this node twice
+PairLeads-diagonal : {r : LocalRule} → IsRule r → (u v : ℕ) → u < node_count r → v < node_count r
+    → PairLeads r (pair_of r u u) (zip (word_of r.states (r.width - 1) v) (word_of r.states (r.width - 1) v)) (pair_of r v v)
+PairLeads-diagonal {r} rule u v hu hv =
+    let m : ℕ = r.width - 1 in
+    let w = LeadTogether-diagonal {r = r} u v hu hv in
+    subst (λ z. PairLeads r (pair_of r u u) (zip z z) (pair_of r v v)) (drop_at (word_of r.states m u) (word_of r.states m v) m (length-word_of r.states m u))
+    (subst₂ (λ c d. PairLeads r (pair_of r c c) (zip (drop m w.x) (drop m w.x)) (pair_of r d d)) w.first w.first_last (PairLeads-words rule w.one_image))
 
 -- a first pair, a walk from it, and a loop in which it ends
 pub record LeadsToLoop (r : LocalRule) (p : ℕ) : Type 0 where

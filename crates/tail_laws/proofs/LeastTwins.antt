@@ -1,12 +1,12 @@
 -- The least twins are the first of the least walks in the marked graph from a pair without the mark to the same pair with it.
-use Rattle.std.proofs.Common.{◌≢◌, ℕ, ◌+◌, ◌<◌, ◌≤◌, List, [], ◌∷◌, length, map, sym, ◌∙◌, subst, arith, zip, Greater}
+use Rattle.std.proofs.Common.{◌≢◌, ℕ, ◌+◌, ◌<◌, ◌≤◌, List, [], ◌∷◌, length, map, sym, subst, arith, zip, Greater}
 use Rattle.std.proofs.lemmas.Slice.Zip.{length-zip}
-use Rattle.word_image.proofs.Common.{length-map, LocalRule, IsRule, pair_count, marked, IsTwins, IsLeastTwins, pairs_cmp, pair_count_pos, pair_count-le}
+use Rattle.word_image.proofs.Common.{LocalRule, IsRule, pair_count, marked, IsTwins, IsLeastTwins, pairs_cmp, pair_count_pos, pair_count-le}
 use Rattle.search_laws.proofs.Common.{IsLeastWalk, length-IsLeastWalk}
 use Rattle.tail_laws.specs.Turns.{IsTurn}
 use Rattle.pair_laws.proofs.Common.{marked-below}
 use Rattle.tail_laws.proofs.SplitWalks.{zip-sides}
-use Rattle.tail_laws.proofs.MarkedTurns.{twins-turn, turn-twins}
+use Rattle.tail_laws.proofs.MarkedTurns.{twins-turn, IsTwins-turn}
 use Rattle.tail_laws.specs.FirstLists.{IsLeastOf, NoneBelow, IsFirstBelow}
 
 -- the least walk from the pair p to p with the mark
@@ -23,11 +23,6 @@ turn-some rule p (ab ∷ w) turn = omega arith
 -- the least walk from the pair p to p with the mark that has a step is the least of all such walks
 pub IsLeastOf-turn : {r : LocalRule} {p : ℕ} {w : List (ℕ × ℕ)} → IsRule r → IsLeastTurn r p w → IsLeastOf (IsTurn r) p w
 IsLeastOf-turn {r} {p} rule first = record { has = first.walk; least = λ v turn. first.least v (turn-some rule p v turn) turn }
-
--- the words of a walk from a pair to itself with the mark are twins
-IsTwins-turn : {r : LocalRule} {p : ℕ} {w : List (ℕ × ℕ)} → IsRule r → p < pair_count r → IsTurn r p w → IsTwins r (map (λ a. a.0) w) (map (λ a. a.1) w)
-IsTwins-turn {r} {p} {w} rule below turn =
-    turn-twins rule _ _ p (length-map w (λ (a : ℕ × ℕ). a.0) ∙ sym (length-map w (λ (a : ℕ × ℕ). a.1))) below (subst (IsTurn r p) (sym (zip-sides w)) turn)
 
 -- the first of all walks has the least twins
 pub IsLeastTwins-first : {r : LocalRule} {w : List (ℕ × ℕ)} → IsRule r → IsFirstBelow (IsTurn r) (pair_count r) w → IsLeastTwins r (map (λ a. a.0) w) (map (λ a. a.1) w)

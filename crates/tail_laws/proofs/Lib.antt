@@ -1,6 +1,5 @@
 pub mod Injective
 pub mod Closing
-pub mod Middles
 pub mod Sides
 pub mod TwinTails
 pub mod Verdicts
@@ -8,15 +7,12 @@ pub mod Nodes
 pub mod Loops
 pub mod PairLeads
 pub mod Settled
-pub mod NormalSplits
-pub mod NoTwins
 pub mod TwinWalks
-pub mod MarkedWalks
 pub mod WordWalks
-pub mod TwoLoops
 pub mod FirstPairs
 pub mod EndlessPairs
 pub mod Certainty
+pub mod MarkedWalks
 pub mod SplitWalks
 pub mod LeastSplits
 pub mod MarkedTurns

@@ -1,7 +1,7 @@
 -- A walk of two configurations in step: through the middles, and once through right periods that lead back to their nodes.
-use Rattle.std.proofs.Common.{◌≡◌, ℕ, ◌+◌, ◌-◌, ◌<◌, length, ℤ, pos, ◌+ℤ◌, ◌-ℤ◌, unsigned_abs, sym, ap, ◌∙◌, subst, arith, ◌<ℤ◌}
-use Rattle.word_image.proofs.Common.{ints, by_lt_z, LocalRule, IsRule, value, local_map}
-use Rattle.tail_config.proofs.Common.{TailConfig, IsTail, ShareImage, cell, run-same, same-run, RepeatsRight, at_run, same_right-period, cell-right_period}
+use Rattle.std.proofs.Common.{◌≡◌, ℕ, ◌+◌, ◌-◌, ◌<◌, length, ℤ, pos, ◌+ℤ◌, ◌-ℤ◌, unsigned_abs, sym, ap, ◌∙◌, subst, arith}
+use Rattle.word_image.proofs.Common.{ints, by_lt_z, LocalRule, IsRule, local_map}
+use Rattle.tail_config.proofs.Common.{TailConfig, IsTail, ShareImage, cell, run-same, same-run, same_left_part, RepeatsRight, at_run, same_right-period, cell-right_period}
 use Rattle.tail_laws.proofs.Nodes.{node_at, label_over, same_nodes, ShareImage-labels}
 
 -- the right period leads back to the node at which it begins
@@ -20,16 +20,6 @@ looped-cells r {t} h loop i l =
     same a k ∙ ap (cell t) (omega (arith, ints)) in
     by_lt_z i (pos m) (λ k. sym (at_run (cell t) (λ j. cell t (j +ℤ pos n)) start (r.width - 1) turn i l (omega (arith, ints)))) (cell-right_period t i)
 
--- where the cells of the node repeat, the right period leads back to the node
-pub IsLooped-cells : (r : LocalRule) (t : TailConfig) → RepeatsRight (length t.right) (cell t) (pos (length t.middle) -ℤ pos (r.width - 1)) → IsLooped r t
-IsLooped-cells r t repeats =
-    let m : ℕ = length t.middle in
-    let n : ℕ = length t.right in
-    let start : ℤ = pos m -ℤ pos (r.width - 1) in
-    let later : ℤ = pos (m + n) -ℤ pos (r.width - 1) in
-    ap (value r.states) (run-same (cell t) (cell t) start later (r.width - 1) (λ a l.
-    sym (repeats (start +ℤ pos a) (omega (arith, ints))) ∙ ap (cell t) (omega (arith, ints))))
-
 -- the labels repeat from the place at which the period begins
 pub looped-labels : {r : LocalRule} {t : TailConfig} → IsRule r → IsTail r.states t → IsLooped r t → RepeatsRight (length t.right) (label_over r t) (pos (length t.middle))
 looped-labels {r} {t} rule h loop i l =
@@ -44,14 +34,9 @@ pub record IsInStep (r : LocalRule) (x y : TailConfig) : Type 0 where
   pub first : IsLooped r x
   pub second : IsLooped r y
 
--- equal cells left of place 0 give equal labels there
-pub labels-left : (r : LocalRule) (x y : TailConfig) → ((i : ℤ) → i <ℤ pos 0 → cell x i ≡ cell y i) → (i : ℤ) → i <ℤ pos 0 → label_over r x i ≡ label_over r y i
-labels-left r x y left i l =
-    ap (local_map r) (run-same (cell x) (cell y) (i -ℤ pos (r.width - 1)) (i -ℤ pos (r.width - 1)) r.width (λ a k. left (i -ℤ pos (r.width - 1) +ℤ pos a) (omega (arith, ints))))
-
--- configurations that go in step, and have equal labels left of place 0, share an image
-pub ShareImage-in_step : {r : LocalRule} {x y : TailConfig} → IsRule r → IsTail r.states x → IsTail r.states y
-    → ((i : ℤ) → i <ℤ pos 0 → label_over r x i ≡ label_over r y i) → length x.middle ≡ length y.middle → length x.right ≡ length y.right → IsInStep r x y → ShareImage r x y
+-- configurations with one left part that go in step share an image
+pub ShareImage-in_step : {r : LocalRule} {x y : TailConfig} → IsRule r → IsTail r.states x → IsTail r.states y → x.left ≡ y.left → length x.middle ≡ length y.middle → length x.right ≡ length y.right
+    → IsInStep r x y → ShareImage r x y
 ShareImage-in_step {r} {x} {y} rule hx hy left middles rights steps =
     let m : ℕ = length x.middle in
     let n : ℕ = length x.right in
@@ -59,7 +44,8 @@ ShareImage-in_step {r} {x} {y} rule hx hy left middles rights steps =
     let second : RepeatsRight n (label_over r y) (pos m) =
     subst (λ p. RepeatsRight p (label_over r y) (pos m)) (sym rights) (subst (λ a. RepeatsRight (length y.right) (label_over r y) (pos a)) (sym middles) (looped-labels rule hy steps.second)) in
     ShareImage-labels r x y (λ i.
-    by_lt_z i (pos 0) (left i)
+    by_lt_z i (pos 0)
+    (λ l. ap (local_map r) (run-same (cell x) (cell y) (i -ℤ pos (r.width - 1)) (i -ℤ pos (r.width - 1)) r.width (λ a k. same_left_part x y left (i -ℤ pos (r.width - 1) +ℤ pos a) (omega (arith, ints)))))
     (λ l. by_lt_z i (pos m)
     (λ k. let place : pos (unsigned_abs i) ≡ i = omega (arith, ints) in
     ap (label_over r x) (sym place) ∙ steps.labels (unsigned_abs i) (omega (arith, ints)) ∙ ap (label_over r y) place)

@@ -53,17 +53,11 @@ follow-marked {r} rule t a b s e =
     let both = value_marked (label r (first_of r p) a) (label r (second_of r p) b) q (mark r t a b) s e in
     (q, both.0, pair_of-below r _ _ (next-below rule (first_of r p) a) (next-below rule (second_of r p) b), both.1)
 
--- a mark that was there is kept
-mark_kept : (p t a b : ℕ) → p ≤ t → (if nat_le p t || not (a == b) then p else 0) ≡ p
-mark_kept p t a b l = grind (arith, nat_tests)
-
--- the mark is set where two letters differ
-mark_set : (p t a b : ℕ) → a ≢ b → (if nat_le p t || not (a == b) then p else 0) ≡ p
-mark_set p t a b n = grind (arith, nat_tests)
-
--- no mark is set where none was and the letters are equal
-mark_none : (p t a b : ℕ) → t < p → a ≡ b → (if nat_le p t || not (a == b) then p else 0) ≡ 0
-mark_none p t a b l e = grind (arith, nat_tests)
+-- the mark is set where it was or two letters differ, and is not set where neither is so
+mark_cases : (p t a b : ℕ) → (((if nat_le p t || not (a == b) then p else 0) ≡ p) × ((p ≤ t) ⊎ (a ≢ b))) ⊎ (((if nat_le p t || not (a == b) then p else 0) ≡ 0) × (t < p) × (a ≡ b))
+mark_cases p t a b =
+    ⊎_elim (λ l. ⊎_elim (λ e. inr (grind (arith, nat_tests), l, e)) (λ n. inl (grind (arith, nat_tests), inr n)) (cases_eq a b))
+    (λ l. inl (grind (arith, nat_tests), inl l)) (cases_lt t p)
 
 -- the state after a step is the pair, and has the mark exactly if the state before it has or the letters differ
 record IsStepMarked (r : LocalRule) (t a b s q : ℕ) : Type 0 where
@@ -74,19 +68,13 @@ record IsStepMarked (r : LocalRule) (t a b s q : ℕ) : Type 0 where
 marked_step : (r : LocalRule) (t a b q : ℕ) → q < pair_count r → IsStepMarked r t a b (q + mark r t a b) q
 marked_step r t a b q h =
     let p : ℕ = pair_count r in
-    let on : mark r t a b ≡ p → ((p ≤ t) ⊎ (a ≢ b)) → IsStepMarked r t a b (q + mark r t a b) q = λ e why.
-    record {
-      pair = ap (λ m. (q + m) % p) e ∙ add-mod_right q p ∙ mod-eq_of_lt {n = q} h;
-      mark = (λ l. why, λ w. omega arith);
-    } in
-    ⊎_elim (λ l. ⊎_elim
-    (λ e. let none : mark r t a b ≡ 0 = mark_none p t a b l e in
-    record {
-      pair = ap (λ m. m % p) (let same : q + mark r t a b ≡ q = omega arith in same) ∙ mod-eq_of_lt {n = q} h;
-      mark = (λ k. absurd (omega arith), λ w. absurd (⊎_elim (λ k. omega arith) (λ n. n e) w));
+    ⊎_elim
+    (λ (e, why). record { pair = ap (λ m. (q + m) % p) e ∙ add-mod_right q p ∙ mod-eq_of_lt {n = q} h; mark = (λ l. why, λ w. omega (arith, e)) })
+    (λ (e, none, same). record {
+      pair = ap (λ m. (q + m) % p) e ∙ mod-eq_of_lt {n = q + 0} (omega arith) ∙ omega arith;
+      mark = (λ k. absurd (omega (arith, e)), λ w. absurd (⊎_elim (λ k. omega (arith, none)) (λ n. n same) w));
     })
-    (λ n. on (mark_set p t a b n) (inr n)) (cases_eq a b))
-    (λ l. on (mark_kept p t a b l) (inl l)) (cases_lt t p)
+    (mark_cases p t a b)
 
 -- a walk of pairs, which ends with the mark exactly if it begins with it or two letters have differed
 pub record IsMarkedWalk (r : LocalRule) (t : ℕ) (abs : List (ℕ × ℕ)) (s : ℕ) : Type 0 where

@@ -2,10 +2,10 @@
 use Rattle.std.proofs.Common.{◌≡◌, ℕ, zero, suc, ◌+◌, ◌-◌, ◌<◌, List, ◌∷◌, length, ℤ, pos, ◌+ℤ◌, Some, sym, ap, ap₂, ◌∙◌, subst, subst₂, ⊎_elim, arith, zip}
 use Rattle.word_image.proofs.Common.{cases_lt, same_from_place, ints, LocalRule, IsRule, node_count, next, label, pair_of, follow}
 use Rattle.search_laws.proofs.Common.{Walk, LetterPairStep}
-use Rattle.tail_config.proofs.Common.{TailConfig, IsTail, ShareImage, cell, cells, run-cons, cells-middle, cells-right, same_left_part}
+use Rattle.tail_config.proofs.Common.{TailConfig, IsTail, ShareImage, cell, cells, run-cons, cells-middle, cells-right}
 use Rattle.pair_laws.proofs.Common.{first_of-pair_of, second_of-pair_of, follow-pair_of, follow-some}
 use Rattle.tail_laws.proofs.Nodes.{node_at, label_over, node_at-below, label-node_at, next-node_at, labels-ShareImage}
-use Rattle.tail_laws.proofs.Loops.{IsLooped, IsInStep, labels-left, ShareImage-in_step}
+use Rattle.tail_laws.proofs.Loops.{IsLooped, IsInStep}
 
 -- a walk in the graph of pairs of nodes: at each step the two labels are equal
 abbrev pub PairLeads : LocalRule → ℕ → List (ℕ × ℕ) → ℕ → Type 0
@@ -88,12 +88,6 @@ IsInStep-walk {r} {x} {y} rule hx hy middles rights q reach loop =
       first = back.0;
       second = ap (λ a. node_at r y (pos a)) (sym middles) ∙ back.1 ∙ ap₂ (λ a b. node_at r y (pos (a + b))) middles rights;
     }
-
--- two configurations with one left part whose middles and right periods go in step share an image
-pub ShareImage-walk : {r : LocalRule} {x y : TailConfig} → IsRule r → IsTail r.states x → IsTail r.states y → x.left ≡ y.left → length x.middle ≡ length y.middle → length x.right ≡ length y.right
-    → (q : ℕ) → PairLeads r (pair_at r x y (pos 0)) (zip x.middle y.middle) q → PairLeads r q (zip x.right y.right) q → ShareImage r x y
-ShareImage-walk {r} {x} {y} rule hx hy left middles rights q reach loop =
-    ShareImage-in_step rule hx hy (labels-left r x y (same_left_part x y left)) middles rights (IsInStep-walk rule hx hy middles rights q reach loop)
 
 -- configurations that share an image, with periods that lead back to their nodes, are two walks with equal labels
 pub walk-ShareImage : {r : LocalRule} {x y : TailConfig} → IsRule r → IsTail r.states x → IsTail r.states y → length x.middle ≡ length y.middle → length x.right ≡ length y.right

@@ -1,10 +1,10 @@
 -- Normal right splits are the walks in the graph of pairs that lead from the pair of the nodes of zeros into a loop.
-use Rattle.std.proofs.Common.{◌≡◌, ℕ, ◌+◌, ◌-◌, ◌%◌, List, [], ◌∷◌, ◌++◌, length, replicate, slice_index, pos, negsuc, ◌+ℤ◌, ◌-ℤ◌, neg_ℤ, sym, ap, ap₂, ◌∙◌, subst, arith, zip}
+use Rattle.std.proofs.Common.{◌≡◌, ℕ, ◌+◌, ◌-◌, ◌%◌, List, [], ◌∷◌, ◌++◌, length, replicate, slice_index, pos, negsuc, ◌+ℤ◌, ◌-ℤ◌, neg_ℤ, sym, ap, ap₂, ◌∙◌, subst, arith, append_assoc, zip}
 use Rattle.word_image.proofs.Common.{ints, length-replicate, get_or-replicate, LocalRule, IsRule, value, pair_of, value-zeros}
 use Rattle.tail_config.proofs.Common.{TailConfig, IsTail, Same, cell, cells, last_letters, IsSettled, IsNormalRightSplit, run-by_letters, run-same, last-run, run-append, cells-middle, cells-right, same_left_part, Different-from_not_same}
 use Rattle.tail_laws.proofs.Nodes.{node_at, same_nodes}
-use Rattle.tail_laws.proofs.Loops.{IsLooped}
-use Rattle.tail_laws.proofs.PairLeads.{PairLeads, pair_at, IsInStep-walk, ShareImage-walk, walk-ShareImage}
+use Rattle.tail_laws.proofs.Loops.{IsLooped, ShareImage-in_step}
+use Rattle.tail_laws.proofs.PairLeads.{PairLeads, pair_at, IsInStep-walk, walk-ShareImage}
 
 -- where the left period is the letter 0 the cells left of place 0 are zeros
 cell-zero : (t : TailConfig) → t.left ≡ 0 ∷ [] → (i : ℕ) → cell t (negsuc i) ≡ 0
@@ -20,39 +20,35 @@ cells-zeros t n e =
     let here : cell t (neg_ℤ (pos n) +ℤ pos a) ≡ 0 = ap (cell t) place ∙ cell-zero t e (n - 1 - a) in
     rw here (get_or-replicate n a 0 0 l)))
 
--- the word of n zeros and the middle is a run
-zeros-middle : (t : TailConfig) (n : ℕ) → t.left ≡ 0 ∷ [] → replicate n 0 ++ t.middle ≡ cells t (neg_ℤ (pos n)) (n + length t.middle)
-zeros-middle t n e =
-    sym (run-append (cell t) (neg_ℤ (pos n)) (pos 0) n (length t.middle) (omega (arith, ints)) ∙ ap₂ (λ (u v : List ℕ). u ++ v) (cells-zeros t n e) (cells-middle t))
+-- behind n zeros the last n letters of the first cells are the cells left of the next
+last-zeros : (t : TailConfig) (n l : ℕ) {w : List ℕ} → t.left ≡ 0 ∷ [] → cells t (pos 0) l ≡ w → last_letters n (replicate n 0 ++ w) ≡ cells t (pos l -ℤ pos n) n
+last-zeros t n l e is =
+    let order : n + l ≡ l + n = omega arith in
+    ap (last_letters n) (sym (run-append (cell t) (neg_ℤ (pos n)) (pos 0) n l (omega (arith, ints)) ∙ ap₂ (λ (u v : List ℕ). u ++ v) (cells-zeros t n e) is) ∙ ap (cells t (neg_ℤ (pos n))) order)
+    ∙ last-run (cell t) (neg_ℤ (pos n)) (pos l -ℤ pos n) l n (omega (arith, ints))
 
--- the word of n zeros, the middle and the right period is a run
-zeros-right : (t : TailConfig) (n : ℕ) → t.left ≡ 0 ∷ [] → replicate n 0 ++ t.middle ++ t.right ≡ cells t (neg_ℤ (pos n)) (n + length t.middle + length t.right)
-zeros-right t n e =
-    sym (run-append (cell t) (neg_ℤ (pos n)) (pos (length t.middle)) (n + length t.middle) (length t.right) (omega (arith, ints)) ∙ ap₂ (λ (u v : List ℕ). u ++ v) (sym (zeros-middle t n e)) (cells-right t))
-
--- the last n letters of the one are the cells left of the right period
+-- the last n letters of the middle, behind zeros, are the cells left of the right period
 last-middle : (t : TailConfig) (n : ℕ) → t.left ≡ 0 ∷ [] → last_letters n (replicate n 0 ++ t.middle) ≡ cells t (pos (length t.middle) -ℤ pos n) n
-last-middle t n e =
-    ap (last_letters n) (zeros-middle t n e ∙ ap (cells t (neg_ℤ (pos n))) (omega arith))
-    ∙ last-run (cell t) (neg_ℤ (pos n)) (pos (length t.middle) -ℤ pos n) (length t.middle) n (omega (arith, ints))
+last-middle t n e = last-zeros t n (length t.middle) e (cells-middle t)
 
--- the last n letters of the word with the right period are the cells left of the second turn of that period
-last-right : {k : ℕ} {t : TailConfig} → IsTail k t → (n : ℕ) → t.left ≡ 0 ∷ [] → last_letters n (replicate n 0 ++ t.middle ++ t.right) ≡ cells t (pos (length t.middle + length t.right) -ℤ pos n) n
-last-right {k} {t} h n e =
-    ap (last_letters n) (zeros-right t n e ∙ ap (cells t (neg_ℤ (pos n))) (omega arith))
-    ∙ last-run (cell t) (neg_ℤ (pos n)) (pos (length t.middle + length t.right) -ℤ pos n) (length t.middle + length t.right) n (omega (arith, ints))
+-- the last n letters with the right period are the cells left of the second turn of that period
+last-right : (t : TailConfig) (n : ℕ) → t.left ≡ 0 ∷ [] → last_letters n (replicate n 0 ++ t.middle ++ t.right) ≡ cells t (pos (length t.middle + length t.right) -ℤ pos n) n
+last-right t n e =
+    let m : ℕ = length t.middle in
+    ap (last_letters n) (append_assoc (replicate n 0) t.middle t.right)
+    ∙ last-zeros t n (m + length t.right) e (run-append (cell t) (pos 0) (pos m) m (length t.right) (omega (arith, ints)) ∙ ap₂ (λ (u v : List ℕ). u ++ v) (cells-middle t) (cells-right t))
 
 -- the right period of a settled configuration leads back to the node at which it begins
 pub IsLooped-settled : {r : LocalRule} {t : TailConfig} → IsTail r.states t → IsSettled r t → IsLooped r t
 IsLooped-settled {r} {t} h s =
-    ap (value r.states) (sym (last-middle t (r.width - 1) s.left) ∙ s.back ∙ last-right h (r.width - 1) s.left)
+    ap (value r.states) (sym (last-middle t (r.width - 1) s.left) ∙ s.back ∙ last-right t (r.width - 1) s.left)
 
 -- a configuration is settled where its left period is the letter 0 and its right one leads back to the node at which it begins
 pub IsSettled-looped : {r : LocalRule} {t : TailConfig} → IsTail r.states t → t.left ≡ 0 ∷ [] → IsLooped r t → IsSettled r t
 IsSettled-looped {r} {t} h left loop =
     record {
       left = left;
-      back = last-middle t (r.width - 1) left ∙ same_nodes r h h (pos (length t.middle)) (pos (length t.middle + length t.right)) loop ∙ sym (last-right h (r.width - 1) left);
+      back = last-middle t (r.width - 1) left ∙ same_nodes r h h (pos (length t.middle)) (pos (length t.middle + length t.right)) loop ∙ sym (last-right t (r.width - 1) left);
     }
 
 -- where the left period is the letter 0 the node before place 0 is that of zeros
@@ -103,7 +99,7 @@ IsNormalRightSplit-walk {r} {x} {y} rule w =
         first = w.first;
         second = w.second;
         different = Different-from_not_same w.first w.second (λ same. w.different (same_parts w.first w.second w.middles w.rights same));
-        share = ShareImage-walk rule w.first w.second left w.middles w.rights w.pair reach w.loop;
+        share = ShareImage-in_step rule w.first w.second left w.middles w.rights steps;
         agree = (pos 0, same_left_part x y left);
       };
       first = IsSettled-looped w.first w.first_left steps.first;

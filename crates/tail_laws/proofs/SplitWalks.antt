@@ -44,17 +44,20 @@ with_mark-marked {r} rule t q below marked e =
     let same : t % p ≡ rest = ap (λ n. n % p) split ∙ add-mod_right rest p ∙ mod-eq_of_lt {n = rest} (omega arith) in
     omega (arith, same)
 
+-- one side of letter pairs below k is a word
+pub IsWord-side : {k : ℕ} (side : ℕ × ℕ → ℕ) → ((p : ℕ × ℕ) → (p.0 < k) × (p.1 < k) → side p < k) → (w : List (ℕ × ℕ)) → ArePairs k w → IsWord k (map side w)
+IsWord-side {k} side small w pairs = All-map (λ c. c < k) side w (λ i d l. small _ (pairs i d l))
+
 -- one side of the letter pairs is a configuration over the rule's letters
 IsTail-tail_of : {r : LocalRule} {t : ℕ} {w v : List (ℕ × ℕ)} → IsRule r → IsSplitAt r t w v → (side : ℕ × ℕ → ℕ)
     → ((p : ℕ × ℕ) → (p.0 < r.states) × (p.1 < r.states) → side p < r.states) → IsTail r.states (tail_of side w v)
 IsTail-tail_of {r} {t} {w} {v} rule h side small =
-    let word : (u : List (ℕ × ℕ)) → ArePairs r.states u → IsWord r.states (map side u) = λ u pairs. All-map (λ c. c < r.states) side u (λ i d l. small _ (pairs i d l)) in
     record {
       left_some = omega arith;
       right_some = omega (arith, h.some, length-map v side);
       left_word = IsWord-zero (omega (arith, rule.shape.least_states));
-      middle_word = word w h.reach.letters;
-      right_word = word v h.round.letters;
+      middle_word = IsWord-side side small w h.reach.letters;
+      right_word = IsWord-side side small v h.round.letters;
     }
 
 -- two walks that make a split at a state are a normal right split

@@ -1,11 +1,11 @@
 -- Twins are the closed walks in the graph of pairs of nodes whose letters differ somewhere.
-use Rattle.std.proofs.Common.{◌≡◌, ◌≢◌, ℕ, ◌+◌, ◌-◌, ◌<◌, ◌≤◌, List, [], length, ℤ, pos, negsuc, ◌+ℤ◌, ◌-ℤ◌, neg_ℤ, refl, sym, ap, ap₂, ◌∙◌, subst, arith, ◌*◌, ◌≤ℤ◌, ◌↔◌, zip}
-use Rattle.word_image.proofs.Common.{mul-le, ints, LocalRule, IsRule, value, word_of, local_map, node_count, IsRing, IsTwins, pair_of, length-word_of, IsWord-word_of, value-word_of}
-use Rattle.tail_config.proofs.Common.{TailConfig, IsTail, ShareImage, cell, cells, image_cell, run-same, cells-left, cells-right, RepeatsRight, same_right-period, RepeatsRight-times}
-use Rattle.tail_laws.proofs.TwinTails.{round, IsTail-round, cell-round_period, ShareImage-turn, ShareImage-rings, ring_image-shared}
-use Rattle.tail_laws.proofs.Nodes.{node_at, label_over, node_at-below, labels-ShareImage}
-use Rattle.tail_laws.proofs.Loops.{IsInStep, looped-labels, IsLooped, looped-cells}
-use Rattle.tail_laws.proofs.PairLeads.{PairLeads, pair_at, IsInStep-walk, PairLeads-cells}
+use Rattle.std.proofs.Common.{◌≡◌, ◌≢◌, ℕ, ◌-◌, ◌<◌, ◌≤◌, List, [], length, ℤ, pos, negsuc, ◌+ℤ◌, ◌-ℤ◌, neg_ℤ, refl, sym, ap, ap₂, ◌∙◌, subst, subst₂, arith, ◌*◌, ◌≤ℤ◌, ◌↔◌, zip}
+use Rattle.word_image.proofs.Common.{mul-le, ints, LocalRule, IsRule, value, word_of, node_count, IsRing, IsTwins, pair_of, length-word_of, IsWord-word_of, value-word_of}
+use Rattle.tail_config.proofs.Common.{TailConfig, IsTail, ShareImage, cell, cells, run-same, cells-left, RepeatsRight-times}
+use Rattle.tail_laws.proofs.TwinTails.{round, IsTail-round, cells-round, cell-round_period, ShareImage-turn, ShareImage-rings, ring_image-shared}
+use Rattle.tail_laws.proofs.Nodes.{node_at, label_over, node_at-below, image_cell-label, labels-ShareImage}
+use Rattle.tail_laws.proofs.Loops.{IsInStep, IsLooped, looped-cells}
+use Rattle.tail_laws.proofs.PairLeads.{PairLeads, pair_at, IsInStep-walk, PairLeads-cells, cells-PairLeads}
 
 -- node u stands before place 0, and from there on the ring p repeats
 abbrev pub from_node : LocalRule → ℕ → List ℕ → TailConfig
@@ -31,37 +31,12 @@ cell-from_node : (r : LocalRule) (u : ℕ) (p : List ℕ) (i : ℤ) → pos 0 �
 cell-from_node r u p (pos i) l = refl
 cell-from_node r u p (negsuc i) l = absurd (omega (arith, ints))
 
--- right of place 0 the ring's image cells are the labels of the walk from the node
-image_cell-from_node : {r : LocalRule} → IsRule r → (u : ℕ) (p : List ℕ) (d : ℕ) → image_cell r (round p) (neg_ℤ r.offset +ℤ pos d) ≡ label_over r (from_node r u p) (pos 0 +ℤ pos (d + (r.width - 1)))
-image_cell-from_node {r} rule u p d =
-    let start : ℤ = neg_ℤ r.offset +ℤ pos d +ℤ r.offset in
-    let place : ℤ = pos 0 +ℤ pos (d + (r.width - 1)) -ℤ pos (r.width - 1) in
-    ap (local_map r) (run-same (cell (round p)) (cell (from_node r u p)) start place r.width (λ a l.
-    let at : start +ℤ pos a ≡ place +ℤ pos a = omega (arith, ints) in
-    ap (cell (round p)) at ∙ cell-from_node r u p (place +ℤ pos a) (omega (arith, ints))))
-
 -- along a closed walk of pairs the configurations from its nodes go in step
 loop_steps : {r : LocalRule} {x y : List ℕ} → IsRule r → IsRing r.states x → IsRing r.states y → length x ≡ length y → (u v : ℕ) → u < node_count r → v < node_count r
     → PairLeads r (pair_of r u v) (zip x y) (pair_of r u v) → IsInStep r (from_node r u x) (from_node r v y)
 loop_steps {r} {x} {y} rule hx hy long u v hu hv loop =
     let start : pair_at r (from_node r u x) (from_node r v y) (pos 0) ≡ pair_of r u v = ap₂ (pair_of r) (node_at-from_node r u x hu) (node_at-from_node r v y hv) in
     IsInStep-walk rule (IsTail-from_node rule u hu hx) (IsTail-from_node rule v hv hy) refl long (pair_of r u v) start loop
-
--- a closed walk of pairs is two rings whose configurations share an image
-pub ShareImage-loop : {r : LocalRule} {x y : List ℕ} → IsRule r → IsRing r.states x → IsRing r.states y → length x ≡ length y → (u v : ℕ) → u < node_count r → v < node_count r
-    → PairLeads r (pair_of r u v) (zip x y) (pair_of r u v) → ShareImage r (round x) (round y)
-ShareImage-loop {r} {x} {y} rule hx hy long u v hu hv loop =
-    let n : ℕ = length x in
-    let tx = from_node r u x in
-    let ty = from_node r v y in
-    let steps = loop_steps rule hx hy long u v hu hv loop in
-    let again : RepeatsRight n (label_over r ty) (pos 0) = subst (λ p. RepeatsRight p (label_over r ty) (pos 0)) (sym long) (looped-labels rule (IsTail-from_node rule v hv hy) steps.second) in
-    let labels : (i : ℤ) → pos 0 ≤ℤ i → label_over r tx i ≡ label_over r ty i =
-    same_right-period (label_over r tx) (label_over r ty) n (pos 0) hx.some (looped-labels rule (IsTail-from_node rule u hu hx) steps.first) again (λ d l.
-    let place : pos 0 +ℤ pos d ≡ pos d = omega (arith, ints) in
-    subst (λ i. label_over r tx i ≡ label_over r ty i) (sym place) (steps.labels d (omega arith))) in
-    ShareImage-turn r x y hx.some long (neg_ℤ r.offset) (λ d l.
-    image_cell-from_node rule u x d ∙ labels (pos 0 +ℤ pos (d + (r.width - 1))) (omega (arith, ints)) ∙ sym (image_cell-from_node rule v y d))
 
 -- where the walk from a node comes back to the node, this is the node before the ring
 looped_node : {r : LocalRule} {p : List ℕ} → IsRule r → IsRing r.states p → (u : ℕ) → u < node_count r → IsLooped r (from_node r u p) → node_at r (round p) (pos 0) ≡ u
@@ -78,12 +53,30 @@ looped_node {r} {p} rule ring u h loop =
     sym (round_again place (omega (arith, ints))) ∙ cell-from_node r u p (place +ℤ pos (m * n)) (omega (arith, ints)) ∙ again place (omega (arith, ints))))
     ∙ node_at-from_node r u p h
 
--- the pair of a closed walk is that of the nodes before its two rings
-pub loop_nodes : {r : LocalRule} {x y : List ℕ} → IsRule r → IsRing r.states x → IsRing r.states y → length x ≡ length y → (u v : ℕ) → u < node_count r → v < node_count r
-    → PairLeads r (pair_of r u v) (zip x y) (pair_of r u v) → pair_at r (round x) (round y) (pos 0) ≡ pair_of r u v
-loop_nodes {r} {x} {y} rule hx hy long u v hu hv loop =
+-- a closed walk begins at the nodes before its two rings
+pub node_at-loop : {r : LocalRule} {x y : List ℕ} → IsRule r → IsRing r.states x → IsRing r.states y → length x ≡ length y → (u v : ℕ) → u < node_count r → v < node_count r
+    → PairLeads r (pair_of r u v) (zip x y) (pair_of r u v) → (node_at r (round x) (pos 0) ≡ u) × (node_at r (round y) (pos 0) ≡ v)
+node_at-loop {r} {x} {y} rule hx hy long u v hu hv loop =
     let steps = loop_steps rule hx hy long u v hu hv loop in
-    ap₂ (pair_of r) (looped_node rule hx u hu steps.first) (looped_node rule hy v hv steps.second)
+    (looped_node rule hx u hu steps.first, looped_node rule hy v hv steps.second)
+
+-- the letter pairs of two rings are those of their configurations
+zip-rounds : (x y : List ℕ) → length x ≡ length y → zip (cells (round x) (pos 0) (length x)) (cells (round y) (pos 0) (length x)) ≡ zip x y
+zip-rounds x y long = ap₂ (λ (a b : List ℕ). zip a b) (cells-round x refl) (cells-round y long)
+
+-- a closed walk of pairs is two rings whose configurations share an image
+ShareImage-loop : {r : LocalRule} {x y : List ℕ} → IsRule r → IsRing r.states x → IsRing r.states y → length x ≡ length y → (u v : ℕ) → u < node_count r → v < node_count r
+    → PairLeads r (pair_of r u v) (zip x y) (pair_of r u v) → ShareImage r (round x) (round y)
+ShareImage-loop {r} {x} {y} rule hx hy long u v hu hv loop =
+    let n : ℕ = length x in
+    let nodes = node_at-loop rule hx hy long u v hu hv loop in
+    let walk : PairLeads r (pair_at r (round x) (round y) (pos 0)) (zip (cells (round x) (pos 0) n) (cells (round y) (pos 0) n)) (pair_of r u v) =
+    subst₂ (λ p ab. PairLeads r p ab (pair_of r u v)) (sym (ap₂ (pair_of r) nodes.0 nodes.1)) (sym (zip-rounds x y long)) loop in
+    let labels = (cells-PairLeads rule (IsTail-round hx) (IsTail-round hy) n (pos 0) (pos n) (pair_of r u v) (omega (arith, ints)) walk).0 in
+    let start : ℤ = neg_ℤ (r.offset +ℤ pos (r.width - 1)) in
+    ShareImage-turn r x y hx.some long start (λ d l.
+    let place : pos 0 +ℤ pos d ≡ start +ℤ pos d +ℤ r.offset +ℤ pos (r.width - 1) = omega (arith, ints) in
+    image_cell-label r (round x) (start +ℤ pos d) ∙ subst (λ i. label_over r (round x) i ≡ label_over r (round y) i) place (labels d l) ∙ sym (image_cell-label r (round y) (start +ℤ pos d)))
 
 -- the node before a ring is the node before its next turn
 node_at-round : (r : LocalRule) (p : List ℕ) → 1 ≤ length p → node_at r (round p) (pos (length p)) ≡ node_at r (round p) (pos 0)
@@ -104,7 +97,7 @@ loop-ShareImage {r} {x} {y} rule hx hy long share =
     let back = ap₂ (pair_of r) (node_at-round r x hx.some) (ap (λ m. node_at r (round y) (pos m)) long ∙ node_at-round r y hy.some) in
     subst (PairLeads r (pair_at r (round x) (round y) (pos 0)) (zip x y)) back
     (subst (λ ab. PairLeads r (pair_at r (round x) (round y) (pos 0)) ab (pair_at r (round x) (round y) (pos n)))
-    (ap₂ (λ (a b : List ℕ). zip a b) (cells-right (round x)) (ap (cells (round y) (pos 0)) long ∙ cells-right (round y))) turn)
+    (zip-rounds x y long) turn)
 
 -- two different rings of one length that are a closed walk of pairs
 pub record IsTwinWalk (r : LocalRule) (x y : List ℕ) : Type 0 where

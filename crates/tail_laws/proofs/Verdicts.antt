@@ -1,19 +1,12 @@
 -- What pairs of configurations say of a rule: that it isn't injective, right-closing or left-closing.
 use Rattle.std.proofs.Common.{ℕ, ⊎_elim, ◌↔◌}
 use Rattle.word_image.proofs.Common.{LocalRule, IsRule}
-use Rattle.tail_config.proofs.Common.{TailConfig, IsTail, Same, Different, ShareImage, IsInjective, IsRightSplit, IsRightClosing, IsLeftClosing, IsLeftSplit, IsLeastRightSplit, IsLeastLeftSplit, same_or_different}
+use Rattle.tail_config.proofs.Common.{TailConfig, IsTail, Same, Different, IsRightSplit, IsRightClosing, IsLeftClosing, IsLeftSplit, IsLeastRightSplit, IsLeastLeftSplit, same_or_different}
 use Rattle.tail_laws.proofs.Sides.{IsLeftSplit-mirror}
 
 -- two configurations that aren't different are the same
 same_from_none : {k : ℕ} {x y : TailConfig} → IsTail k x → IsTail k y → ¬ Different x y → Same x y
 same_from_none {k} {x} {y} hx hy none = ⊎_elim (λ same. same) (λ d. absurd (none d)) (same_or_different hx hy)
-
--- a rule is injective exactly where no two different configurations share an image
-pub IsInjective-none : (r : LocalRule) → IsInjective r ↔ ((x y : TailConfig) → IsTail r.states x → IsTail r.states y → ShareImage r x y → ¬ Different x y)
-IsInjective-none r = (
-  λ injective x y hx hy share d. d.1 (injective x y hx hy share d.0),
-  λ none x y hx hy share. same_from_none hx hy (none x y hx hy share),
-)
 
 -- a rule is right-closing exactly where it has no right split
 pub IsRightClosing-none : (r : LocalRule) → IsRightClosing r ↔ ((x y : TailConfig) → ¬ IsRightSplit r x y)

@@ -1,6 +1,5 @@
 use Rattle.word_image.proofs.Common.{IsRule-mirrored}
-use Rattle.tail_laws.proofs.NormalSplits.{IsRightClosing-no_normal}
-use Rattle.tail_laws.proofs.Sides.{IsLeftClosing-mirrored}
+use Rattle.tail_laws.proofs.Certainty.{IsLeftClosing-mirrored, IsRightClosing-no_normal}
 use Rattle.tail_laws.proofs.closing_has_no_split.Goals as goal
 
 pub returns-clause-right : goal.returns-clause-right

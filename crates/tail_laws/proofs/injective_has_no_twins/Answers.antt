@@ -1,4 +1,4 @@
-use Rattle.tail_laws.proofs.NoTwins.{IsInjective-no_twins}
+use Rattle.tail_laws.proofs.Certainty.{IsInjective-no_twins}
 use Rattle.tail_laws.proofs.injective_has_no_twins.Goals as goal
 
 pub returns : goal.returns

@@ -2,7 +2,7 @@ use Rattle.std.proofs.Common.{◌≡◌, map, true, false, refl}
 use Rattle.word_image.proofs.Common.{IsRule, pair_count, IsLeastTwins}
 use Rattle.search_laws.proofs.Common.{uncode}
 use Rattle.tail_laws.proofs.Common.{no_twins, NoneBelow, IsFirstBelow, IsTurn, spelled_pair, IsLeastTwins-first, no_twins-none, length-IsLeastTwins}
-use Rattle.tail_laws.proofs.NoTwins.{IsInjective-no_twins}
+use Rattle.tail_laws.proofs.Certainty.{IsInjective-no_twins}
 use Rattle.inverse_window.proofs.twin_pairs.least_twins.Goals as goal
 
 pub returns-in-Some-clause-least : goal.returns-in-Some-clause-least

@@ -13,3 +13,9 @@ returns c =
       λ same. ShareImage-from_run c.left.ensures.tail.short.tail c.left-2.ensures.tail.short.tail c.args.rule.now _ _ (omega (arith, ints)) (omega (arith, ints)) (run.0 same),
       λ share. run.1 (λ d l. share _),
     )
+
+pub share_run-requires-clause-near : goal.share_run-requires-clause-near
+share_run-requires-clause-near c =
+    let first = ap length c.left.ensures.left in
+    let second = ap length c.left-2.ensures.left in
+    omega (arith, ints)
