@@ -1,11 +1,11 @@
 -- A placed configuration that maps to another is a walk that spells the other's letters, and from its shape come three walks.
-use Rattle.std.proofs.Common.{◌≡◌, ℕ, ◌+◌, ◌-◌, ◌*◌, List, length, take, drop, ℤ, pos, ◌+ℤ◌, ◌-ℤ◌, neg_ℤ, refl, sym, ap, ap₂, ◌∙◌, subst, subst₂, arith, add-mul, take_at}
-use Rattle.word_image.proofs.Common.{repeat, ints, LocalRule, IsRule, value, local_map, IsPreimage}
-use Rattle.tail_config.proofs.Common.{image_of, TailConfig, IsTail, cell, cells, length-run, IsWord-run, run-same, take-run, drop-run, image-run, cell-below, cells-middle, cells-left, cells-right, RepeatsRight-times, cell-right_period}
+use Rattle.std.proofs.Common.{◌≡◌, ℕ, ◌+◌, ◌-◌, ◌*◌, List, length, take, drop, ℤ, pos, ◌+ℤ◌, ◌-ℤ◌, neg_ℤ, refl, sym, ap, ap₂, ◌∙◌, subst, subst₂, arith, add-mul}
+use Rattle.word_image.proofs.Common.{ints, LocalRule, IsRule, value, local_map, IsPreimage}
+use Rattle.tail_config.proofs.Common.{image_of, TailConfig, config_of, cell, cells, length-run, IsWord-run, run-same, take-run, drop-run, image-run, cell-below, cells-middle, cells-left, cells-right, cell-right_period}
 use Rattle.tail_preimage.specs.Walks.{IsWalk, before_last}
 use Rattle.tail_preimage.specs.Preimages.{PlacedConfig, MapsTo, Shape, IsShapedPreimage, stretch}
-use Rattle.tail_preimage.specs.FirstWalks.{AreLoopWalks}
-use Rattle.tail_preimage.proofs.laws.Stretches.{length-repeat, repeat-add, stretch_length, stretch_start, cells-lefts, cells-rights, cells-stretch}
+use Rattle.tail_preimage.specs.FirstWalks.{AreLoopWalks, placed_of}
+use Rattle.tail_preimage.proofs.laws.Stretches.{stretch_length, stretch_start, cells-lefts, cells-rights, cells-stretch}
 use Rattle.tail_preimage.proofs.laws.Placements.{placed_cells-cells}
 
 -- a run of the cells of a placed configuration is a preimage of a run of the letters
@@ -39,31 +39,12 @@ IsWalk-placed {r} {t} {p} rule h i j n e =
     }
 
 -- a stretch has a preimage where some placed configuration maps to all
-pub IsPreimage-stretch : {r : LocalRule} {t : TailConfig} {p : PlacedConfig} → IsRule r → IsTail r.states t → MapsTo r p t → (b a : ℕ) → (x : List ℕ) × IsPreimage r (stretch t b a) x
-IsPreimage-stretch {r} {t} {p} rule ht h b a =
+pub IsPreimage-stretch : {r : LocalRule} {t : TailConfig} {p : PlacedConfig} → IsRule r → MapsTo r p t → (b a : ℕ) → (x : List ℕ) × IsPreimage r (stretch t b a) x
+IsPreimage-stretch {r} {t} {p} rule h b a =
     let i : ℤ = stretch_start t b in
     let j : ℤ = i +ℤ r.offset -ℤ p.at in
     let x : List ℕ = cells p.config j (stretch_length t b a + (r.width - 1)) in
-    (x, subst (λ w. IsPreimage r w x) (cells-stretch ht b a) (IsPreimage-placed rule h i j (stretch_length t b a) refl))
-
--- n left periods that end b periods before place 0
-run-lefts : (t : TailConfig) (b n : ℕ) (i : ℤ) → i ≡ stretch_start t (n + b) → cells t i (n * length t.left) ≡ repeat n t.left
-run-lefts t b n i e =
-    let p : ℕ = length t.left in
-    ap (λ j. cells t j (n * p)) e
-    ∙ sym (take-run (cell t) (stretch_start t (n + b)) ((n + b) * p) (n * p) (omega arith))
-    ∙ ap (take (n * p)) (cells-lefts t (n + b) ∙ repeat-add n b t.left)
-    ∙ take_at (repeat n t.left) (repeat b t.left) (n * p) (length-repeat n t.left)
-
--- n right periods from a periods after the middle on
-run-rights : {k : ℕ} {t : TailConfig} → IsTail k t → (a n : ℕ) → cells t (pos (length t.middle + a * length t.right)) (n * length t.right) ≡ repeat n t.right
-run-rights {t = t} h a n =
-    let p : ℕ = length t.right in
-    let m : ℤ = pos (length t.middle) in
-    run-same (cell t) (cell t) (pos (length t.middle + a * p)) m (n * p) (λ c l.
-    let place : pos (length t.middle + a * p) +ℤ pos c ≡ m +ℤ pos c +ℤ pos (a * p) = omega (arith, ints) in
-    ap (cell t) place ∙ RepeatsRight-times a p (cell t) m (cell-right_period t) (m +ℤ pos c) (omega (arith, ints)))
-    ∙ cells-rights h n
+    (x, subst (λ w. IsPreimage r w x) (cells-stretch t b a) (IsPreimage-placed rule h i j (stretch_length t b a) refl))
 
 -- a walk along a run of n letters, whose letters before its last node are the run of the configuration there
 before_last-cells : (r : LocalRule) (c : TailConfig) (j : ℤ) (n : ℕ) → before_last r (cells c j (n + (r.width - 1))) ≡ cells c j n
@@ -79,13 +60,11 @@ pub record HasLoopWalks (r : LocalRule) (t : TailConfig) (s : Shape) (p : Placed
   pub y : List ℕ
   pub z : List ℕ
   pub walks : AreLoopWalks r t s v w x y z
-  pub left : before_last r x ≡ p.config.left
-  pub middle : before_last r y ≡ p.config.middle
-  pub right : before_last r z ≡ p.config.right
+  pub placed : placed_of r t s.before x y z ≡ p
 
 -- a placed configuration that has a shape and maps to t is made of three walks
-pub HasLoopWalks-shape : {r : LocalRule} {t : TailConfig} {s : Shape} {p : PlacedConfig} → IsRule r → IsTail r.states t → IsShapedPreimage r t s p → HasLoopWalks r t s p
-HasLoopWalks-shape {r} {t} {s} {p} rule ht h =
+pub HasLoopWalks-shape : {r : LocalRule} {t : TailConfig} {s : Shape} {p : PlacedConfig} → IsRule r → IsShapedPreimage r t s p → HasLoopWalks r t s p
+HasLoopWalks-shape {r} {t} {s} {p} rule h =
     let c : TailConfig = p.config in
     let d : ℕ = r.width - 1 in
     let left : ℕ = s.back * length t.left in
@@ -124,13 +103,14 @@ HasLoopWalks-shape {r} {t} {s} {p} rule ht h =
       walks = record {
         back_some = h.shape.back_some;
         on_some = h.shape.on_some;
-        left = subst (λ q. IsWalk r q v v x) (run-lefts t s.before s.back i refl)
+        left = subst (λ q. IsWalk r q v v x) (cells-lefts t s.before s.back i refl)
             (subst₂ (λ a b. IsWalk r (cells t i left) a b x) round (ap (node_from r c) back_end) walk_x);
-        middle = subst (λ q. IsWalk r q v w y) (cells-stretch ht s.before s.after) (subst (λ j. IsWalk r (cells t (stretch_start t s.before) middle) v (node_from r c j) y) middle_end walk_y);
-        right = subst (λ q. IsWalk r q w w z) (run-rights ht s.after s.on)
+        middle = subst (λ q. IsWalk r q v w y) (cells-stretch t s.before s.after) (subst (λ j. IsWalk r (cells t (stretch_start t s.before) middle) v (node_from r c j) y) middle_end walk_y);
+        right = subst (λ q. IsWalk r q w w z) (cells-rights t s.after s.on (pos (length t.middle + s.after * length t.right)) refl)
             (subst (λ b. IsWalk r (cells t (pos (length t.middle + s.after * length t.right)) right) w b z) turn walk_z);
       };
-      left = before_last-cells r c first left ∙ ap (λ n. cells c (neg_ℤ (pos n)) n) (sym left_long) ∙ cells-left c;
-      middle = before_last-cells r c (pos 0) middle ∙ ap (cells c (pos 0)) (sym middle_long) ∙ cells-middle c;
-      right = before_last-cells r c last right ∙ ap₂ (λ (a b : ℕ). cells c (pos a) b) (sym middle_long) (sym right_long) ∙ cells-right c;
+      placed = ap₂ (λ (i : ℤ) (m : TailConfig). record { at = i; config = m }) (sym h.shape.at)
+          (ap₂ (λ (a b : List ℕ). config_of a b (before_last r z))
+          (before_last-cells r c first left ∙ ap (λ n. cells c (neg_ℤ (pos n)) n) (sym left_long) ∙ cells-left c) (before_last-cells r c (pos 0) middle ∙ ap (cells c (pos 0)) (sym middle_long) ∙ cells-middle c)
+          ∙ ap (config_of c.left c.middle) (before_last-cells r c last right ∙ ap₂ (λ (a b : ℕ). cells c (pos a) b) (sym middle_long) (sym right_long) ∙ cells-right c));
     }
