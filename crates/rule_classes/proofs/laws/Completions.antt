@@ -13,11 +13,11 @@ Completes-itself {k} {c} {low} {high} colouring = record { colouring = colouring
 -- Tables
 
 -- one window less
-pub AgreeFrom-less : {r : LocalRule} {c best : Colouring} {low high v : ℕ} → IsRule r → high ≤ r.states → IsColouring r.states c → IsKnown r low high v
+pub AgreeFrom-less : {r : LocalRule} {c best : Colouring} {low high v : ℕ} → IsRule r → IsColouring r.states c → IsKnown r low high v
     → IsChosen low high (entry r c v) → entry r c v ≡ entry r best v → AgreeFrom r c low high best (v + 1) → AgreeFrom r c low high best v
-AgreeFrom-less {r} {c} {best} {low} {high} {v} rule most colouring known chosen same rest = record {
+AgreeFrom-less {r} {c} {best} {low} {high} {v} rule colouring known chosen same rest = record {
   same = λ d completes u from within.
-      ⊎_elim (λ (e : u ≡ v). ap (entry r d) e ∙ entry-chosen rule most colouring completes known chosen ∙ same ∙ ap (entry r best) (sym e))
+      ⊎_elim (λ (e : u ≡ v). ap (entry r d) e ∙ entry-chosen rule colouring completes known chosen ∙ same ∙ ap (entry r best) (sym e))
       (λ other. rest.same d completes u (omega arith) within) (cases_eq u v);
 }
 
@@ -91,7 +91,7 @@ Completes-last {k} {c} {d} {low} {high} few most colouring completes = record {
 -- where no colour is free, a colouring and one that completes it make one rule
 pub recoloured_number-completes : {r : LocalRule} {c d : Colouring} → IsRule r → IsColouring r.states c → Completes r.states c 0 0 d → recoloured_number r c ≡ recoloured_number r d
 recoloured_number-completes {r} {c} {d} rule colouring completes = recoloured_number-same r c d (λ u l.
-    sym (entry-chosen rule (omega arith) colouring completes (record { below = l; near = inl refl }) (inr (omega arith))))
+    sym (entry-chosen rule colouring completes (record { below = l; near = inl refl }) (inr (omega arith))))
 
 -- the least of some colourings is the least of all that have the same property
 IsLeastAmong-same : {r : LocalRule} {P Q : Colouring → Type 0} {before found : Colouring} → ((d : Colouring) → (P d ↔ Q d)) → IsLeastAmong r P before found → IsLeastAmong r Q before found

@@ -63,8 +63,8 @@ letters-chosen {r} {low} {high} {v} rule known i l =
     known.near
 
 -- a colouring that completes another has the same old letters at a known window
-old_word-completes : {r : LocalRule} {c d : Colouring} {low high v : ℕ} → IsRule r → high ≤ r.states → Completes r.states c low high d → IsKnown r low high v → old_word r d v ≡ old_word r c v
-old_word-completes {r} {c} {d} {low} {high} {v} rule most completes known =
+old_word-completes : {r : LocalRule} {c d : Colouring} {low high v : ℕ} → IsRule r → Completes r.states c low high d → IsKnown r low high v → old_word r d v ≡ old_word r c v
+old_word-completes {r} {c} {d} {low} {high} {v} rule completes known =
     let w : List ℕ = word_of r.states r.width v in
     let long : length w ≡ r.width = length-word_of r.states r.width v in
     let first = length-map w (slice_index d.letters) in
@@ -75,30 +75,30 @@ old_word-completes {r} {c} {d} {low} {high} {v} rule most completes known =
     ∙ sym (get_or-map (slice_index c.letters) w i 0 0 within))
 
 -- a colouring that completes another is given the same letter there
-given-completes : {r : LocalRule} {c d : Colouring} {low high v : ℕ} → IsRule r → high ≤ r.states → Completes r.states c low high d → IsKnown r low high v
+given-completes : {r : LocalRule} {c d : Colouring} {low high v : ℕ} → IsRule r → Completes r.states c low high d → IsKnown r low high v
     → local_map (turned r d.mirrored) (old_word r d v) ≡ local_map (turned r c.mirrored) (old_word r c v)
-given-completes {r} {c} {d} {low} {high} {v} rule most completes known =
-    ap₂ (λ (mirror : Bool) (w : List ℕ). local_map (turned r mirror) w) completes.mirrored (old_word-completes rule most completes known)
+given-completes {r} {c} {d} {low} {high} {v} rule completes known =
+    ap₂ (λ (mirror : Bool) (w : List ℕ). local_map (turned r mirror) w) completes.mirrored (old_word-completes rule completes known)
 
 -- which has the same colour, if that is chosen
-pub entry-chosen : {r : LocalRule} {c d : Colouring} {low high v : ℕ} → IsRule r → high ≤ r.states → IsColouring r.states c → Completes r.states c low high d → IsKnown r low high v
+pub entry-chosen : {r : LocalRule} {c d : Colouring} {low high v : ℕ} → IsRule r → IsColouring r.states c → Completes r.states c low high d → IsKnown r low high v
     → IsChosen low high (entry r c v) → entry r d v ≡ entry r c v
-entry-chosen {r} {c} {d} {low} {high} {v} rule most colouring completes known chosen =
+entry-chosen {r} {c} {d} {low} {high} {v} rule colouring completes known chosen =
     let below = turned-below rule c.mirrored (old_word r c v) in
     let colour = colouring.colour _ below in
-    ap (slice_index d.colours) (given-completes rule most completes known ∙ sym (completes.letters (entry r c v) colour chosen ∙ colouring.back _ below))
+    ap (slice_index d.colours) (given-completes rule completes known ∙ sym (completes.letters (entry r c v) colour chosen ∙ colouring.back _ below))
     ∙ completes.colouring.there (entry r c v) colour
 
 -- where no colour is chosen, the window has at least the least free colour
-pub entry-free : {r : LocalRule} {c d : Colouring} {low high v : ℕ} → IsRule r → high ≤ r.states → IsColouring r.states c → Completes r.states c low high d → IsKnown r low high v
+pub entry-free : {r : LocalRule} {c d : Colouring} {low high v : ℕ} → IsRule r → IsColouring r.states c → Completes r.states c low high d → IsKnown r low high v
     → low ≤ entry r c v → low ≤ entry r d v
-entry-free {r} {c} {d} {low} {high} {v} rule most colouring completes known free =
+entry-free {r} {c} {d} {low} {high} {v} rule colouring completes known free =
     ⊎_elim
     (λ (less : entry r d v < low).
     let below = turned-below rule d.mirrored (old_word r d v) in
     let colour = completes.colouring.colour _ below in
     let same : entry r c v ≡ entry r d v =
-    ap (slice_index c.colours) (sym (given-completes rule most completes known) ∙ sym (completes.colouring.back _ below) ∙ completes.letters (entry r d v) colour (inl less))
+    ap (slice_index c.colours) (sym (given-completes rule completes known) ∙ sym (completes.colouring.back _ below) ∙ completes.letters (entry r d v) colour (inl less))
     ∙ colouring.there (entry r d v) colour in
     absurd (omega arith))
     (λ from. from)

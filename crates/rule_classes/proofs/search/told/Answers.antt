@@ -37,7 +37,7 @@ pub returns-then-is_free-clause-no_less : goal.returns-then-is_free-clause-no_le
 returns-then-is_free-clause-no_less c greater =
     let (known, agree, colour, other) = here (goal.at.returns-then-is_free-clause-no_less c).After-from-in-loop-letter in
     none_less c.k-k.ensures.rule c.requires.best.colouring known.below agree (λ d completes.
-    omega (arith, other, leb-false _ _ greater, entry-free c.k-k.ensures.rule c.requires.high c.requires.colouring completes known (omega (arith, colour, (c.is_free.ensures.free c.if-is_free.true).0))))
+    omega (arith, other, leb-false _ _ greater, entry-free c.k-k.ensures.rule c.requires.colouring completes known (omega (arith, colour, (c.is_free.ensures.free c.if-is_free.true).0))))
 
 pub returns-then-colour-other-clause-less : goal.returns-then-colour-other-clause-less
 returns-then-colour-other-clause-less c less same =
@@ -49,10 +49,10 @@ returns-then-colour-other-clause-no_less c greater =
     let (known, agree, colour, other) = here (goal.at.returns-then-colour-other-clause-no_less c).After-from-in-loop-letter in
     let chosen = subst (IsChosen c.args.low c.args.high) colour (c.is_free.ensures.chosen c.if-is_free.false) in
     none_less c.k-k.ensures.rule c.requires.best.colouring known.below agree (λ d completes.
-    omega (arith, colour, other, ltb-false _ _ greater, c.if-colour-other.true, entry-chosen c.k-k.ensures.rule c.requires.high c.requires.colouring completes known chosen))
+    omega (arith, colour, other, ltb-false _ _ greater, c.if-colour-other.true, entry-chosen c.k-k.ensures.rule c.requires.colouring completes known chosen))
 
 pub loop-letter-preserved : goal.loop-letter-preserved
 loop-letter-preserved c =
     let (known, agree, colour, other) = here (goal.at.loop-letter-preserved c).After-from-in-loop-letter in
-    AgreeFrom-less c.k-k.ensures.rule c.requires.high c.requires.colouring known
+    AgreeFrom-less c.k-k.ensures.rule c.requires.colouring known
     (subst (IsChosen c.args.low c.args.high) colour (c.is_free.ensures.chosen c.if-is_free.false)) (sym colour ∙ c.if-colour-other.false ∙ other) agree
