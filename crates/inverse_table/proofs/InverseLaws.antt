@@ -6,7 +6,7 @@ use Rattle.tail_laws.proofs.Common.{IsInjective-determined}
 use Rattle.garden_laws.proofs.Preinjective.{IsSurjective-injective}
 use Rattle.inverse_table.specs.InverseMaps.{AreMapLetters, GivesBack, map_image, map_over}
 use Rattle.inverse_table.specs.MapLimits.{IsWindowMap}
-use Rattle.inverse_table.specs.InverseFaults.{AreApartAt, IsApartAt}
+use Rattle.inverse_table.specs.InverseFaults.{AreApartAt}
 use Rattle.inverse_table.specs.ImageValues.{AreImageValues, AreReadBack, AreUndetermined, letter_by_unit}
 use Rattle.inverse_table.proofs.ImageLaws.{image-at}
 use Rattle.inverse_table.proofs.WordCounts.{length-most}
@@ -19,18 +19,16 @@ pub record IsReadingBack (r : LocalRule) (n c : ℕ) (letter : ℕ → ℕ) (ima
   pub reads : (x : List ℕ) → IsWord r.states x → length x ≡ n + (r.width - 1) → letter (value r.states x) ≡ slice_index x c
   pub long : length letters ≡ r.states ^ n
 
--- the letter at c, by the value of a word
-pub letter_by_unit-place : {r : LocalRule} → IsRule r → (n c k unit : ℕ) → 1 ≤ n → c ≤ n + r.width - 2 → k ≡ r.states → unit ≡ r.states ^ (n + (r.width - 1) - 1 - c)
-    → (x : List ℕ) → IsWord r.states x → length x ≡ n + (r.width - 1) → letter_by_unit k unit (value r.states x) ≡ slice_index x c
-letter_by_unit-place {r} rule n c k unit some inside same behind x h long =
-    ap (λ j. value r.states x / unit % j) same ∙ ap (λ u. value r.states x / u % r.states) behind
-    ∙ letter-value r.states x c (n + (r.width - 1) - 1 - c) h (omega arith)
-
 -- the letters are read back by their place in the value
 pub IsReadingBack-place : {r : LocalRule} {n c k unit : ℕ} {images letters : List ℕ} → IsRule r → 1 ≤ n → c ≤ n + r.width - 2 → k ≡ r.states
     → unit ≡ r.states ^ (n + (r.width - 1) - 1 - c) → AreImageValues r n images → length letters ≡ r.states ^ n → IsReadingBack r n c (letter_by_unit k unit) images letters
-IsReadingBack-place {r} {n} {c} {k} {unit} rule some inside same behind values long =
-    record { some = some; inside = inside; values = values; reads = letter_by_unit-place rule n c k unit some inside same behind; long = long }
+IsReadingBack-place {r} {n} {c} {k} {unit} rule some inside same behind values long = record {
+  some = some;
+  inside = inside;
+  values = values;
+  reads = λ x h wide. ap (λ j. value r.states x / unit % j) same ∙ ap (λ u. value r.states x / u % r.states) behind ∙ letter-value r.states x c (n + (r.width - 1) - 1 - c) h (omega arith);
+  long = long;
+}
 
 -- the word of n + m - 1 letters with this value
 abbrev pub word_at : LocalRule → ℕ → ℕ → List ℕ
@@ -49,28 +47,26 @@ length-image-word_at : (r : LocalRule) (n v : ℕ) → length (image r (word_at 
 length-image-word_at r n v = length-image r (word_at r n v) ∙ ap (λ j. j - (r.width - 1)) (length-word_of r.states (n + (r.width - 1)) v) ∙ omega arith
 
 -- two values of words that are apart: the words show that the window isn't determined
-IsApartAt-apart : {r : LocalRule} {n c : ℕ} {letter : ℕ → ℕ} {images letters : List ℕ} → IsRule r → IsReadingBack r n c letter images letters → (u v : ℕ)
-    → AreUndetermined letter images u v → IsApartAt r n c (word_at r n u) (word_at r n v)
-IsApartAt-apart {r} {n} rule h u v apart =
+pub AreApartAt-apart : {r : LocalRule} {n c : ℕ} {letter : ℕ → ℕ} {images letters : List ℕ} → IsRule r → IsReadingBack r n c letter images letters → (u v : ℕ)
+    → AreUndetermined letter images u v → AreApartAt r n c u v
+AreApartAt-apart {r} {n} rule h u v apart =
     let first = letter-word_at h u apart.first in
     let second = letter-word_at h v apart.second in
     record {
-      one_image = record {
-        first = first.0;
-        second = second.0;
-        first_long = length-word_of r.states (n + (r.width - 1)) u;
-        second_long = length-word_of r.states (n + (r.width - 1)) v;
-        one_image = value-injective r.states (image r (word_at r n u)) (image r (word_at r n v)) (IsWord-image rule (word_at r n u)) (IsWord-image rule (word_at r n v))
-            (length-image-word_at r n u ∙ sym (length-image-word_at r n v)) (sym (image-at h.values u apart.first) ∙ apart.one_image ∙ image-at h.values v apart.second);
+      first = omega (arith, apart.first, h.values.long);
+      second = omega (arith, apart.second, h.values.long);
+      words = record {
+        one_image = record {
+          first = first.0;
+          second = second.0;
+          first_long = length-word_of r.states (n + (r.width - 1)) u;
+          second_long = length-word_of r.states (n + (r.width - 1)) v;
+          one_image = value-injective r.states (image r (word_at r n u)) (image r (word_at r n v)) (IsWord-image rule (word_at r n u)) (IsWord-image rule (word_at r n v))
+              (length-image-word_at r n u ∙ sym (length-image-word_at r n v)) (sym (image-at h.values u apart.first) ∙ apart.one_image ∙ image-at h.values v apart.second);
+        };
+        differ = λ same. apart.differ (first.1 ∙ same ∙ sym second.1);
       };
-      differ = λ same. apart.differ (first.1 ∙ same ∙ sym second.1);
     }
-
--- the same two values, with their bounds
-pub AreApartAt-apart : {r : LocalRule} {n c : ℕ} {letter : ℕ → ℕ} {images letters : List ℕ} → IsRule r → IsReadingBack r n c letter images letters → (u v : ℕ)
-    → AreUndetermined letter images u v → AreApartAt r n c u v
-AreApartAt-apart rule h u v apart =
-    record { first = omega (arith, apart.first, h.values.long); second = omega (arith, apart.second, h.values.long); words = IsApartAt-apart rule h u v apart }
 
 -- where the letter of each word is read back, the letter at the image of a word is its letter c
 read_back : {r : LocalRule} {n c : ℕ} {letter : ℕ → ℕ} {images letters : List ℕ} → IsReadingBack r n c letter images letters → AreReadBack letter images (length images) letters

@@ -1,15 +1,11 @@
 -- Letters that are read back from the images of words, one word after the other.
-use Rattle.std.proofs.Common.{inl, inr, ◌≡◌, ◌≢◌, ℕ, ◌+◌, ◌<◌, List, length, set, slice_index, sym, ap, subst, ◌∙◌, ⊎_elim, arith, length-set, get_or-set_other}
+use Rattle.std.proofs.Common.{inl, inr, ◌≡◌, ◌≢◌, ℕ, ◌+◌, ◌<◌, List, length, set, slice_index, sym, ap, subst, ◌∙◌, ⊎_elim, arith, length-set, get_or-set_other, below_more}
 use Rattle.word_image.proofs.Common.{cases_eq, get_or-set_at}
 use Rattle.inverse_table.specs.ImageValues.{IsRead, IsLetterBack, HasApart}
 
--- no word has an image that none of the first words has, if the next has another one
-none_more : (images : List ℕ) (count e : ℕ) → ((word : ℕ) → word < count → slice_index images word ≢ e) → slice_index images count ≢ e → (word : ℕ) → word < count + 1 → slice_index images word ≢ e
-none_more images count e none here word l = ⊎_elim (λ last. λ at. here (ap (slice_index images) (sym last) ∙ at)) (λ other. none word (omega arith)) (cases_eq word count)
-
 -- one more word for an image that it doesn't have, or whose letter was read before
 IsLetterBack-more : (letter : ℕ → ℕ) (images : List ℕ) (count e a : ℕ) → IsLetterBack letter images count e a → (slice_index images count ≡ e → a ≢ 16) → IsLetterBack letter images (count + 1) e a
-IsLetterBack-more letter images count e a back here = ⊎_elim (λ found. inl (found.0, omega arith, found.2, found.3)) (λ none. inr (none_more images count e none.0 (λ at. here at none.1), none.1)) back
+IsLetterBack-more letter images count e a back here = ⊎_elim (λ found. inl (found.0, omega arith, found.2, found.3)) (λ none. inr (below_more (λ word. slice_index images word ≢ e) count none.0 (λ at. here at none.1), none.1)) back
 
 -- a word whose image has its letter
 pub IsRead-same : {letter : ℕ → ℕ} {images letters : List ℕ} (count at a : ℕ) → IsRead letter images count letters → at ≡ slice_index images count → letter count ≡ a

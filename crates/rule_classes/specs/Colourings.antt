@@ -66,11 +66,15 @@ pub record Completes (k : ℕ) (c : Colouring) (low high : ℕ) (d : Colouring) 
   pub mirrored : d.mirrored ≡ c.mirrored
   pub letters : (a : ℕ) → a < k → IsChosen low high a → slice_index d.letters a ≡ slice_index c.letters a
 
--- `found` makes the least rule among `before` and the colourings that complete c. If no colouring that completes c makes a lesser rule than `before`, then `found` is `before`
-pub record IsLeastColouring (r : LocalRule) (c : Colouring) (low high : ℕ) (before found : Colouring) : Type 0 where
+-- `found` makes the least rule among `before` and the colourings with the property P. If no colouring with this property makes a lesser rule than `before`, then `found` is `before`
+pub record IsLeastAmong (r : LocalRule) (P : Colouring → Type 0) (before found : Colouring) : Type 0 where
   pub colouring : IsColouring r.states found
-  pub one : (found ≡ before) ⊎ (Completes r.states c low high found × (recoloured_number r found < recoloured_number r before))
-  pub least : (d : Colouring) → Completes r.states c low high d → recoloured_number r found ≤ recoloured_number r d
+  pub one : (found ≡ before) ⊎ (P found × (recoloured_number r found < recoloured_number r before))
+  pub least : (d : Colouring) → P d → recoloured_number r found ≤ recoloured_number r d
+
+-- `found` makes the least rule among `before` and the colourings that complete c
+abbrev pub IsLeastColouring : LocalRule → Colouring → ℕ → ℕ → Colouring → Colouring → Type 0
+IsLeastColouring r c low high = IsLeastAmong r (Completes r.states c low high)
 
 -- for each window with a value of at least v, every colouring that completes c makes a rule that gives the same letter as the rule that `best` makes
 pub record AgreeFrom (r : LocalRule) (c : Colouring) (low high : ℕ) (best : Colouring) (v : ℕ) : Type 0 where

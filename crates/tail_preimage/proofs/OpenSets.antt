@@ -1,15 +1,14 @@
 -- The sets of nodes from which the rest of a word leads into a goal, from the end of the word on, and the first walk through them.
-use Rattle.std.proofs.Common.{◌≡◌, ◌≢◌, ℕ, zero, suc, ◌+◌, ◌-◌, ◌*◌, ◌/◌, ◌%◌, ◌^◌, ◌<◌, List, [], ◌∷◌, ◌++◌, length, drop, slice_index, IsBitSet, bit_and, refl, sym, ◌∙◌, ap, subst, arith, ⊎_elim, mod-lt, mod-eq_of_lt, pow-suc, one-mul, mul_assoc, div-one, div-add-mod'}
-use Rattle.word_image.proofs.Common.{pow-zero, one-le-pow, add-mul-mod_self_right, cases_lt, mod-mul-add, get_or_append_left, get_or_push, length_push, drop_all, LocalRule, IsRule, word_of, node_count, next, node_letter, IsNodeSet, HasBit, next-below, IsEnds, IsEdge, IsSetOf-same}
-use Rattle.pair_laws.proofs.Common.{next-digits, IsBitSet-below, IsBitSet-and, IsBitSet-apart}
+use Rattle.std.proofs.Common.{◌≡◌, ◌≢◌, ℕ, ◌+◌, ◌-◌, ◌^◌, ◌<◌, List, [], ◌∷◌, ◌++◌, length, drop, slice_index, IsBitSet, bit_and, refl, sym, subst, arith, ⊎_elim}
+use Rattle.word_image.proofs.Common.{cases_lt, get_or_append_left, get_or_push, length_push, drop_all, LocalRule, IsRule, node_count, IsNodeSet, HasBit, IsEnds, IsEdge, IsSetOf-same}
+use Rattle.pair_laws.proofs.Common.{IsBitSet-apart}
 use Rattle.word_image.specs.declared.side.Side.TheVariants.{Right}
 use Rattle.tail_preimage.specs.Walks.{Reaches}
-use Rattle.tail_preimage.specs.Relations.{IsRelation, IsFirst}
+use Rattle.tail_preimage.specs.Relations.{IsRelation}
 use Rattle.tail_preimage.specs.FirstWalks.{AreOpen}
 use Rattle.tail_preimage.proofs.laws.Stretches.{drop-more, drop-first}
-use Rattle.tail_preimage.proofs.laws.Walks.{IsWalk-last}
 use Rattle.tail_preimage.proofs.laws.Parts.{IsRelation-below}
-use Rattle.tail_preimage.proofs.laws.LeastWalks.{Reaches-none, Reaches-cons, IsLeastBegun, IsLeastBegun-push}
+use Rattle.tail_preimage.proofs.laws.LeastWalks.{Reaches-none, Reaches-cons, IsLeastBegun}
 
 -- the set at the end of the word is the goal
 pub AreOpen-start : {r : LocalRule} {goal : ℕ} → (w : List ℕ) → goal < 2 ^ node_count r → AreOpen r w goal 0 (goal ∷ [])
@@ -56,32 +55,5 @@ open-after {r} {w} {sets} {goal} {n} h inside =
 -- where the rest of the word reaches the goal some edge leads on into it
 pub some_edge_on : {r : LocalRule} {w x : List ℕ} {goal u n v ends set : ℕ} → IsRule r → n < length w → IsLeastBegun r w u goal n v x → IsEnds Right r v (slice_index w n) ends → IsNodeSet r (Reaches r (drop (n + 1) w) goal) set → bit_and ends set ≢ 0
 some_edge_on {r} {w} {goal = goal} {n = n} {v = v} {ends = ends} {set = set} rule inside begun e after none =
-    let (s, below, edge, on) = (Reaches-cons rule (slice_index w n) (drop (n + 1) w) goal v (IsWalk-last begun.walk)).0 (subst (λ z. Reaches r z goal v) (drop-first w n inside) begun.open_still) in
+    let (s, below, edge, on) = (Reaches-cons rule (slice_index w n) (drop (n + 1) w) goal v begun.node).0 (subst (λ z. Reaches r z goal v) (drop-first w n inside) begun.open_still) in
     IsBitSet-apart ends set s none ((e.nodes s below).1 edge) ((after.nodes s below).1 on)
-
--- the last letter of a node is what its number leaves over
-last_letter : (k n u : ℕ) → 0 < k → u < k ^ suc n → slice_index (word_of k (suc n) u) n ≡ u % k
-last_letter k zero u some below = ap (λ p. u / p) (pow-zero k) ∙ div-one u ∙ sym (mod-eq_of_lt (subst (λ p. u < p) (pow-suc k 0 ∙ ap (λ p. p * k) (pow-zero k) ∙ one-mul k) below))
-last_letter k (suc n) u some below =
-    let high : u ≡ u % k ^ suc n + u / k ^ suc n * k ^ n * k = omega (arith, div-add-mod' u (k ^ suc n), ap (λ p. u / k ^ suc n * p) (pow-suc k n), mul_assoc (u / k ^ suc n) (k ^ n) k) in
-    last_letter k n (u % k ^ suc n) some (mod-lt u (one-le-pow (suc n) k some))
-    ∙ sym (add-mul-mod_self_right (u % k ^ suc n) (u / k ^ suc n * k ^ n) k) ∙ ap (λ v. v % k) (sym high)
-
--- the first walk goes on to the least of its nodes to which an edge with the next label leads, by that node's last letter
-pub IsLeastBegun-node : {r : LocalRule} {w x : List ℕ} {goal u n v ends set node : ℕ} → IsRule r → n < length w → IsLeastBegun r w u goal n v x → IsEnds Right r v (slice_index w n) ends → IsNodeSet r (Reaches r (drop (n + 1) w) goal) set
-    → IsFirst (IsBitSet (bit_and ends set)) node → IsLeastBegun r w u goal (n + 1) node (x ++ node_letter r node (r.width - 2) ∷ [])
-IsLeastBegun-node {r} {w} {x} {goal} {u} {n} {v} {ends} {set} {node} rule inside begun e after least =
-    let (first, second) = (IsBitSet-and ends set node).0 least.holds in
-    let below : node < node_count r = IsBitSet-below (node_count r) ends node e.within first in
-    let (b, letter, (spells, leads)) = (e.nodes node below).0 first in
-    let split = next-digits rule v b letter in
-    let long : r.width - 1 ≡ suc (r.width - 2) = omega (arith, rule.shape.least_width) in
-    let last : node_letter r node (r.width - 2) ≡ b = ap (λ n. slice_index (word_of r.states n node) (r.width - 2)) long
-    ∙ last_letter r.states (r.width - 2) node (omega (arith, rule.shape.least_states)) (subst (λ n. node < r.states ^ n) long below)
-    ∙ ap (λ m. m % r.states) (sym leads ∙ split) ∙ mod-mul-add (v % r.states ^ (r.width - 2)) r.states b letter in
-    subst (λ m. IsLeastBegun r w u goal (n + 1) node (x ++ m ∷ [])) (sym last)
-    (subst (λ m. IsLeastBegun r w u goal (n + 1) m (x ++ b ∷ [])) leads
-    (IsLeastBegun-push rule begun inside b letter spells (subst (Reaches r (drop (n + 1) w) goal) (sym leads) ((after.nodes node below).0 second)) (λ c less label reach.
-    let there : next r v c < node_count r = next-below rule v c in
-    let lesser : next r v c < node = omega (arith, next-digits rule v c (omega (arith, less, letter)), split, leads, less) in
-    least.none (next r v c) lesser ((IsBitSet-and ends set (next r v c)).1 (((e.nodes (next r v c) there).1 (c, omega (arith, less, letter), (label, refl))), (after.nodes (next r v c) there).1 reach)))))

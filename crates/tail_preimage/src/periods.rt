@@ -117,7 +117,7 @@ pub fn least_sum(graph: &Graph, periods: &Periods, set: u16) -> u8
 pub fn least_first(graph: &Graph, periods: &Periods, sum: u8, set: u16) -> u8
     requires few { sum ≤ most_nodes }
     requires periods { ArePeriods graph.now periods.now }
-    requires some { (n : ℕ) × (n < sum) × Meets graph.now (Rounds (HasBit periods.now.period) n (sum - n)) set }
+    requires some { Meets graph.now (SomeRounds (HasBit periods.now.period) sum) set }
     ensures below { result < sum }
     ensures first { IsFirst (λ n. Meets graph.now (Rounds (HasBit periods.now.period) n (sum - n)) set) result }
 {

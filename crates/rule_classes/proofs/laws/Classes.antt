@@ -1,5 +1,6 @@
 -- What the rules of a class have in common, and how its least rule is found.
 use Rattle.std.proofs.Common.{◌≡◌, ℕ, ◌<◌, ◌≤◌, List, Bool, true, false, refl, sym, ap, ◌∙◌, subst, ⊎_elim, arith, ◌↔◌, true≢false}
+use mathlib.Core.Logic.Iff.{trans as iff_then}
 use Rattle.word_image.proofs.Common.{false≢true, LocalRule, IsRule, mirrored, wolfram_number, IsSurjective, IsRule-mirrored}
 use Rattle.tail_config.proofs.Common.{IsInjective, IsRightClosing, IsLeftClosing}
 use Rattle.tail_laws.proofs.Common.{IsLeftClosing-mirrored}
@@ -46,21 +47,17 @@ AgreeInVerdicts-recoloured {r} {g} {colours} {back} rule also inverse new =
       left = (IsLeftClosing-recoloured rule inverse new, IsLeftClosing-recoloured also other old);
     }
 
--- one verdict after another
-through : {A B C : Type 0} → (A ↔ B) → (B ↔ C) → A ↔ C
-through first second = (λ a. second.0 (first.0 a), λ c. first.1 (second.1 c))
-
 -- the verdicts on a rule are those on each rule of its class, with right and left exchanged by a mirror
 pub HaveOneVerdict-class : {r g : LocalRule} → IsRule r → (mirror : Bool) → IsInClass r mirror g → HaveOneVerdict r mirror g
 HaveOneVerdict-class {r} {g} rule true h =
     let alike = AgreeInVerdicts-recoloured (IsRule-mirrored rule) (IsRule-class rule true h) (inverse_letters h.recolouring).1 h.recoloured in
     record {
-      surjective = through (IsSurjective-mirrored rule) alike.surjective;
-      injective = through (IsInjective-mirrored rule) alike.injective;
+      surjective = iff_then (IsSurjective-mirrored rule) alike.surjective;
+      injective = iff_then (IsInjective-mirrored rule) alike.injective;
       right = λ e. absurd (true≢false e);
       left = λ e. absurd (true≢false e);
-      right_mirrored = λ e. through (IsRightClosing-left_mirrored rule) alike.left;
-      left_mirrored = λ e. through (IsLeftClosing-mirrored rule) alike.right;
+      right_mirrored = λ e. iff_then (IsRightClosing-left_mirrored rule) alike.left;
+      left_mirrored = λ e. iff_then (IsLeftClosing-mirrored rule) alike.right;
     }
 HaveOneVerdict-class {r} {g} rule false h =
     let alike = AgreeInVerdicts-recoloured rule (IsRule-class rule false h) (inverse_letters h.recolouring).1 h.recoloured in

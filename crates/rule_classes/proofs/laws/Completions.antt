@@ -1,10 +1,10 @@
 -- The least of the rules that complete a colouring: by comparing tables, and by choosing one colour more.
-use Rattle.std.proofs.Common.{◌≡◌, ◌≢◌, inl, inr, ◌⊎◌, ℕ, ◌+◌, ◌-◌, ◌^◌, ◌<◌, ◌≤◌, slice_index, refl, sym, ap, ◌∙◌, subst, ⊎_elim, arith, ◌==◌, if◌then◌else◌, eq-eqb, ne_eqb}
+use Rattle.std.proofs.Common.{◌≡◌, ◌≢◌, ◌↔◌, inl, inr, ◌⊎◌, ℕ, ◌+◌, ◌-◌, ◌^◌, ◌<◌, ◌≤◌, slice_index, refl, sym, ap, ◌∙◌, subst, ⊎_elim, arith, ◌==◌, if◌then◌else◌, eq-eqb, ne_eqb}
 use Rattle.word_image.proofs.Common.{cases_lt, cases_eq, cond-true, cond-false, LocalRule, IsRule}
-use Rattle.rule_classes.specs.Colourings.{IsColouring, IsChosen, Completes, IsLeastColouring, AgreeFrom, entry, recoloured_number}
+use Rattle.rule_classes.specs.Colourings.{IsColouring, IsChosen, Completes, IsLeastAmong, IsLeastColouring, AgreeFrom, entry, recoloured_number}
 use Rattle.rule_classes.specs.declared.colourings.Colouring.{Colouring}
 use Rattle.rule_classes.proofs.laws.Colourings.{recoloured_number-less, recoloured_number-same}
-use Rattle.rule_classes.proofs.laws.KnownWindows.{IsKnown, entry-chosen, entry-free}
+use Rattle.rule_classes.proofs.laws.KnownWindows.{IsKnown, entry-chosen}
 
 -- a colouring completes itself
 pub Completes-itself : {k : ℕ} {c : Colouring} {low high : ℕ} → IsColouring k c → Completes k c low high c
@@ -13,19 +13,13 @@ Completes-itself {k} {c} {low} {high} colouring = record { colouring = colouring
 -- Tables
 
 -- one window less
-pub AgreeFrom-less : {r : LocalRule} {c best : Colouring} {low high v : ℕ} → IsRule r → high ≤ r.states → IsColouring r.states c → IsKnown r low high v
+pub AgreeFrom-less : {r : LocalRule} {c best : Colouring} {low high v : ℕ} → IsRule r → IsColouring r.states c → IsKnown r low high v
     → IsChosen low high (entry r c v) → entry r c v ≡ entry r best v → AgreeFrom r c low high best (v + 1) → AgreeFrom r c low high best v
-AgreeFrom-less {r} {c} {best} {low} {high} {v} rule most colouring known chosen same rest = record {
+AgreeFrom-less {r} {c} {best} {low} {high} {v} rule colouring known chosen same rest = record {
   same = λ d completes u from within.
-      ⊎_elim (λ (e : u ≡ v). ap (entry r d) e ∙ entry-chosen rule most colouring completes known chosen ∙ same ∙ ap (entry r best) (sym e))
+      ⊎_elim (λ (e : u ≡ v). ap (entry r d) e ∙ entry-chosen rule colouring completes known chosen ∙ same ∙ ap (entry r best) (sym e))
       (λ other. rest.same d completes u (omega arith) within) (cases_eq u v);
 }
-
--- where the tables agree on the greater windows, a greater letter makes a greater number
-greater_number : {r : LocalRule} {c best d : Colouring} {low high v : ℕ} → IsRule r → IsColouring r.states best → Completes r.states c low high d → v < r.states ^ r.width
-    → AgreeFrom r c low high best (v + 1) → entry r best v < entry r d v → recoloured_number r best < recoloured_number r d
-greater_number {r} {c} {best} {d} {low} {high} {v} rule colouring completes below rest less =
-    recoloured_number-less best d v rule colouring completes.colouring below (λ u past within. sym (rest.same d completes u (omega arith) within)) less
 
 -- where the tables agree on the greater windows, a lesser letter makes a lesser number
 pub lesser_number : {r : LocalRule} {c best : Colouring} {low high v : ℕ} → IsRule r → IsColouring r.states c → IsColouring r.states best → v < r.states ^ r.width
@@ -37,19 +31,11 @@ lesser_number {r} {c} {best} {low} {high} {v} rule first second below rest less 
 pub one_number : {r : LocalRule} {c best d : Colouring} {low high : ℕ} → AgreeFrom r c low high best 0 → Completes r.states c low high d → recoloured_number r best ≡ recoloured_number r d
 one_number {r} {c} {best} {d} {low} {high} all completes = sym (recoloured_number-same r d best (λ u l. all.same d completes u (omega arith) l))
 
--- where a free letter stands and the best rule has a lesser one than any free colour, nothing is less
-pub none_less-free : {r : LocalRule} {c best : Colouring} {low high v : ℕ} → IsRule r → high ≤ r.states → IsColouring r.states c → IsColouring r.states best → IsKnown r low high v
-    → AgreeFrom r c low high best (v + 1) → low ≤ entry r c v → entry r best v < low → (d : Colouring) → Completes r.states c low high d → recoloured_number r best ≤ recoloured_number r d
-none_less-free {r} {c} {best} {low} {high} {v} rule most colouring other known rest free less d completes =
-    let from : low ≤ entry r d v = entry-free rule most colouring completes known free in
-    omega (arith, greater_number rule other completes known.below rest (omega arith))
-
--- where the best rule has a lesser letter than a chosen one, nothing is less
-pub none_less-chosen : {r : LocalRule} {c best : Colouring} {low high v : ℕ} → IsRule r → high ≤ r.states → IsColouring r.states c → IsColouring r.states best → IsKnown r low high v
-    → AgreeFrom r c low high best (v + 1) → IsChosen low high (entry r c v) → entry r best v < entry r c v → (d : Colouring) → Completes r.states c low high d → recoloured_number r best ≤ recoloured_number r d
-none_less-chosen {r} {c} {best} {low} {high} {v} rule most colouring other known rest chosen less d completes =
-    let same : entry r d v ≡ entry r c v = entry-chosen rule most colouring completes known chosen in
-    omega (arith, greater_number rule other completes known.below rest (omega arith))
+-- where each completed colouring has a greater letter than the best one, and the tables agree on the greater windows, nothing is less
+pub none_less : {r : LocalRule} {c best : Colouring} {low high v : ℕ} → IsRule r → IsColouring r.states best → v < r.states ^ r.width → AgreeFrom r c low high best (v + 1)
+    → ((d : Colouring) → Completes r.states c low high d → entry r best v < entry r d v) → (d : Colouring) → Completes r.states c low high d → recoloured_number r best ≤ recoloured_number r d
+none_less {r} {best = best} {v = v} rule colouring below rest less d completes =
+    omega (arith, recoloured_number-less best d v rule colouring completes.colouring below (λ u past within. sym (rest.same d completes u (omega arith) within)) (less d completes))
 
 -- Choices
 
@@ -105,17 +91,22 @@ Completes-last {k} {c} {d} {low} {high} few most colouring completes = record {
 -- where no colour is free, a colouring and one that completes it make one rule
 pub recoloured_number-completes : {r : LocalRule} {c d : Colouring} → IsRule r → IsColouring r.states c → Completes r.states c 0 0 d → recoloured_number r c ≡ recoloured_number r d
 recoloured_number-completes {r} {c} {d} rule colouring completes = recoloured_number-same r c d (λ u l.
-    sym (entry-chosen rule (omega arith) colouring completes (record { below = l; near = inl refl }) (inr (omega arith))))
+    sym (entry-chosen rule colouring completes (record { below = l; near = inl refl }) (inr (omega arith))))
+
+-- the least of some colourings is the least of all that have the same property
+IsLeastAmong-same : {r : LocalRule} {P Q : Colouring → Type 0} {before found : Colouring} → ((d : Colouring) → (P d ↔ Q d)) → IsLeastAmong r P before found → IsLeastAmong r Q before found
+IsLeastAmong-same {found = found} same h = record {
+  colouring = h.colouring;
+  one = elim h.one [ inl kept ↦ inl kept | inr new ↦ inr ((same found).0 new.0, new.1) ];
+  least = λ d other. h.least d ((same d).1 other);
+}
 
 -- the least of the completed colouring and the one before is the least where at most one colour is free
 pub IsLeastColouring-last : {r : LocalRule} {c before found : Colouring} {low high : ℕ} → high ≤ low + 1 → high ≤ r.states → IsColouring r.states c → IsLeastColouring r c 0 0 before found → IsLeastColouring r c low high before found
-IsLeastColouring-last {r} {c} {before} {found} {low} {high} few most colouring h = record {
-  colouring = h.colouring;
-  one = ⊎_elim (λ (kept : found ≡ before). inl kept)
-      (λ (new : Completes r.states c 0 0 found × (recoloured_number r found < recoloured_number r before)). inr (record { colouring = new.0.colouring; mirrored = new.0.mirrored; letters = λ a l chosen. new.0.letters a l (inr (omega arith)) }, new.1))
-      h.one;
-  least = λ d completes. h.least d (Completes-last few most colouring completes);
-}
+IsLeastColouring-last few most colouring = IsLeastAmong-same (λ d. (
+  (λ completes. record { colouring = completes.colouring; mirrored = completes.mirrored; letters = λ a l chosen. completes.letters a l (inr (omega arith)) }),
+  Completes-last few most colouring,
+))
 
 -- the colouring with the letter of one colour at another, and with one colour less that is free
 pub record IsNext (k : ℕ) (c : Colouring) (low high next colour : ℕ) (e : Colouring) (from to : ℕ) : Type 0 where
@@ -125,8 +116,7 @@ pub record IsNext (k : ℕ) (c : Colouring) (low high next colour : ℕ) (e : Co
   pub mirrored : e.mirrored ≡ c.mirrored
   pub letter : slice_index e.letters next ≡ slice_index c.letters colour
   pub others : (a : ℕ) → a ≢ next → a ≢ colour → slice_index e.letters a ≡ slice_index c.letters a
-  pub chosen : (a : ℕ) → IsChosen from to a → (a ≡ next) ⊎ IsChosen low high a
-  pub kept : (a : ℕ) → IsChosen low high a → IsChosen from to a
+  pub chosen : (a : ℕ) → IsChosen from to a ↔ ((a ≡ next) ⊎ IsChosen low high a)
 
 -- the greatest free colour is chosen, or the least one
 pub IsNext-end : {k low high colour next from to : ℕ} {c e : Colouring} → high ≤ k → low < high → next_of k low high ≡ next
@@ -141,72 +131,74 @@ IsNext-end {k} {low} {high} {colour} {next} {from} {to} {c} {e} most some at end
       mirrored = mirrored;
       letter = letter;
       others = others;
-      chosen = λ a is. grind arith;
-      kept = λ a is. grind arith;
+      chosen = λ a. (λ is. grind arith, λ is. grind arith);
     })
 
--- what completes c, and has c's letter of the chosen colour at the next one, completes the next colouring
-Completes-next : {k : ℕ} {c d e : Colouring} {low high next colour from to : ℕ} → IsNext k c low high next colour e from to → low ≤ colour → colour < high → Completes k c low high d
-    → slice_index d.letters next ≡ slice_index c.letters colour → Completes k e from to d
-Completes-next {k} {c} {d} {e} {low} {high} {next} {colour} {from} {to} h least most completes same = record {
-  colouring = completes.colouring;
-  mirrored = completes.mirrored ∙ sym h.mirrored;
-  letters = λ a l chosen.
-      ⊎_elim (λ (at : a ≡ next). ap (slice_index d.letters) at ∙ same ∙ sym h.letter ∙ ap (slice_index e.letters) (sym at))
-      (λ old.
-      let other : a ≢ next = λ at. ⊎_elim (λ less. omega (arith, h.from_next)) (λ past. omega (arith, h.next_to)) old in
-      let another : a ≢ colour = λ at. ⊎_elim (λ less. omega arith) (λ past. omega arith) old in
-      completes.letters a l old ∙ sym (h.others a other another))
-      (h.chosen a chosen);
-}
+-- the next colouring is completed by what completes c and has c's letter of the chosen colour at the next one
+Completes-next : {k : ℕ} {c d e : Colouring} {low high next colour from to : ℕ} → IsNext k c low high next colour e from to → low ≤ colour → colour < high
+    → Completes k e from to d ↔ (Completes k c low high d × (slice_index d.letters next ≡ slice_index c.letters colour))
+Completes-next {k} {c} {d} {e} {low} {high} {next} {colour} {from} {to} h least most =
+    let old : (a : ℕ) → IsChosen low high a → slice_index e.letters a ≡ slice_index c.letters a = λ a chosen.
+    h.others a (λ at. ⊎_elim (λ less. omega (arith, h.from_next)) (λ past. omega (arith, h.next_to)) chosen) (λ at. ⊎_elim (λ less. omega arith) (λ past. omega arith) chosen) in (
+      λ completes. (
+        record { colouring = completes.colouring; mirrored = completes.mirrored ∙ h.mirrored; letters = λ a l chosen. completes.letters a l ((h.chosen a).1 (inr chosen)) ∙ old a chosen },
+        completes.letters next h.within ((h.chosen next).1 (inl refl)) ∙ h.letter,
+      ),
+      λ (completes, same). record {
+        colouring = completes.colouring;
+        mirrored = completes.mirrored ∙ sym h.mirrored;
+        letters = λ a l chosen. ⊎_elim
+            (λ (at : a ≡ next). ap (slice_index d.letters) at ∙ same ∙ sym h.letter ∙ ap (slice_index e.letters) (sym at))
+            (λ other. completes.letters a l other ∙ sym (old a other))
+            ((h.chosen a).0 chosen);
+      },
+    )
 
--- what completes the colouring with one more letter chosen completes it without
-Completes-before : {k : ℕ} {c d e : Colouring} {low high next colour from to : ℕ} → IsNext k c low high next colour e from to → low ≤ colour → colour < high → Completes k e from to d → Completes k c low high d
-Completes-before {k} {c} {d} {e} {low} {high} {next} {colour} {from} {to} h least most completes = record {
-  colouring = completes.colouring;
-  mirrored = completes.mirrored ∙ h.mirrored;
-  letters = λ a l chosen.
-      let other : a ≢ next = λ at. ⊎_elim (λ less. omega (arith, h.from_next)) (λ past. omega (arith, h.next_to)) chosen in
-      let another : a ≢ colour = λ at. ⊎_elim (λ less. omega arith) (λ past. omega arith) chosen in
-      completes.letters a l (h.kept a chosen) ∙ h.others a other another;
-}
+-- what completes the colouring and has the letter of a colour below n at the next one
+abbrev pub HasLetterBelow : ℕ → Colouring → ℕ → ℕ → ℕ → ℕ → Colouring → Type 0
+HasLetterBelow k c low high next n d = Completes k c low high d × ((q : ℕ) × (low ≤ q) × (q < n) × (slice_index d.letters next ≡ slice_index c.letters q))
 
 -- found is the least of one and of those that complete the colouring and have the letter of a colour below n at the next one
-pub record IsLeastOver (r : LocalRule) (c : Colouring) (low high next n : ℕ) (before found : Colouring) : Type 0 where
-  pub colouring : IsColouring r.states found
-  pub one : (found ≡ before) ⊎ (Completes r.states c low high found × (recoloured_number r found < recoloured_number r before))
-  pub least : (d : Colouring) → Completes r.states c low high d → (q : ℕ) → low ≤ q → q < n → slice_index d.letters next ≡ slice_index c.letters q → recoloured_number r found ≤ recoloured_number r d
+abbrev pub IsLeastOver : LocalRule → Colouring → ℕ → ℕ → ℕ → ℕ → Colouring → Colouring → Type 0
+IsLeastOver r c low high next n = IsLeastAmong r (HasLetterBelow r.states c low high next n)
 
 -- what is less than the one before, or is the one before, is no greater
 pub no_greater : (r : LocalRule) {A : Type 0} {before found : Colouring} → (found ≡ before) ⊎ (A × (recoloured_number r found < recoloured_number r before)) → recoloured_number r found ≤ recoloured_number r before
 no_greater r {A} {before} {found} one = ⊎_elim (λ (same : found ≡ before). let number = ap (recoloured_number r) same in omega arith) (λ less. omega (arith, less.1)) one
 
+-- the least of some, and then the least of it and of others, is the least of all of them
+IsLeastAmong-then : {r : LocalRule} {P Q R : Colouring → Type 0} {before found new : Colouring} → ((d : Colouring) → (R d ↔ (P d ⊎ Q d))) → IsLeastAmong r P before found → IsLeastAmong r Q found new → IsLeastAmong r R before new
+IsLeastAmong-then {r} {R = R} {before = before} {found = found} {new = new} all h g =
+    let less = no_greater r g.one in
+    let old = no_greater r h.one in
+    record {
+      colouring = g.colouring;
+      one = elim g.one [
+        | inl same ↦ subst (λ x. (x ≡ before) ⊎ (R x × (recoloured_number r x < recoloured_number r before))) (sym same) (elim h.one [ inl kept ↦ inl kept | inr other ↦ inr ((all found).1 (inl other.0), other.1) ])
+        | inr other ↦ inr ((all new).1 (inr other.0), omega (arith, other.1))
+      ];
+      least = λ d has. elim ((all d).0 has) [ inl first ↦ omega (arith, h.least d first) | inr second ↦ g.least d second ];
+    }
+
+-- no colour is tried
+pub IsLeastOver-none : {r : LocalRule} {c before : Colouring} {low high next : ℕ} → IsColouring r.states before → IsLeastOver r c low high next low before before
+IsLeastOver-none colouring = record { colouring = colouring; one = inl refl; least = λ d (completes, (q, from, below, same)). absurd (omega arith) }
+
 -- one colour more is tried
 pub IsLeastOver-more : {r : LocalRule} {c e before found new : Colouring} {low high next n from to : ℕ} → IsNext r.states c low high next n e from to → low ≤ n → n < high
     → IsLeastOver r c low high next n before found → IsLeastColouring r e from to found new → IsLeastOver r c low high next (n + 1) before new
-IsLeastOver-more {r} {c} {e} {before} {found} {new} {low} {high} {next} {n} {from} {to} h least most over found_new =
-    let less : recoloured_number r new ≤ recoloured_number r found = no_greater r found_new.one in
-    let old : recoloured_number r found ≤ recoloured_number r before = no_greater r over.one in
-    record {
-      colouring = found_new.colouring;
-      one = ⊎_elim
-          (λ (same : new ≡ found). ⊎_elim (λ (kept : found ≡ before). inl (same ∙ kept))
-          (λ (other : Completes r.states c low high found × (recoloured_number r found < recoloured_number r before)). inr (subst (λ x. Completes r.states c low high x) (sym same) other.0, omega (arith, other.1))) over.one)
-          (λ (other : Completes r.states e from to new × (recoloured_number r new < recoloured_number r found)). inr (Completes-before h least most other.0, omega (arith, other.1)))
-          found_new.one;
-      least = λ d completes q start below same.
-          ⊎_elim (λ before. omega (arith, over.least d completes q start before same))
-          (λ last.
-          let at : q ≡ n = omega arith in
-          found_new.least d (Completes-next h least most completes (same ∙ ap (slice_index c.letters) at)))
-          (cases_lt q n);
-    }
+IsLeastOver-more {c = c} {n = n} h least most = IsLeastAmong-then (λ d. (
+  (λ (completes, (q, from, below, same)). ⊎_elim
+      (λ less. inl (completes, (q, from, less, same)))
+      (λ last. let at : q ≡ n = omega arith in inr ((Completes-next h least most).1 (completes, same ∙ ap (slice_index c.letters) at)))
+      (cases_lt q n)),
+  elim [
+    | inl (completes, (q, from, below, same)) ↦ (completes, (q, from, omega arith, same))
+    | inr other ↦ let (completes, same) = (Completes-next h least most).0 other in (completes, (n, least, omega arith, same))
+  ],
+))
 
 -- all colours are tried
 pub IsLeastColouring-over : {r : LocalRule} {c before found : Colouring} {low high : ℕ} (next : ℕ) → next < r.states → low ≤ next → next < high → IsColouring r.states c
     → IsLeastOver r c low high next high before found → IsLeastColouring r c low high before found
-IsLeastColouring-over {r} {c} {before} {found} {low} {high} next l from to colouring over = record {
-  colouring = over.colouring;
-  one = over.one;
-  least = λ d completes. let at = free_place next l from to colouring completes in over.least d completes at.0 at.1 at.2 at.3;
-}
+IsLeastColouring-over next l from to colouring = IsLeastAmong-same (λ d. (λ (completes, place). completes, λ completes. (completes, free_place next l from to colouring completes)))

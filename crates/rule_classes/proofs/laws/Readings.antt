@@ -1,6 +1,6 @@
 -- A window is read from its last letter on, in the old letters.
-use Rattle.std.proofs.Common.{◌≡◌, ℕ, suc, ◌+◌, ◌-◌, ◌*◌, ◌/◌, ◌%◌, ◌^◌, ◌<◌, ◌≤◌, List, [], ◌∷◌, ◌++◌, length, take, drop, reverse, get_or, slice_index, if◌then◌else◌, Bool, true, false, refl, sym, ap, ap₂, ◌∙◌, subst, arith, length-drop, drop-cons, pow-suc, mod-lt, mod-eq_of_lt, mul-le-mul_right, div-add-mod', take_all}
-use Rattle.word_image.proofs.Common.{pow-le-pow_right, pow-zero, one-le-pow, div-mul-add, mod-mul-add, div_below, length_push, map-append, length-map, length-reverse, get_or-map, reverse-append, drop_all, All-drop, All-push, LocalRule, IsRule, IsWord, value, word_of, local_map, node_count, value-snoc, value-below, value-injective, value-take_more, value-word_of, IsWord-word_of, length-word_of, IsWord-reverse, local_map-mirrored, window_count-le, some_letter, window_with-within, window_with, end_node}
+use Rattle.std.proofs.Common.{◌≡◌, ℕ, suc, ◌+◌, ◌-◌, ◌*◌, ◌/◌, ◌%◌, ◌^◌, ◌<◌, ◌≤◌, List, [], ◌∷◌, ◌++◌, length, reverse, slice_index, if◌then◌else◌, Bool, true, false, refl, sym, ap, ap₂, ◌∙◌, subst, arith, pow-suc, mod-lt, mod-eq_of_lt, div-add-mod', append-nil, append_assoc}
+use Rattle.word_image.proofs.Common.{pow-le-pow_right, pow-zero, div-eq_of_lt, div-mul-add, mod-mul-add, div_below, length_push, map-append, length-map, length-reverse, reverse-append, All-nil, All-cons, All-push, LocalRule, IsRule, IsWord, value, word_of, local_map, node_count, value-snoc, value-below, value-word_of, word_of-value, IsWord-word_of, length-word_of, IsWord-reverse, local_map-mirrored, window_count-le, some_letter, window_with-within, window_with, end_node}
 use Rattle.word_image.specs.declared.side.Side.TheVariants.{Right}
 use Rattle.rule_algebra.specs.Algebra.{recoloured}
 use Rattle.rule_classes.specs.Classes.{turned}
@@ -38,73 +38,79 @@ length-old_word r c v = length-map (word_of r.states r.width v) (slice_index c.l
 IsWord-old_word : (r : LocalRule) (c : Colouring) (v : ℕ) → IsColouring r.states c → v < r.states ^ r.width → IsWord r.states (old_word r c v)
 IsWord-old_word r c v colouring below = IsWord-colours (AreInverse-swap colouring) (word_of r.states r.width v) (IsWord-word_of r.states r.width v below)
 
--- when i letters are read: those that are left, a power, and the value of the old letters
+-- the word of a number with one more digit behind it
+pub word_of-snoc : (k n u a : ℕ) → u < k ^ n → a < k → word_of k (suc n) (u * k + a) ≡ word_of k n u ++ a ∷ []
+word_of-snoc k n u a below letter =
+    let w : List ℕ = word_of k n u ++ a ∷ [] in
+    let long : suc n ≡ length w = omega (arith, length_push (word_of k n u) a, length-word_of k n u) in
+    let is : u * k + a ≡ value k w = sym (value-snoc k (word_of k n u) a ∙ ap (λ x. x * k + a) (value-word_of k n u below)) in
+    ap₂ (word_of k) long is ∙ word_of-value k w (All-push (λ b. b < k) (word_of k n u) a (IsWord-word_of k n u below) letter)
+
+-- when i letters are read: the old letters of those that are read, and the digits of what is left
 pub record IsReadSoFar (r : LocalRule) (c : Colouring) (v i left power old : ℕ) : Type 0 where
-  pub rest : left ≡ value r.states (take (r.width - i) (word_of r.states r.width v))
+  pub done : List ℕ
+  pub long : length done ≡ i
+  pub letters : IsWord r.states done
+  pub below : left < r.states ^ (r.width - i)
+  pub parts : old_word r c v ≡ recoloured c.letters (word_of r.states (r.width - i) left) ++ done
   pub raised : power ≡ r.states ^ i
-  pub reads : old ≡ value r.states (read_as c.mirrored (drop (r.width - i) (old_word r c v)))
+  pub reads : old ≡ value r.states (read_as c.mirrored done)
 
 -- at the beginning no letter of a window is read
 pub IsReadSoFar-none : {r : LocalRule} (c : Colouring) (v : ℕ) → v < r.states ^ r.width → IsReadSoFar r c v 0 v 1 0
 IsReadSoFar-none {r} c v below =
-    let w : List ℕ = word_of r.states r.width v in
-    let nothing : drop (r.width - 0) (old_word r c v) ≡ [] = drop_all (r.width - 0) (old_word r c v) (omega (arith, length-old_word r c v)) in
+    let all : r.width ≡ r.width - 0 = omega arith in
     record {
-      rest = sym (ap (value r.states) (take_all (r.width - 0) w (omega (arith, length-word_of r.states r.width v))) ∙ value-word_of r.states r.width v below);
+      done = [];
+      long = refl;
+      letters = All-nil (λ a. a < r.states);
+      below = subst (λ n. v < r.states ^ n) all below;
+      parts = ap (λ n. recoloured c.letters (word_of r.states n v)) all ∙ sym (append-nil _);
       raised = sym (pow-zero r.states);
-      reads = sym (ap (λ x. value r.states (read_as c.mirrored x)) nothing ∙ empty c.mirrored r.states);
+      reads = sym (empty c.mirrored r.states);
     }
 
 -- the values of what was read so far are few
-pub IsReadSoFar-few : {r : LocalRule} {c : Colouring} {v i left power old : ℕ} → IsRule r → IsColouring r.states c → v < r.states ^ r.width → i ≤ r.width → IsReadSoFar r c v i left power old
-    → (old < r.states ^ i) × (r.states ^ i ≤ 256)
-IsReadSoFar-few {r} {c} {v} {i} {left} {power} {old} rule colouring below l h =
-    let x : List ℕ = drop (r.width - i) (old_word r c v) in
-    let word : IsWord r.states x = All-drop (λ a. a < r.states) (r.width - i) (old_word r c v) (IsWord-old_word r c v colouring below) in
-    let long : length (read_as c.mirrored x) ≡ i = length-read_as c.mirrored x ∙ length-drop (r.width - i) (old_word r c v) ∙ omega (arith, length-old_word r c v) in
-    let less = value-below r.states (read_as c.mirrored x) (IsWord-read_as c.mirrored r.states x word) in
+pub IsReadSoFar-few : {r : LocalRule} {c : Colouring} {v i left power old : ℕ} → IsRule r → i ≤ r.width → IsReadSoFar r c v i left power old → (old < r.states ^ i) × (r.states ^ i ≤ 256)
+IsReadSoFar-few {r} {c} {i = i} {old = old} rule l h =
     let grows : r.states ^ i ≤ r.states ^ r.width = pow-le-pow_right (some_letter rule) l in
-    let few : r.states ^ r.width ≤ 256 = window_count-le r.states r.width r.offset rule.shape in (
-      subst (λ n. n < r.states ^ i) (sym h.reads) (subst (λ n. value r.states (read_as c.mirrored x) < r.states ^ n) long less),
-      omega arith,
+    let less = value-below r.states (read_as c.mirrored h.done) (IsWord-read_as c.mirrored r.states h.done h.letters) in (
+      rw h.reads (subst (λ n. value r.states (read_as c.mirrored h.done) < r.states ^ n) (length-read_as c.mirrored h.done ∙ h.long) less),
+      omega (arith, window_count-le r.states r.width r.offset rule.shape),
     )
 
 -- one letter more of a window is read
-pub IsReadSoFar-more : {r : LocalRule} {c : Colouring} {v i left power old : ℕ} → v < r.states ^ r.width → i < r.width → IsReadSoFar r c v i left power old
+pub IsReadSoFar-more : {r : LocalRule} {c : Colouring} {v i left power old : ℕ} → IsRule r → IsColouring r.states c → i < r.width → IsReadSoFar r c v i left power old
     → IsReadSoFar r c v (i + 1) (left / r.states) (power * r.states)
     (if c.mirrored then old * r.states + slice_index c.letters (left % r.states) else slice_index c.letters (left % r.states) * power + old)
-IsReadSoFar-more {r} {c} {v} {i} {left} {power} {old} below l h =
+IsReadSoFar-more {r} {c} {v} {i} {left} {power} {old} rule colouring l h =
     let k : ℕ = r.states in
-    let w : List ℕ = word_of k r.width v in
-    let x : List ℕ = old_word r c v in
     let n : ℕ = r.width - (i + 1) in
-    let long : length w ≡ r.width = length-word_of k r.width v in
-    let within : n < length w = omega arith in
-    let a : ℕ = get_or w n 0 in
-    let letter : a < k = IsWord-word_of k r.width v below n 0 within in
-    let one : r.width - i ≡ n + 1 = omega arith in
-    let split : left ≡ value k (take n w) * k + a = h.rest ∙ ap (λ j. value k (take j w)) one ∙ value-take_more k w n within in
-    let last : left % k ≡ a = ap (λ y. y % k) split ∙ mod-mul-add (value k (take n w)) k a letter in
-    let old_letter : slice_index c.letters (left % k) ≡ get_or x n 0 = ap (slice_index c.letters) last ∙ sym (get_or-map (slice_index c.letters) w n 0 0 within) in
-    let seam : suc n ≡ r.width - i = omega arith in
-    let inside : n < length x = omega (arith, length-old_word r c v) in
-    let more : drop n x ≡ get_or x n 0 ∷ drop (r.width - i) x = drop-cons x n 0 inside ∙ ap (λ j. get_or x n 0 ∷ drop j x) seam in
-    let rest_long : length (drop (r.width - i) x) ≡ i = omega (arith, length-drop (r.width - i) x, length-old_word r c v) in
+    let a : ℕ = slice_index c.letters (left % k) in
+    let some : 0 < k = some_letter rule in
+    let wide : r.width - i ≡ suc n = omega arith in
+    let more : i + 1 ≡ suc i = omega arith in
+    let below : left < k ^ suc n = subst (λ m. left < k ^ m) wide h.below in
+    let fewer : left / k < k ^ n = div_below left k (k ^ n) some (omega (arith, pow-suc k n)) in
+    let split : word_of k (suc n) left ≡ word_of k n (left / k) ++ (left % k) ∷ [] = ap (word_of k (suc n)) (sym (div-add-mod' left k)) ∙ word_of-snoc k n (left / k) (left % k) fewer (mod-lt left some) in
     record {
-      rest = ap (λ y. y / k) split ∙ div-mul-add (value k (take n w)) k a letter;
-      raised = ap (λ p. p * k) h.raised ∙ sym (ap (λ j. k ^ j) (let next : i + 1 ≡ suc i = omega arith in next) ∙ pow-suc k i);
-      reads =
-          ap₂ (λ (o b : ℕ). if c.mirrored then o * k + b else b * power + o) h.reads old_letter
-          ∙ ap (λ p. if c.mirrored then value k (read_as c.mirrored (drop (r.width - i) x)) * k + get_or x n 0 else get_or x n 0 * p + value k (read_as c.mirrored (drop (r.width - i) x)))
-          (h.raised ∙ ap (λ j. k ^ j) (sym rest_long))
-          ∙ sym (ap (λ y. value k (read_as c.mirrored y)) more ∙ value-read_as c.mirrored k (get_or x n 0) (drop (r.width - i) x));
+      done = a ∷ h.done;
+      long = omega (arith, h.long);
+      letters = All-cons (λ b. b < k) a h.done (colouring.letter (left % k) (mod-lt left some)) h.letters;
+      below = fewer;
+      parts = h.parts ∙ ap (λ w. w ++ h.done) (ap (λ m. recoloured c.letters (word_of k m left)) wide ∙ ap (recoloured c.letters) split
+          ∙ map-append (slice_index c.letters) (word_of k n (left / k)) ((left % k) ∷ [])) ∙ append_assoc (recoloured c.letters (word_of k n (left / k))) (a ∷ []) h.done;
+      raised = ap (λ p. p * k) h.raised ∙ sym (ap (λ j. k ^ j) more ∙ pow-suc k i);
+      reads = ap₂ (λ (o p : ℕ). if c.mirrored then o * k + a else a * p + o) h.reads (h.raised ∙ ap (λ j. k ^ j) (sym h.long)) ∙ sym (value-read_as c.mirrored k a h.done);
     }
 
--- The value of the whole window
+-- where all letters are read, the value of the old letters is read
+pub IsReadSoFar-all : {r : LocalRule} {c : Colouring} {v i left power old : ℕ} → i ≡ r.width → IsReadSoFar r c v i left power old → old ≡ old_value r c v
+IsReadSoFar-all {r} {c} {i = i} {left = left} e h =
+    let none : r.width - i ≡ 0 = omega arith in
+    h.reads ∙ ap (λ w. value r.states (read_as c.mirrored w)) (sym (h.parts ∙ ap (λ n. recoloured c.letters (word_of r.states n left) ++ h.done) none))
 
--- a number of n digits is one of n + 1 digits
-less_square : (k n u : ℕ) → 0 < k → u < k ^ n → u < k * k ^ n
-less_square k n u some l = let grows : 1 * k ^ n ≤ k * k ^ n = mul-le-mul_right (k ^ n) some in omega arith
+-- The value of the whole window
 
 -- the old value of a window is a window's value
 pub old_value-below : (r : LocalRule) (c : Colouring) (v : ℕ) → IsColouring r.states c → v < r.states ^ r.width → old_value r c v < r.states ^ r.width
@@ -123,38 +129,23 @@ value-moved r false f b y letter word long =
     let back : value r.states (f ∷ y) % node_count r ≡ value r.states y = ap (λ n. value r.states (f ∷ y) % r.states ^ n) (sym long) ∙ mod-mul-add f (r.states ^ length y) (value r.states y) (value-below r.states y word) in
     value-snoc r.states y b ∙ ap (λ x. x * r.states + b) (sym back)
 
--- a window is the one a letter back without its first letter, and with its last digit behind
-word_of-moved : (k n v : ℕ) → 0 < k → v < k ^ suc n → word_of k (suc n) v ≡ word_of k n (v / k) ++ (v % k) ∷ []
-word_of-moved k n v some below =
-    let back : v / k < k ^ n = div_below v k (k ^ n) some (omega (arith, pow-suc k n)) in
-    let short : List ℕ = word_of k n (v / k) in
-    let long : length (short ++ (v % k) ∷ []) ≡ suc n = length_push short (v % k) ∙ ap (λ j. j + 1) (length-word_of k n (v / k)) ∙ omega arith in
-    let word : IsWord k (short ++ (v % k) ∷ []) = All-push (λ a. a < k) short (v % k) (IsWord-word_of k n (v / k) back) (mod-lt v some) in
-    value-injective k _ _ (IsWord-word_of k (suc n) v below) word (length-word_of k (suc n) v ∙ sym long)
-    (value-word_of k (suc n) v below ∙ sym (value-snoc k short (v % k) ∙ ap (λ x. x * k + v % k) (value-word_of k n (v / k) back) ∙ div-add-mod' v k))
-
--- the old value of a window is the one of the window a letter back, moved on by the old letter of its last digit
-pub old_value-moved : {r : LocalRule} (c : Colouring) (v : ℕ) → IsRule r → IsColouring r.states c → v < r.states ^ r.width
-    → old_value r c v ≡ window_with (last_side c.mirrored) r (end_node (last_side c.mirrored) r (old_value r c (v / r.states))) (slice_index c.letters (v % r.states))
-old_value-moved {r} c v rule colouring below =
+-- the old value of a window of a node is the one of the window of the node itself, moved on by the old letter of its last digit
+old_value-moved : {r : LocalRule} (c : Colouring) (u a : ℕ) → IsRule r → IsColouring r.states c → u < node_count r → a < r.states
+    → old_value r c (u * r.states + a) ≡ window_with (last_side c.mirrored) r (end_node (last_side c.mirrored) r (old_value r c u)) (slice_index c.letters a)
+old_value-moved {r} c u a rule colouring node letter =
     let k : ℕ = r.states in
     let n : ℕ = r.width - 1 in
-    let some : 0 < k = some_letter rule in
     let wide : r.width ≡ suc n = omega (arith, rule.shape.least_width) in
-    let less : v < k ^ suc n = subst (λ m. v < k ^ m) wide below in
-    let back : v / k < k ^ n = div_below v k (k ^ n) some (omega (arith, pow-suc k n)) in
-    let one : (v / k) % k ^ n ≡ v / k = mod-eq_of_lt back in
-    let first : (v / k) / k ^ n < k = div_below (v / k) (k ^ n) k (one-le-pow n k some) (omega (arith, less_square k n (v / k) some back)) in
-    let y : List ℕ = recoloured c.letters (word_of k n (v / k)) in
-    let f : ℕ = slice_index c.letters ((v / k) / k ^ n) in
-    let word : IsWord k y = IsWord-colours (AreInverse-swap colouring) (word_of k n (v / k)) (IsWord-word_of k n (v / k) back) in
-    let long : length y ≡ n = length-map (word_of k n (v / k)) (slice_index c.letters) ∙ length-word_of k n (v / k) in
-    let here : old_word r c v ≡ y ++ slice_index c.letters (v % k) ∷ [] =
-    ap (λ m. recoloured c.letters (word_of k m v)) wide ∙ ap (recoloured c.letters) (word_of-moved k n v some less) ∙ map-append (slice_index c.letters) (word_of k n (v / k)) ((v % k) ∷ []) in
-    let there : old_word r c (v / k) ≡ f ∷ y =
-    ap (λ m. recoloured c.letters (word_of k m (v / k))) wide ∙ ap (λ u. f ∷ recoloured c.letters (word_of k n u)) one in
-    ap (λ x. value k (read_as c.mirrored x)) here ∙ value-moved r c.mirrored f (slice_index c.letters (v % k)) y (colouring.letter _ first) word long
-    ∙ ap (λ x. window_with (last_side c.mirrored) r (end_node (last_side c.mirrored) r (value k (read_as c.mirrored x))) (slice_index c.letters (v % k))) (sym there)
+    let w : List ℕ = word_of k n u in
+    let f : ℕ = slice_index c.letters 0 in
+    let b : ℕ = slice_index c.letters a in
+    let here : old_word r c (u * k + a) ≡ recoloured c.letters w ++ b ∷ [] =
+    ap (λ m. recoloured c.letters (word_of k m (u * k + a))) wide ∙ ap (recoloured c.letters) (word_of-snoc k n u a node letter) ∙ map-append (slice_index c.letters) w (a ∷ []) in
+    let there : old_word r c u ≡ f ∷ recoloured c.letters w =
+    ap (λ m. recoloured c.letters (word_of k m u)) wide ∙ ap₂ (λ (d v : ℕ). slice_index c.letters d ∷ recoloured c.letters (word_of k n v)) (div-eq_of_lt node) (mod-eq_of_lt node) in
+    ap (λ x. value k (read_as c.mirrored x)) here
+    ∙ value-moved r c.mirrored f b (recoloured c.letters w) (colouring.letter 0 (some_letter rule)) (IsWord-colours (AreInverse-swap colouring) w (IsWord-word_of k n u node)) (length-map w (slice_index c.letters) ∙ length-word_of k n u)
+    ∙ ap (λ x. window_with (last_side c.mirrored) r (end_node (last_side c.mirrored) r (value k (read_as c.mirrored x))) b) (sym there)
 
 -- What is given
 
@@ -180,10 +171,6 @@ window-below rule u a node letter = window_with-within Right rule u a node lette
 -- the values of the windows of a node are made from that of the window of the node itself
 pub IsRow-made : {r : LocalRule} {c : Colouring} {back : ℕ} (u : ℕ) (row : Row) → IsRule r → IsColouring r.states c → u < node_count r → back ≡ old_value r c u
     → ((a : ℕ) → row.start + a * row.step ≡ window_with (last_side c.mirrored) r (end_node (last_side c.mirrored) r back) a) → IsRow r c u row
-IsRow-made {r} {c} {back} u row rule colouring node value made = record {
-  values = λ a letter.
-      made (slice_index c.letters a)
-      ∙ ap₂ (λ (o e : ℕ). window_with (last_side c.mirrored) r (end_node (last_side c.mirrored) r o) (slice_index c.letters e))
-      (value ∙ ap (old_value r c) (sym (div-mul-add u r.states a letter))) (sym (mod-mul-add u r.states a letter))
-      ∙ sym (old_value-moved c (u * r.states + a) rule colouring (window-below rule u a node letter));
+IsRow-made {r} {c} u row rule colouring node value made = record {
+  values = λ a letter. made (slice_index c.letters a) ∙ ap (λ o. window_with (last_side c.mirrored) r (end_node (last_side c.mirrored) r o) (slice_index c.letters a)) value ∙ sym (old_value-moved c u a rule colouring node letter);
 }

@@ -13,25 +13,13 @@ use Rattle.rule_text.specs.Beginnings.{IsBeginning, IsBeginningFault, IsBeginnin
 
 -- whether a fault is one of form
 abbrev is_form : Option TextFault → Bool
-is_form None = false
 is_form (Some (fault.Form place)) = true
-is_form (Some fault.States) = false
-is_form (Some fault.Width) = false
-is_form (Some fault.Nodes) = false
-is_form (Some fault.Offset) = false
-is_form (Some fault.Kind) = false
-is_form (Some fault.Length) = false
-is_form (Some (fault.Letter place)) = false
-is_form (Some fault.Number) = false
+is_form _ = false
 
 -- no limit of a rule is one
 is_form-as_text_fault : (place : ℕ) (f : RuleFault) → is_form (Some (as_text_fault place f)) ≡ false
 is_form-as_text_fault place limit.States = refl
-is_form-as_text_fault place limit.Width = refl
-is_form-as_text_fault place limit.Nodes = refl
-is_form-as_text_fault place limit.Offset = refl
-is_form-as_text_fault place limit.Length = refl
-is_form-as_text_fault place (limit.Letter i) = refl
+is_form-as_text_fault place _ = refl
 
 is_form-limit : (place : ℕ) (o : Option RuleFault) (e : Option TextFault) → is_form e ≡ false → is_form (option_or (option_map (as_text_fault place) o) e) ≡ false
 is_form-limit place None e h = h

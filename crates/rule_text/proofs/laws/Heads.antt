@@ -1,12 +1,12 @@
 -- The texts of the grammar by their parts: each is a row of digits, or a head and its entries.
-use Rattle.std.proofs.Common.{◌≡◌, ◌≢◌, ℕ, ◌+◌, ◌⊎◌, inl, inr, Bool, true, false, List, ◌∷◌, ◌++◌, length, take, drop, get_or, get_or-drop, take-append-drop, refl, sym, ap, ap₂, subst, ◌∙◌, arith, append_assoc, length-append, All, ℤ}
+use Rattle.std.proofs.Common.{◌≡◌, ◌≢◌, ℕ, ◌+◌, ◌⊎◌, inl, inr, Bool, true, false, List, ◌++◌, length, take, drop, get_or, get_or-drop, take-append-drop, refl, sym, ap, ap₂, subst, ◌∙◌, arith, append_assoc, length-append, All, ℤ, codes}
 use Rattle.word_image.proofs.Common.{cases_lt, get_or_past, get_or-append_seam}
 use Rattle.rule_text.specs.declared.head.Kind.{Kind}
 use Rattle.rule_text.specs.declared.head.Kind.TheVariants as kind
 use Rattle.rule_text.specs.RuleTexts.{IsDigit, IsDecimal, IsOffset, Plain, Minus, Entries, Said, Says, Bare, InTable, InNumber, bare, decimal_value}
 use Rattle.rule_text.specs.PrintedRules.{head}
 use Rattle.rule_text.specs.Heads.{IsEntries, colon, entries_of, kind_text, sign, signed}
-use Rattle.rule_text.proofs.laws.Parts.{Field, AfterStates, saying, same_signed, Field-unique, Signed-unique, Kinds-unique}
+use Rattle.rule_text.proofs.laws.Parts.{Field, AfterStates, saying, same_signed, Part-unique, IsCut-field, IsCut-signed, IsCut-kind, Field-text}
 
 -- what a text says, said with parts that are known by other names
 pub Says-same : {x text : List ℕ} {a b p states width place : ℕ} {z : ℤ} {entries : Entries} → Says x (saying a b z entries p)
@@ -65,80 +65,63 @@ IsOffset-only text start minus z over plain offset =
     IsOffset-after minus (drop start text) z (λ none first. plain none (ap (λ i. get_or text i 0) (sym here) ∙ sym (get_or-drop start text 0 0) ∙ first))
     (subst (λ x. IsOffset x z) (by_sign text start minus over) offset)
 
--- a head and its entries, part by part
-parts_of : List ℕ → List ℕ → Bool → List ℕ → Kind → List ℕ → List ℕ
-parts_of k m minus d kd y = k ++ colon ∷ (m ++ colon ∷ (sign minus ++ (d ++ colon ∷ (kind_text kd ++ y))))
-
 -- the parts of a head with its entries are the head and the entries after it
-head-parts : (k m : List ℕ) (minus : Bool) (d : List ℕ) (kd : Kind) (y : List ℕ) → head k m (sign minus ++ d) (kind_text kd) ++ y ≡ parts_of k m minus d kd y
-unfolding parts_of
-head-parts k m minus d kd y = simp (append_assoc) refl
-
--- where the entries begin, part by part
-place_of : List ℕ → List ℕ → Bool → List ℕ → ℕ
-place_of k m minus d = 0 + length k + 1 + length m + 1 + length (sign minus) + length d + 1 + 1
+head-parts : (k m o kt y a b c d : List ℕ) → a ≡ k ++ codes ":" → b ≡ m ++ codes ":" → c ≡ o ++ codes ":" → d ≡ kt → head k m o kt ++ y ≡ a ++ (b ++ (c ++ (d ++ y)))
+head-parts k m o kt y a b c d states width offset kd = rw (states, width, offset, kd) (simp append_assoc)
 
 -- the place where the entries begin, by the parts, is where the head ends
-head-place : (k m : List ℕ) (minus : Bool) (d : List ℕ) (kd : Kind) → length (head k m (sign minus ++ d) (kind_text kd)) ≡ place_of k m minus d
-unfolding place_of
-head-place k m minus d kind.Table = simp (length-append) (omega arith)
-head-place k m minus d kind.Number = simp (length-append) (omega arith)
+head-place : (k m o kt a b c d : List ℕ) → a ≡ k ++ codes ":" → b ≡ m ++ codes ":" → c ≡ o ++ codes ":" → d ≡ kt → length (head k m o kt) ≡ 0 + length a + length b + length c + length d
+head-place k m o kt a b c d states width offset kd = rw (states, width, offset, kd) (simp length-append (omega arith))
 
 -- what a head says with entries of its kind
-Says-kind : (k m : List ℕ) (minus : Bool) (d : List ℕ) (kd : Kind) (y : List ℕ) → IsDecimal 1 2 k → IsDecimal 1 2 m → IsDecimal 1 2 d → IsEntries kd y
-    → Says (head k m (sign minus ++ d) (kind_text kd) ++ y)
-    (saying (decimal_value k) (decimal_value m) (signed minus (decimal_value d)) (entries_of kd y) (length (head k m (sign minus ++ d) (kind_text kd))))
-Says-kind k m minus d kind.Table y states width digits entries = InTable k m (sign minus ++ d) y _ states width (IsOffset-signed minus d digits) entries
-Says-kind k m minus d kind.Number y states width digits entries = InNumber k m (sign minus ++ d) y _ states width (IsOffset-signed minus d digits) entries
+Says-kind : (k m o : List ℕ) (z : ℤ) (kd : Kind) (y : List ℕ) → IsDecimal 1 2 k → IsDecimal 1 2 m → IsOffset o z → IsEntries kd y
+    → Says (head k m o (kind_text kd) ++ y) (saying (decimal_value k) (decimal_value m) z (entries_of kd y) (length (head k m o (kind_text kd))))
+Says-kind k m o z kind.Table y states width offset entries = InTable k m o y z states width offset entries
+Says-kind k m o z kind.Number y states width offset entries = InNumber k m o y z states width offset entries
 
 -- what the parts say, the text says
 pub Says-parts : (text : List ℕ) (said : Said) → Field AfterStates 0 text said → Says text said
-unfolding parts_of place_of
 Says-parts text said k =
     let m = k.after in
     let o = m.after in
-    let d = o.field in
-    let e = d.after in
-    let says = Says-kind k.digits m.digits o.minus d.digits e.kd e.rest k.decimal m.decimal d.decimal e.tells.0 in
-    let inner = o.parts ∙ ap (λ x. sign o.minus ++ x) (d.parts ∙ ap (λ x. d.digits ++ colon ∷ x) e.parts) in
-    let whole = k.parts ∙ ap (λ x. k.digits ++ colon ∷ x) (m.parts ∙ ap (λ x. m.digits ++ colon ∷ x) inner) in
-    subst (Says text) (sym e.tells.1)
-    (Says-same says (head-parts k.digits m.digits o.minus d.digits e.kd e.rest ∙ sym whole) refl refl (head-place k.digits m.digits o.minus d.digits e.kd))
+    let e = o.after in
+    let offset = sign o.is.minus ++ o.is.digits in
+    let is = subst (IsOffset offset) (sym o.is.value) (IsOffset-signed o.is.minus o.is.digits o.is.decimal) in
+    let whole = k.parts ∙ ap (λ x. k.token ++ x) (m.parts ∙ ap (λ x. m.token ++ x) (o.parts ∙ ap (λ x. o.token ++ x) e.parts)) in
+    subst (Says text) (sym e.after.1) (Says-same (Says-kind k.is.digits m.is.digits offset o.meaning e.meaning e.rest k.is.decimal m.is.decimal is e.after.0)
+    (head-parts k.is.digits m.is.digits offset (kind_text e.meaning) e.rest k.token m.token o.token e.token k.is.written m.is.written o.is.written e.is ∙ sym whole) k.is.value m.is.value
+    (head-place k.is.digits m.is.digits offset (kind_text e.meaning) k.token m.token o.token e.token k.is.written m.is.written o.is.written e.is))
 
 -- a text with a head has the parts of the head
 Field-head : (k m o y : List ℕ) (z : ℤ) (kd : Kind) (place : ℕ) → IsDecimal 1 2 k → IsDecimal 1 2 m → IsOffset o z → IsEntries kd y → place ≡ length (head k m o (kind_text kd))
     → Field AfterStates 0 (head k m o (kind_text kd) ++ y) (saying (decimal_value k) (decimal_value m) z (entries_of kd y) place)
-unfolding parts_of place_of
 Field-head k m o y z kd place states width offset entries long =
     let p = IsOffsetText-IsOffset offset in
-    let entry : List ℕ = kind_text kd ++ y in
-    let after_sign : List ℕ = p.digits ++ colon ∷ entry in
-    let ends = long ∙ ap (λ x. length (head k m x (kind_text kd))) p.text ∙ head-place k m p.minus p.digits kd in
     record {
-      digits = k;
-      rest = m ++ colon ∷ (sign p.minus ++ after_sign);
-      decimal = states;
-      parts = ap (λ x. head k m x (kind_text kd) ++ y) p.text ∙ head-parts k m p.minus p.digits kd y;
+      token = k ++ codes ":";
+      rest = (m ++ codes ":") ++ ((o ++ codes ":") ++ (kind_text kd ++ y));
+      meaning = decimal_value k;
+      is = record { digits = k; decimal = states; written = refl; value = refl };
+      parts = head-parts k m o (kind_text kd) y _ _ _ _ refl refl refl refl;
       after = record {
-        digits = m;
-        rest = sign p.minus ++ after_sign;
-        decimal = width;
+        token = m ++ codes ":";
+        rest = (o ++ codes ":") ++ (kind_text kd ++ y);
+        meaning = decimal_value m;
+        is = record { digits = m; decimal = width; written = refl; value = refl };
         parts = refl;
         after = record {
-          minus = p.minus;
-          rest = after_sign;
+          token = o ++ codes ":";
+          rest = kind_text kd ++ y;
+          meaning = z;
+          is = record { minus = p.minus; digits = p.digits; decimal = p.decimal; written = ap (λ x. x ++ codes ":") p.text; value = p.value };
           parts = refl;
-          field = record {
-            digits = p.digits;
-            rest = entry;
-            decimal = p.decimal;
+          after = record {
+            token = kind_text kd;
+            rest = y;
+            meaning = kd;
+            is = refl;
             parts = refl;
-            after = record {
-              kd = kd;
-              rest = y;
-              parts = refl;
-              tells = (entries, ap₂ (λ (a : ℤ) (j : ℕ). saying (decimal_value k) (decimal_value m) a (entries_of kd y) j) p.value ends);
-            };
+            after = (entries, ap (saying (decimal_value k) (decimal_value m) z (entries_of kd y)) (long ∙ head-place k m o (kind_text kd) _ _ _ _ refl refl refl refl));
           };
         };
       };
@@ -160,7 +143,7 @@ no_colon x digits i at = elim (cases_lt i (length x)) [
 -- a text with a head is no row of digits: it has a colon after one or two
 pub no_digits : {text : List ℕ} {said : Said} → All IsDigit text → Field AfterStates 0 text said → ⊥
 no_digits {text} digits f =
-    no_colon text digits (length f.digits) (ap (λ x. get_or x (length f.digits) 0) f.parts ∙ get_or-append_seam f.digits colon f.rest 0)
+    no_colon text digits (length f.is.digits) (ap (λ x. get_or x (length f.is.digits) 0) (Field-text f) ∙ get_or-append_seam f.is.digits colon f.rest 0)
 
 -- the grammar gives a text one meaning
 pub Says-unique : {text : List ℕ} {s t : Said} → Says text s → Says text t → s ≡ t
@@ -168,6 +151,6 @@ Says-unique {text} {s} {t} f g = elim (parts-Says f) [
   | inl a ↦ elim (parts-Says g) [ inl b ↦ a.1 ∙ sym b.1 | inr b ↦ absurd (no_digits a.0.digits b) ]
   | inr a ↦ elim (parts-Says g) [
     | inl b ↦ absurd (no_digits b.0.digits a)
-    | inr b ↦ Field-unique (λ k. Field-unique (λ m. Signed-unique (λ o. Kinds-unique))) 0 text s t a b
+    | inr b ↦ Part-unique IsCut-field (λ k. Part-unique IsCut-field (λ m. Part-unique IsCut-signed (λ o. Part-unique IsCut-kind (λ kd place y s t f g. f.1 ∙ sym g.1)))) 0 text s t a b
   ]
 ]

@@ -4,10 +4,9 @@ use Rattle.word_image.proofs.Common.{cases_eq, cases_lt, none-some, slice_get-ge
 use Rattle.rule_text.specs.declared.text_fault.TextFault.{TextFault}
 use Rattle.rule_text.specs.declared.text_fault.TextFault.TheVariants as fault
 use Rattle.rule_text.specs.declared.head.Kind.{Kind}
-use Rattle.rule_text.specs.declared.head.Kind.TheVariants as kind
 use Rattle.rule_text.specs.RuleTexts.{IsDigit, IsDecimal, Said, Says, Bare, IsSaid, IsTextFault, NoForm}
 use Rattle.rule_text.specs.Heads.{GoesOver, GoesOverField, GoesOverOffset, LacksField, LacksOffset, IsRuleFormAt, IsNoKind, IsEntries, IsDecimalStop, IsHexStop, colon, entries_of, kind_text, sign}
-use Rattle.rule_text.proofs.laws.Parts.{Field, Signed, Kinds, Tells, AfterStates, saying, Field-after, Field-lacks, Field-more, Signed-after, Signed-lacks, Signed-more, Kinds-after, Kinds-lacks, Kinds-more, zero_digit}
+use Rattle.rule_text.proofs.laws.Parts.{Part, IsCut, Part-after, IsField, IsCut-field, IsCut-signed, IsCut-kind, Field, Signed, Kinds, Tells, AfterStates, saying, Field-lacks, Field-more, Signed-lacks, Signed-more, Kinds-lacks, Kinds-more, row_with}
 use Rattle.rule_text.proofs.laws.Heads.{Says-parts, parts-Says, no_colon}
 
 -- the text was gone over up to this place: with what may come after, and with nothing else, it is a text of the grammar
@@ -15,15 +14,17 @@ pub record TextLeads (text : List ℕ) (from : ℕ) (After : ℕ → List ℕ �
   pub whole : (y : List ℕ) (s : Said) → After (length (take from text)) y s → Says (take from text ++ y) s
   pub only : (y : List ℕ) (s : Said) → Says (take from text ++ y) s → After (length (take from text)) y s
 
--- one part more of a text was gone over: y comes after it where `join y` comes before it
-TextLeads-part : {text : List ℕ} {from to : ℕ} {After Next : ℕ → List ℕ → Said → Type 0} → TextLeads text from After → (join : List ℕ → List ℕ) (step : ℕ → ℕ)
-    → ((y : List ℕ) → take to text ++ y ≡ take from text ++ join y) → length (take to text) ≡ step (length (take from text))
-    → ((p : ℕ) (y : List ℕ) (s : Said) → Next (step p) y s → After p (join y) s) → ((p : ℕ) (y : List ℕ) (s : Said) → After p (join y) s → Next (step p) y s)
-    → TextLeads text to Next
-TextLeads-part {text} {from} {to} {After} {Next} l join step cut long before after = record {
-  whole = λ y s next. subst (λ z. Says z s) (sym (cut y)) (l.whole (join y) s (before _ y s (subst (λ p. Next p y s) long next)));
-  only = λ y s says. subst (λ p. Next p y s) (sym long) (after _ y s (l.only (join y) s (subst (λ z. Says z s) (cut y) says)));
-}
+-- a token more of a text was gone over
+TextLeads-part : {text : List ℕ} {from to : ℕ} {X : Type 0} {Token : List ℕ → X → Type 0} {After : X → ℕ → List ℕ → Said → Type 0} → IsCut Token → TextLeads text from (Part Token After)
+    → (x : List ℕ) (a : X) → Token x a → GoesOver text from to x → TextLeads text to (After a)
+TextLeads-part {text} {from} {to} {After = After} cut l x a is over =
+    let t = take from text in
+    let long : length (take to text) ≡ length t + length x = ap length over ∙ length-append t x in
+    let joined : (y : List ℕ) → take to text ++ y ≡ t ++ (x ++ y) = λ y. ap (λ z. z ++ y) over ∙ append_assoc t x y in
+    record {
+      whole = λ y s after. subst (λ z. Says z s) (sym (joined y)) (l.whole (x ++ y) s (record { token = x; rest = y; meaning = a; is = is; parts = refl; after = subst (λ p. After a p y s) long after }));
+      only = λ y s says. subst (λ p. After a p y s) (sym long) (Part-after cut x a y is (l.only (x ++ y) s (subst (λ z. Says z s) (joined y) says)));
+    }
 
 -- a text goes wrong where what the beginning leads to doesn't go on
 TextLeads-stuck : {text : List ℕ} {from : ℕ} {After : ℕ → List ℕ → Said → Type 0} → TextLeads text from After → (join : List ℕ → List ℕ) (place : ℕ) → place ≤ length text
@@ -39,63 +40,34 @@ TextLeads-stuck {text} l join place within cut more none =
 pub TextLeads-states : {text : List ℕ} {to n : ℕ} → GoesOverField text 0 to n → TextLeads text to (AfterStates n)
 TextLeads-states {text} {to} {n} h =
     let d = h.digits in
-    let cut : (y : List ℕ) → take to text ++ y ≡ d ++ colon ∷ y = λ y. ap (λ z. z ++ y) h.over ∙ append_assoc d (codes ":") y in
-    let long : length (take to text) ≡ 0 + length d + 1 = ap length h.over ∙ omega (arith, length-append d (codes ":")) in
+    let x : List ℕ = d ++ codes ":" in
+    let is : IsField x n = record { digits = d; decimal = h.decimal; written = refl; value = h.value } in
+    let joined : (y : List ℕ) → take to text ++ y ≡ x ++ y = λ y. ap (λ z. z ++ y) h.over in
+    let long : length (take to text) ≡ 0 + length x = omega (arith, ap length h.over) in
     record {
-      whole = λ y s after.
-          let place = subst (λ p. AfterStates n p y s) long after in
-          Says-parts _ s (record { digits = d; rest = y; decimal = h.decimal; parts = cut y; after = subst (λ j. AfterStates j (0 + length d + 1) y s) h.value place });
-      only = λ y s says. elim (parts-Says (subst (λ z. Says z s) (cut y) says)) [
-        | inl bare ↦ absurd (no_colon (d ++ colon ∷ y) bare.0.digits (length d) (get_or-append_seam d colon y 0))
-        | inr f ↦
-            subst (λ p. AfterStates n p y s) (sym long)
-            (subst (λ j. AfterStates j (0 + length d + 1) y s) (sym h.value) (Field-after {After = AfterStates} d y h.decimal f))
+      whole = λ y s after. Says-parts _ s (record { token = x; rest = y; meaning = n; is = is; parts = joined y; after = subst (λ p. AfterStates n p y s) long after });
+      only = λ y s says. elim (parts-Says (subst (λ z. Says z s) (joined y) says)) [
+        | inl bare ↦ absurd (no_colon (x ++ y) bare.0.digits (length d) (ap (λ t. get_or t (length d) 0) (append_assoc d (codes ":") y) ∙ get_or-append_seam d colon y 0))
+        | inr f ↦ subst (λ p. AfterStates n p y s) (sym long) (Part-after {After = AfterStates} IsCut-field x n y is f)
       ];
     }
 
 -- a text was gone over as far as M and its colon
 pub TextLeads-field : {text : List ℕ} {from to n : ℕ} {After : ℕ → ℕ → List ℕ → Said → Type 0} → TextLeads text from (Field After) → GoesOverField text from to n
     → TextLeads text to (After n)
-TextLeads-field {text} {from} {to} {n} {After} l h =
-    let d = h.digits in
-    let t = take from text in
-    TextLeads-part l (λ y. d ++ colon ∷ y) (λ p. p + length d + 1)
-    (λ y. ap (λ z. z ++ y) h.over ∙ append_assoc (t ++ d) (codes ":") y ∙ append_assoc t d (colon ∷ y))
-    (ap length h.over ∙ omega (arith, length-append (t ++ d) (codes ":"), length-append t d))
-    (λ p y s next. record { digits = d; rest = y; decimal = h.decimal; parts = refl; after = subst (λ j. After j (p + length d + 1) y s) h.value next })
-    (λ p y s field. subst (λ j. After j (p + length d + 1) y s) (sym h.value) (Field-after {After = After} d y h.decimal field))
+TextLeads-field {text} {from} l h =
+    TextLeads-part IsCut-field l (h.digits ++ codes ":") _ (record { digits = h.digits; decimal = h.decimal; written = refl; value = h.value }) (h.over ∙ append_assoc (take from text) h.digits (codes ":"))
 
 -- a text was gone over as far as O and its colon
 pub TextLeads-offset : {text : List ℕ} {from to : ℕ} {z : ℤ} {After : ℤ → ℕ → List ℕ → Said → Type 0} → TextLeads text from (Signed After) → GoesOverOffset text from to z
     → TextLeads text to (After z)
-TextLeads-offset {text} {from} {to} {z} {After} l h =
-    let d = h.digits in
-    let g = sign h.minus in
-    let t = take from text in
-    TextLeads-part l (λ y. g ++ (d ++ colon ∷ y)) (λ p. p + length g + length d + 1)
-    (λ y. ap (λ x. x ++ y) h.over ∙ append_assoc (t ++ g ++ d) (codes ":") y ∙ append_assoc (t ++ g) d (colon ∷ y) ∙ append_assoc t g (d ++ colon ∷ y))
-    (ap length h.over ∙ omega (arith, length-append (t ++ g ++ d) (codes ":"), length-append (t ++ g) d, length-append t g))
-    (λ p y s next. record {
-      minus = h.minus;
-      rest = d ++ colon ∷ y;
-      parts = refl;
-      field = record { digits = d; rest = y; decimal = h.decimal; parts = refl; after = subst (λ o. After o (p + length g + length d + 1) y s) h.value next };
-    })
-    (λ p y s signed. subst (λ o. After o (p + length g + length d + 1) y s) (sym h.value) (Signed-after {After = After} h.minus d y h.decimal signed))
+TextLeads-offset l h =
+    TextLeads-part IsCut-signed l (sign h.minus ++ h.digits ++ codes ":") _ (record { minus = h.minus; digits = h.digits; decimal = h.decimal; written = refl; value = h.value }) (h.over ∙ simp append_assoc)
 
 -- a text was gone over as far as a kind
 pub TextLeads-kind : {text : List ℕ} {from to k m : ℕ} {o : ℤ} → TextLeads text from (Kinds k m o) → (kd : Kind) → GoesOver text from to (kind_text kd)
     → TextLeads text to (Tells k m o kd)
-TextLeads-kind {text} {from} {to} {k} {m} {o} l kd over =
-    let t = take from text in
-    TextLeads-part l (λ y. kind_text kd ++ y) (λ p. p + 1) (λ y. ap (λ x. x ++ y) over ∙ append_assoc t (kind_text kd) y)
-    (ap length over ∙ omega (arith, length-append t (kind_text kd), one kd))
-    (λ p y s tells. record { kd = kd; rest = y; parts = refl; tells = tells })
-    (λ p y s kinds. Kinds-after kd y kinds)
-  where
-    one : (c : Kind) → length (kind_text c) ≡ 1
-    one kind.Table = refl
-    one kind.Number = refl
+TextLeads-kind l kd over = TextLeads-part IsCut-kind l (kind_text kd) kd refl over
 
 -- the byte with which a text goes on at a place
 byte_at : (y text : List ℕ) (place : ℕ) → slice_get y 0 ≡ slice_get text place → get_or y 0 0 ≡ get_or text place 0
@@ -131,8 +103,8 @@ TextLeads-lacks_offset {text} {from} {e} {After} l more (place, is, within, h) =
     let f = h.field in
     let g = sign h.minus in
     let t = take from text in
-    named is (TextLeads-stuck l (λ y. g ++ (f.digits ++ y)) place within
-    (λ y. ap (λ x. x ++ y) (f.over ∙ ap (λ x. x ++ f.digits) h.over) ∙ append_assoc (t ++ g) f.digits y ∙ append_assoc t g (f.digits ++ y))
+    named is (TextLeads-stuck l (λ y. g ++ f.digits ++ y) place within
+    (λ y. ap (λ x. x ++ y) (f.over ∙ ap (λ x. x ++ f.digits) h.over ∙ append_assoc t g f.digits) ∙ append_assoc t (g ++ f.digits) y)
     (λ p. Signed-more {After = After} more p h.minus f.digits f.decimal)
     (λ p y s same. Signed-lacks {After = After} h.minus f.digits y (get_or text place 0) (byte_at y text place same) f.decimal f.longest f.no_colon
     (λ plain none minus. h.no_sign plain (ap (λ i. get_or text i 0) (sym (f.stays none)) ∙ minus))))
@@ -160,24 +132,12 @@ TextLeads-head {text} {from} {k} {m} {z} kd o is leads within =
 at_seam : (x y : List ℕ) (n : ℕ) → length x ≡ n → get_or (x ++ y) n 0 ≡ get_or y 0 0
 at_seam x y n long = let whole : n ≡ length x + 0 = omega arith in ap (λ i. get_or (x ++ y) i 0) whole ∙ get_or-append-add x y 0 0
 
--- a row of at most 39 digits goes on to one of 1 to 39
-row_with : (x : List ℕ) → All IsDigit x → length x ≤ 39 → Begins (IsDecimal 1 39) x
-row_with [] digits few = record { more = codes "0"; whole = record { digits = zero_digit.digits; least = omega arith; most = omega arith } }
-row_with (b ∷ x) digits few = record {
-  more = [];
-  whole = record {
-    digits = All-append IsDigit (b ∷ x) [] digits (All-nil IsDigit);
-    least = omega (arith, length-append (b ∷ x) []);
-    most = omega (arith, length-append (b ∷ x) []);
-  };
-}
-
 -- the digits of a number go wrong at the first that may not come
 pub IsFormFault-decimal : (digits : List ℕ) (n : ℕ) → IsDecimalStop digits n → IsFormFault (IsDecimal 1 39) digits n
 IsFormFault-decimal digits n stop =
     let x = take n digits in
     let long : length x ≡ n = length-take-le n digits stop.within in
-    IsFormFault-next digits n stop.within (row_with x stop.before (omega (arith, stop.few))) (λ y same d.
+    IsFormFault-next digits n stop.within (row_with 39 (omega arith) x (record { digits = stop.before; least = omega arith; most = omega (arith, stop.few) })) (λ y same d.
     let whole = length-append x y in
     let least = d.least in
     let most = d.most in
@@ -210,7 +170,7 @@ IsFormFault-bare text place n inside h f =
     let first : take place text ≡ h.digits = h.over in
     let long : length h.digits ≡ place = sym (ap length first) ∙ length-take-le place text inside in
     let early : place ≤ n = elim (cases_lt n place) [
-      | inl late ↦ absurd (f.longest place late inside (subst (Begins (IsDecimal 1 39)) (sym first) (row_with h.digits h.decimal.digits (omega arith))))
+      | inl late ↦ absurd (f.longest place late inside (subst (Begins (IsDecimal 1 39)) (sym first) (row_with 39 (omega arith) h.digits (record { digits = h.decimal.digits; least = omega arith; most = omega arith }))))
       | inr early ↦ early
     ] in
     let no_field : (z : List ℕ) → take place z ≡ take place text → get_or z place 0 ≡ get_or text place 0 → (s : Said) → ¬ Field AfterStates 0 z s = λ z same byte s field.

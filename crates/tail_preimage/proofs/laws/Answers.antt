@@ -4,7 +4,7 @@ use Rattle.word_image.proofs.Common.{cases_lt, LocalRule, IsOrphan, IsNodeSet, H
 use Rattle.tail_config.proofs.Common.{TailConfig, IsTail}
 use Rattle.tail_preimage.specs.Preimages.{PlacedConfig, Shape, IsLeastGap, stretch, IsGap}
 use Rattle.tail_preimage.specs.Answers.{IsPreimageAnswer, placed_config}
-use Rattle.tail_preimage.specs.Relations.{Open, IsFirst}
+use Rattle.tail_preimage.specs.Relations.{IsFirst}
 use Rattle.tail_preimage.specs.Parts.{AreTailParts, PassesThrough, Starts, IsFirstGap}
 use Rattle.tail_preimage.specs.FirstWalks.{AreLoopWalks}
 use Rattle.tail_preimage.specs.declared.answer.Pre.{Pre}
@@ -14,16 +14,13 @@ use Rattle.tail_preimage.proofs.laws.Walks.{IsWalk-first}
 use Rattle.tail_preimage.proofs.laws.Steps.{Open-rounds}
 use Rattle.tail_preimage.proofs.laws.PlacedWalks.{IsPreimage-stretch}
 use Rattle.tail_preimage.proofs.laws.Parts.{SomeRounds-periods, walks-Starts, IsOrphan-PassesThrough, PassesThrough-IsOrphan}
-use Rattle.tail_preimage.proofs.laws.Shapes.{Through-map}
 use Rattle.tail_preimage.proofs.laws.LeastPreimages.{IsLeastPreimage-unique}
 
 -- where 16 right periods lead through any number of them does
 PassesThrough-any : {r : LocalRule} {t : TailConfig} {parts : PartRelations} → AreTailParts r t parts → (b a : ℕ) → PassesThrough r parts b 16 → PassesThrough r parts b a
-PassesThrough-any {r} {parts = parts} h b a =
-    let C : ℕ → ℕ → Type 0 = HasBit parts.right.period in
-    Through-map r parts (Open (HasBit parts.left.period) b) (Open C 16) (Open (HasBit parts.left.period) b) (Open C a) (λ v _ leads. leads) (λ w node leads.
-    let (sum, few, (n, on, both, some, rounds)) = SomeRounds-periods h.rule h.right node leads in
-    Open-rounds C n on w some rounds a)
+PassesThrough-any {parts = parts} h b a (v, w, v_node, w_node, before, row, leads) =
+    let (sum, few, (n, on, both, some, rounds)) = SomeRounds-periods h.rule h.right w_node leads in
+    (v, w, v_node, w_node, before, row, Open-rounds (HasBit parts.right.period) n on w some rounds a)
 
 -- the first numbers of periods that lead nowhere are the least gap
 pub IsGap-first : {r : LocalRule} {t : TailConfig} {parts : PartRelations} → IsTail r.states t → AreTailParts r t parts → (b a : ℕ) → IsFirstGap r parts b a → IsGap r t b a (stretch t b a)
@@ -38,7 +35,7 @@ IsGap-first {r} {t} ht h b a gap =
       };
       before_few = gap.before_few;
       after_few = gap.after_few;
-      none = λ p maps. let found = IsPreimage-stretch h.rule ht maps b a in orphan.none found.0 found.1;
+      none = λ p maps. let found = IsPreimage-stretch h.rule maps b a in orphan.none found.0 found.1;
     }
 
 -- the least of the nodes from which walks of a shape lead

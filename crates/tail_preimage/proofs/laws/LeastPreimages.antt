@@ -1,47 +1,26 @@
 -- Of the first shape the first loop walks are the least preimage: the least node with a loop, and first walks for each of the three parts. There is one least preimage.
-use Rattle.std.proofs.Common.{◌≡◌, ◌≢◌, ℕ, ◌+◌, ◌-◌, ◌<◌, ◌≤◌, List, ◌++◌, length, take, drop, ℤ, refl, sym, ap, ap₂, ◌∙◌, subst, arith, length-append, length-drop, append_assoc, ⊎_elim, nat_cmp, Ordering, Less, Equal, Greater, take-append-drop, length-take-le, take_at, drop_at}
+use Rattle.std.proofs.Common.{◌≡◌, ◌≢◌, ℕ, ◌+◌, ◌-◌, List, ◌++◌, length, take, drop, ℤ, refl, sym, ap, ap₂, ◌∙◌, subst, arith, length-append, length-drop, append_assoc, nat_cmp, Equal, Greater, take-append-drop, take_at, drop_at}
 use Rattle.std.proofs.lemmas.Cmp.{nat_cmp_total, nat_list_cmp_total, on_total, then_total}
-use Rattle.word_image.proofs.Common.{repeat, ordering_then, IsTotalOrder, nat_cmp_is, slice_cmp, cases_lt, drop-append-le, All-take, LocalRule, IsRule, value, IsBitSet-pow, slice_cmp-value, then_equal, then_not_greater, nat_cmp-equal, slice_cmp-same}
+use Rattle.word_image.proofs.Common.{repeat, ordering_then, IsTotalOrder, nat_cmp_is, slice_cmp, drop-append-le, LocalRule, IsRule, IsBitSet-pow, then_equal, then_not_greater, nat_cmp-equal}
 use Rattle.tail_config.proofs.Common.{TailConfig, IsTail, config_of}
 use Rattle.tail_preimage.specs.Walks.{IsWalk, before_last}
 use Rattle.tail_preimage.specs.Preimages.{PlacedConfig, Shape, HasShape, IsShapedPreimage, IsLeastPreimage, shape_cmp, letters, stretch, IsSmall, IsFrom}
 use Rattle.tail_preimage.specs.FirstWalks.{AreLoopWalks, AreFirstWalks, placed_of}
-use Rattle.tail_preimage.proofs.laws.Walks.{same_first, IsWalk-last}
-use Rattle.tail_preimage.proofs.laws.Placements.{IsShapedPreimage-placed_of, join-before_last, length-before_last, IsWalk-then}
+use Rattle.tail_preimage.proofs.laws.Walks.{IsWalk-last, IsWalk-then, join-before_last}
+use Rattle.tail_preimage.proofs.laws.LeastWalks.{cmp-first, least-not_greater}
+use Rattle.tail_preimage.proofs.laws.Placements.{IsShapedPreimage-placed_of}
 use Rattle.tail_preimage.proofs.laws.PlacedWalks.{HasLoopWalks-shape}
 use Rattle.tail_preimage.proofs.laws.Orders.{slice_cmp-append, slice_cmp-equal, first_not_greater, tied}
 
--- two walks of one length are compared by their first nodes, and then by the letters behind them
-cmp-first : (r : LocalRule) (x y : List ℕ) → r.width - 1 ≤ length x → length x ≡ length y
-    → slice_cmp nat_cmp x y ≡ ordering_then (slice_cmp nat_cmp (take (r.width - 1) x) (take (r.width - 1) y)) (slice_cmp nat_cmp (drop (r.width - 1) x) (drop (r.width - 1) y))
-cmp-first r x y l e =
-    let d : ℕ = r.width - 1 in
-    ap₂ (slice_cmp nat_cmp) (sym (take-append-drop d x)) (sym (take-append-drop d y))
-    ∙ slice_cmp-append (take d x) (drop d x) (take d y) (drop d y) (length-take-le d x l ∙ sym (length-take-le d y (omega arith)))
+-- where the beginnings aren't greater, and with equal beginnings the rest isn't, the whole isn't greater
+append-not_greater : (a b c d : List ℕ) → length a ≡ length c → slice_cmp nat_cmp a c ≢ Greater → (slice_cmp nat_cmp a c ≡ Equal → slice_cmp nat_cmp b d ≢ Greater)
+    → slice_cmp nat_cmp (a ++ b) (c ++ d) ≢ Greater
+append-not_greater a b c d long first rest e = then_not_greater (slice_cmp nat_cmp a c) (slice_cmp nat_cmp b d) first rest (sym (slice_cmp-append a b c d long) ∙ e)
 
--- of walks from one node the first has no greater letters behind it
-behind-not_greater : {r : LocalRule} {w z x y : List ℕ} {u v s : ℕ} → IsWalk r w u v x → IsWalk r z u s y → length w ≡ length z → slice_cmp nat_cmp x y ≢ Greater
-    → slice_cmp nat_cmp (drop (r.width - 1) x) (drop (r.width - 1) y) ≢ Greater
-behind-not_greater {r} {x = x} {y = y} h g e least greater =
-    let d : ℕ = r.width - 1 in
-    let front : slice_cmp nat_cmp (take d x) (take d y) ≡ Equal = slice_cmp-same (take d x) (take d y) (same_first h g) in
-    least (cmp-first r x y (omega arith) (omega arith) ∙ ap (λ (o : Ordering). ordering_then o (slice_cmp nat_cmp (drop d x) (drop d y))) front ∙ greater)
-
--- equal letters behind one node are equal walks
-same-behind : {r : LocalRule} {w z x y : List ℕ} {u v s : ℕ} → IsWalk r w u v x → IsWalk r z u s y → slice_cmp nat_cmp (drop (r.width - 1) x) (drop (r.width - 1) y) ≡ Equal → x ≡ y
-same-behind {r} {x = x} {y = y} h g e =
-    let d : ℕ = r.width - 1 in
-    sym (take-append-drop d x) ∙ ap₂ (λ (a b : List ℕ). a ++ b) (same_first h g) (slice_cmp-equal (drop d x) (drop d y) e) ∙ take-append-drop d y
-
--- a walk from a lesser node is less
-lesser-node : {r : LocalRule} {w z x y : List ℕ} {u v s t : ℕ} → IsWalk r w u v x → IsWalk r z s t y → length w ≡ length z → u < s → slice_cmp nat_cmp x y ≡ Less
-lesser-node {r} {x = x} {y = y} {u = u} {s = s} h g e l =
-    let d : ℕ = r.width - 1 in
-    let front : slice_cmp nat_cmp (take d x) (take d y) ≡ nat_cmp u s =
-    slice_cmp-value r.states (take d x) (take d y) (All-take (λ a. a < r.states) d x h.preimage.word) (All-take (λ a. a < r.states) d y g.preimage.word)
-    (length-take-le d x (omega arith) ∙ sym (length-take-le d y (omega arith)))
-    ∙ ap₂ nat_cmp h.first g.first in
-    cmp-first r x y (omega arith) (omega arith) ∙ ap (λ (o : Ordering). ordering_then o (slice_cmp nat_cmp (drop d x) (drop d y))) (front ∙ sym (nat_cmp_is u s Less l))
+-- two walks of one length from one node are compared by the letters behind it
+cmp-behind : {r : LocalRule} {w z x y : List ℕ} {u v s : ℕ} → IsWalk r w u v x → IsWalk r z u s y → length w ≡ length z
+    → slice_cmp nat_cmp x y ≡ slice_cmp nat_cmp (drop (r.width - 1) x) (drop (r.width - 1) y)
+cmp-behind {r} {x = x} {y = y} {u = u} h g e = cmp-first h g e ∙ ap (λ o. ordering_then o (slice_cmp nat_cmp (drop (r.width - 1) x) (drop (r.width - 1) y))) (sym (nat_cmp_is u u Equal refl))
 
 -- the whole walk: the left loop, and the letters behind the first nodes of the middle and of the right loop
 abbrev whole : LocalRule → List ℕ → List ℕ → List ℕ → List ℕ
@@ -66,48 +45,24 @@ whole-not_greater : {r : LocalRule} {t : TailConfig} {s : Shape} {v w v' w' : �
     → slice_cmp nat_cmp (whole r x y z) (whole r x' y' z') ≢ Greater
 whole-not_greater {r} {t} {s} {v} {w} {v'} {w'} {x} {y} {z} {x'} {y'} {z'} rule h g =
     let d : ℕ = r.width - 1 in
-    let long : (a b : List ℕ) → length a ≡ length (repeat s.back t.left) + d → length b ≡ length (repeat s.back t.left) + d → length a ≡ length b = λ a b i j. omega arith in
-    let parts = slice_cmp-append x (drop d y ++ drop d z) x' (drop d y' ++ drop d z') (long x x' h.left.walk.preimage.long g.left.preimage.long) in
-    let behind : slice_cmp nat_cmp (drop d y ++ drop d z) (drop d y' ++ drop d z') ≡ ordering_then (slice_cmp nat_cmp (drop d y) (drop d y')) (slice_cmp nat_cmp (drop d z) (drop d z')) =
-    slice_cmp-append (drop d y) (drop d z) (drop d y') (drop d z') (omega (arith, length-drop d y, length-drop d y')) in
-    let most : v ≤ v' = h.start v' w' x' y' z' g in
-    let first : slice_cmp nat_cmp x x' ≢ Greater =
-    ⊎_elim
-    (λ l e. let less = lesser-node h.left.walk g.left refl l in let other : Less ≡ Greater = sym less ∙ e in cc)
-    (λ l. let same : v' ≡ v = omega (arith, l) in
-    h.left.least v x' ((IsBitSet-pow v v).1 refl) (subst (λ n. IsWalk r (repeat s.back t.left) n n x') same g.left))
-    (cases_lt v v') in
-    let rest : slice_cmp nat_cmp x x' ≡ Equal → slice_cmp nat_cmp (drop d y ++ drop d z) (drop d y' ++ drop d z') ≢ Greater = λ e.
+    append-not_greater x (drop d y ++ drop d z) x' (drop d y' ++ drop d z') (h.left.walk.preimage.long ∙ sym g.left.preimage.long)
+    (least-not_greater h.left g.left (h.start v' w' x' y' z' g) (IsBitSet-pow v v').1)
+    (λ e.
     let same_x : x ≡ x' = slice_cmp-equal x x' e in
-    let same : v' ≡ v = sym g.left.first ∙ ap (λ a. value r.states (take d a)) (sym same_x) ∙ h.left.walk.first in
+    let same : v' ≡ v = cc (g.left.first, h.left.walk.first) in
     let middle : IsWalk r (stretch t s.before s.after) v w' y' = subst (λ n. IsWalk r (stretch t s.before s.after) n w' y') same g.middle in
-    let turn_bit = (h.turning.nodes w' (IsWalk-last g.middle)).1 (z', g.right) in
-    let second : slice_cmp nat_cmp (drop d y) (drop d y') ≢ Greater = behind-not_greater h.middle.walk middle refl (h.middle.least w' y' turn_bit middle) in
-    let third : slice_cmp nat_cmp (drop d y) (drop d y') ≡ Equal → slice_cmp nat_cmp (drop d z) (drop d z') ≢ Greater = λ f.
-    let same_y : y ≡ y' = same-behind h.middle.walk middle f in
-    let end : w' ≡ w = sym g.middle.last ∙ ap (λ a. value r.states (drop (length (stretch t s.before s.after)) a)) (sym same_y) ∙ h.middle.walk.last in
+    let second = cmp-behind h.middle.walk middle refl in
+    append-not_greater (drop d y) (drop d z) (drop d y') (drop d z') (omega (arith, length-drop d y, length-drop d y'))
+    (λ q. h.middle.least w' y' ((h.turning.nodes w' (IsWalk-last g.middle)).1 (z', g.right)) middle (second ∙ q))
+    (λ f.
+    let same_y : y ≡ y' = slice_cmp-equal y y' (second ∙ f) in
+    let end : w' ≡ w = cc (g.middle.last, h.middle.walk.last) in
     let turn : IsWalk r (repeat s.on t.right) w w z' = subst (λ n. IsWalk r (repeat s.on t.right) n n z') end g.right in
-    behind-not_greater h.right.walk turn refl (h.right.least w z' ((IsBitSet-pow w w).1 refl) turn) in
-    λ q. then_not_greater (slice_cmp nat_cmp (drop d y) (drop d y')) (slice_cmp nat_cmp (drop d z) (drop d z')) second third (sym behind ∙ q) in
-    λ q. then_not_greater (slice_cmp nat_cmp x x') (slice_cmp nat_cmp (drop d y ++ drop d z) (drop d y' ++ drop d z')) first rest (sym parts ∙ q)
+    λ q. h.right.least w z' ((IsBitSet-pow w w).1 refl) turn (cmp-behind h.right.walk turn refl ∙ q)))
 
--- the letters of two placed configurations of one shape are as many
-length-letters : {r : LocalRule} {t : TailConfig} {s : Shape} {v w v' w' : ℕ} {x y z x' y' z' : List ℕ} → AreLoopWalks r t s v w x y z → AreLoopWalks r t s v' w' x' y' z'
-    → length (letters (placed_of r t s.before x y z)) ≡ length (letters (placed_of r t s.before x' y' z'))
-length-letters {r} {x = x} {y = y} {z = z} {x' = x'} {y' = y'} {z' = z'} h g =
-    omega (
-      arith,
-      length-append (before_last r x ++ before_last r y) (before_last r z),
-      length-append (before_last r x) (before_last r y),
-      length-append (before_last r x' ++ before_last r y') (before_last r z'),
-      length-append (before_last r x') (before_last r y'),
-      length-before_last h.left,
-      length-before_last h.middle,
-      length-before_last h.right,
-      length-before_last g.left,
-      length-before_last g.middle,
-      length-before_last g.right,
-    )
+-- two placed configurations of one shape have as many letters
+length-letters : {r : LocalRule} {t : TailConfig} {s : Shape} {p q : PlacedConfig} → HasShape r t s p → HasShape r t s q → length (letters p) ≡ length (letters q)
+length-letters h g = simp length-append (omega arith)
 
 -- shapes of the same numbers are the same
 same_shape : (s u : Shape) → s.before ≡ u.before → s.back ≡ u.back → s.after ≡ u.after → s.on ≡ u.on → s ≡ u
@@ -127,7 +82,7 @@ AreFirstWalks-walks h = record { back_some = h.back_some; on_some = h.on_some; l
 first-letters : {r : LocalRule} {t : TailConfig} {s : Shape} {v w : ℕ} {x y z : List ℕ} {q : PlacedConfig} → IsRule r → IsTail r.states t → AreFirstWalks r t s v w x y z → IsShapedPreimage r t s q
     → slice_cmp nat_cmp (letters (placed_of r t s.before x y z)) (letters q) ≢ Greater
 first-letters {r} {t} {s} {x = x} {y = y} {z = z} {q = q} rule ht h other =
-    let g = HasLoopWalks-shape rule ht other in
+    let g = HasLoopWalks-shape rule other in
     let mine : AreLoopWalks r t s _ _ x y z = AreFirstWalks-walks h in
     let d : ℕ = r.width - 1 in
     let a : List ℕ = letters (placed_of r t s.before x y z) in
@@ -135,9 +90,8 @@ first-letters {r} {t} {s} {x = x} {y = y} {z = z} {q = q} rule ht h other =
     let i : List ℕ = drop (length z - d) z in
     let j : List ℕ = drop (length g.z - d) g.z in
     let all : slice_cmp nat_cmp (whole r x y z) (whole r g.x g.y g.z) ≡ ordering_then (slice_cmp nat_cmp a b) (slice_cmp nat_cmp i j) =
-    ap₂ (slice_cmp nat_cmp) (whole-letters rule mine) (whole-letters rule g.walks) ∙ slice_cmp-append a i b j (length-letters mine g.walks) in
-    let same : b ≡ letters q = ap₂ (λ (m n : List ℕ). m ++ n ++ before_last r g.z) g.left g.middle ∙ ap (λ n. q.config.left ++ q.config.middle ++ n) g.right in
-    subst (λ m. slice_cmp nat_cmp a m ≢ Greater) same (first_not_greater (slice_cmp nat_cmp a b) (slice_cmp nat_cmp i j) (λ e. whole-not_greater rule h g.walks (all ∙ e)))
+    ap₂ (slice_cmp nat_cmp) (whole-letters rule mine) (whole-letters rule g.walks) ∙ slice_cmp-append a i b j (length-letters (IsShapedPreimage-placed_of rule ht mine).shape (IsShapedPreimage-placed_of rule ht g.walks).shape) in
+    subst (λ p. slice_cmp nat_cmp a (letters p) ≢ Greater) g.placed (first_not_greater (slice_cmp nat_cmp a b) (slice_cmp nat_cmp i j) (λ e. whole-not_greater rule h g.walks (all ∙ e)))
 
 -- the first walks of a shape that is no greater than that of any other walks are the least preimage
 pub IsFrom-first : {r : LocalRule} {t : TailConfig} {s : Shape} {v w : ℕ} {x y z : List ℕ} → IsRule r → IsTail r.states t → IsSmall s
@@ -149,7 +103,7 @@ IsFrom-first {r} {t} {s} {x = x} {y = y} {z = z} rule ht small least h =
         shape = s;
         preimage = IsShapedPreimage-placed_of rule ht (AreFirstWalks-walks h);
         least = λ u q other. then_not_greater (shape_cmp s u) (slice_cmp nat_cmp (letters p) (letters q))
-            (let g = HasLoopWalks-shape rule ht other in least u g.v g.w g.x g.y g.z g.walks)
+            (let g = HasLoopWalks-shape rule other in least u g.v g.w g.x g.y g.z g.walks)
             (λ e. first-letters rule ht h (subst (λ n. IsShapedPreimage r t n q) (sym (shape_cmp-equal s u e)) other));
       };
       small = small;

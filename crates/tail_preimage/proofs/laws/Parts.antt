@@ -5,7 +5,7 @@ use Rattle.pair_laws.proofs.Common.{IsBitSet-below}
 use Rattle.tail_config.proofs.Common.{TailConfig, IsTail}
 use Rattle.tail_preimage.specs.Walks.{HasWalk}
 use Rattle.tail_preimage.specs.Preimages.{Shape, stretch}
-use Rattle.tail_preimage.specs.Relations.{IsRelation, Steps, Open, SomeRounds}
+use Rattle.tail_preimage.specs.Relations.{IsRelation, Steps, Open, SomeRounds, Meets}
 use Rattle.tail_preimage.specs.Parts.{ArePeriods, AreTailParts, PassesThrough, Starts, IsPossible}
 use Rattle.tail_preimage.specs.FirstWalks.{AreLoopWalks}
 use Rattle.tail_preimage.specs.declared.periods.Periods.{Periods}
@@ -110,3 +110,7 @@ PassesThrough-IsOrphan ht h b a none = IsOrphan-none (IsWord-stretch ht b a) (λ
 pub SomeRounds-periods : {r : LocalRule} {E : ℕ → ℕ → Type 0} {table : List ℕ} {u : ℕ} → IsRule r → IsRelation r E table → u < node_count r → Open (HasBit table) 16 u
     → (sum : ℕ) × (sum ≤ 16) × SomeRounds (HasBit table) sum u
 SomeRounds-periods rule h l leads = SomeRounds-open rule.shape.most_nodes (λ v w node bit. (IsRelation-below h v w node bit).0) l leads
+
+-- where walks of 16 periods begin in a set, rounds of at most 16 periods do
+pub Meets-rounds : {r : LocalRule} {E : ℕ → ℕ → Type 0} {table : List ℕ} (set : ℕ) → IsRule r → IsRelation r E table → Meets r (Open (HasBit table) 16) set → (sum : ℕ) × (sum ≤ 16) × Meets r (SomeRounds (HasBit table) sum) set
+Meets-rounds set rule h (u, node, leads, bit) = let (sum, few, rounds) = SomeRounds-periods rule h node leads in (sum, few, (u, node, rounds, bit))

@@ -1,11 +1,11 @@
 -- A placed configuration that maps to another is a walk that spells the other's letters, and from its shape come three walks.
-use Rattle.std.proofs.Common.{◌≡◌, ℕ, ◌+◌, ◌-◌, ◌*◌, List, length, take, drop, ℤ, pos, ◌+ℤ◌, ◌-ℤ◌, neg_ℤ, refl, sym, ap, ap₂, ◌∙◌, subst, subst₂, arith, add-mul, take_at}
+use Rattle.std.proofs.Common.{◌≡◌, ℕ, ◌+◌, ◌-◌, ◌*◌, List, length, take, drop, ℤ, pos, ◌+ℤ◌, ◌-ℤ◌, neg_ℤ, refl, sym, ap, ap₂, ◌∙◌, subst, arith, add-mul}
 use Rattle.word_image.proofs.Common.{repeat, ints, LocalRule, IsRule, value, local_map, IsPreimage}
-use Rattle.tail_config.proofs.Common.{image_of, TailConfig, IsTail, cell, cells, length-run, IsWord-run, run-same, take-run, drop-run, image-run, cell-below, cells-middle, cells-left, cells-right, RepeatsRight-times, cell-right_period}
+use Rattle.tail_config.proofs.Common.{image_of, TailConfig, config_of, cell, cells, length-run, IsWord-run, run-same, take-run, drop-run, image-run, cell-below, cells-middle, cells-left, cells-right, cell-right_period}
 use Rattle.tail_preimage.specs.Walks.{IsWalk, before_last}
 use Rattle.tail_preimage.specs.Preimages.{PlacedConfig, MapsTo, Shape, IsShapedPreimage, stretch}
-use Rattle.tail_preimage.specs.FirstWalks.{AreLoopWalks}
-use Rattle.tail_preimage.proofs.laws.Stretches.{length-repeat, repeat-add, stretch_length, stretch_start, cells-lefts, cells-rights, cells-stretch}
+use Rattle.tail_preimage.specs.FirstWalks.{AreLoopWalks, placed_of}
+use Rattle.tail_preimage.proofs.laws.Stretches.{stretch_length, stretch_start, cells-lefts, cells-rights, cells-stretch}
 use Rattle.tail_preimage.proofs.laws.Placements.{placed_cells-cells}
 
 -- a run of the cells of a placed configuration is a preimage of a run of the letters
@@ -27,43 +27,25 @@ IsPreimage-placed {r} {t} {p} rule h i j n e =
 abbrev pub node_from : LocalRule → TailConfig → ℤ → ℕ
 node_from r c j = value r.states (cells c j (r.width - 1))
 
--- the cells of a configuration that maps to t are a walk of t's cells from node to node
-pub IsWalk-placed : {r : LocalRule} {t : TailConfig} {p : PlacedConfig} → IsRule r → MapsTo r p t → (i j : ℤ) (n : ℕ) → i +ℤ r.offset -ℤ p.at ≡ j
-    → IsWalk r (cells t i n) (node_from r p.config j) (node_from r p.config (j +ℤ pos n)) (cells p.config j (n + (r.width - 1)))
-IsWalk-placed {r} {t} {p} rule h i j n e =
+-- the cells of a configuration that maps to t are a walk along t's cells from node to node
+pub IsWalk-placed : {r : LocalRule} {t : TailConfig} {p : PlacedConfig} {w : List ℕ} → IsRule r → MapsTo r p t → (i j q : ℤ) (n : ℕ) → i +ℤ r.offset -ℤ p.at ≡ j → j +ℤ pos n ≡ q → cells t i n ≡ w
+    → IsWalk r w (node_from r p.config j) (node_from r p.config q) (cells p.config j (n + (r.width - 1)))
+IsWalk-placed {r} {t} {p} {w} rule h i j q n e end same =
     let d : ℕ = r.width - 1 in
+    let long : length w ≡ n = ap length (sym same) ∙ length-run (cell t) i n in
     record {
-      preimage = IsPreimage-placed rule h i j n e;
+      preimage = subst (λ z. IsPreimage r z (cells p.config j (n + d))) same (IsPreimage-placed rule h i j n e);
       first = ap (value r.states) (take-run (cell p.config) j (n + d) d (omega arith));
-      last = ap (λ a. value r.states (drop a (cells p.config j (n + d)))) (length-run (cell t) i n) ∙ ap (value r.states) (drop-run (cell p.config) j (j +ℤ pos n) n d refl);
+      last = ap (λ a. value r.states (drop a (cells p.config j (n + d)))) long ∙ ap (value r.states) (drop-run (cell p.config) j q n d end);
     }
 
 -- a stretch has a preimage where some placed configuration maps to all
-pub IsPreimage-stretch : {r : LocalRule} {t : TailConfig} {p : PlacedConfig} → IsRule r → IsTail r.states t → MapsTo r p t → (b a : ℕ) → (x : List ℕ) × IsPreimage r (stretch t b a) x
-IsPreimage-stretch {r} {t} {p} rule ht h b a =
+pub IsPreimage-stretch : {r : LocalRule} {t : TailConfig} {p : PlacedConfig} → IsRule r → MapsTo r p t → (b a : ℕ) → (x : List ℕ) × IsPreimage r (stretch t b a) x
+IsPreimage-stretch {r} {t} {p} rule h b a =
     let i : ℤ = stretch_start t b in
     let j : ℤ = i +ℤ r.offset -ℤ p.at in
     let x : List ℕ = cells p.config j (stretch_length t b a + (r.width - 1)) in
-    (x, subst (λ w. IsPreimage r w x) (cells-stretch ht b a) (IsPreimage-placed rule h i j (stretch_length t b a) refl))
-
--- n left periods that end b periods before place 0
-run-lefts : (t : TailConfig) (b n : ℕ) (i : ℤ) → i ≡ stretch_start t (n + b) → cells t i (n * length t.left) ≡ repeat n t.left
-run-lefts t b n i e =
-    let p : ℕ = length t.left in
-    ap (λ j. cells t j (n * p)) e
-    ∙ sym (take-run (cell t) (stretch_start t (n + b)) ((n + b) * p) (n * p) (omega arith))
-    ∙ ap (take (n * p)) (cells-lefts t (n + b) ∙ repeat-add n b t.left)
-    ∙ take_at (repeat n t.left) (repeat b t.left) (n * p) (length-repeat n t.left)
-
--- n right periods from a periods after the middle on
-run-rights : {k : ℕ} {t : TailConfig} → IsTail k t → (a n : ℕ) → cells t (pos (length t.middle + a * length t.right)) (n * length t.right) ≡ repeat n t.right
-run-rights {t = t} h a n =
-    let p : ℕ = length t.right in
-    let m : ℤ = pos (length t.middle) in
-    run-same (cell t) (cell t) (pos (length t.middle + a * p)) m (n * p) (λ c l.
-    let place : pos (length t.middle + a * p) +ℤ pos c ≡ m +ℤ pos c +ℤ pos (a * p) = omega (arith, ints) in
-    ap (cell t) place ∙ RepeatsRight-times a p (cell t) m (cell-right_period t) (m +ℤ pos c) (omega (arith, ints)))
-    ∙ cells-rights h n
+    (x, subst (λ w. IsPreimage r w x) (cells-stretch t b a) (IsPreimage-placed rule h i j (stretch_length t b a) refl))
 
 -- a walk along a run of n letters, whose letters before its last node are the run of the configuration there
 before_last-cells : (r : LocalRule) (c : TailConfig) (j : ℤ) (n : ℕ) → before_last r (cells c j (n + (r.width - 1))) ≡ cells c j n
@@ -79,13 +61,11 @@ pub record HasLoopWalks (r : LocalRule) (t : TailConfig) (s : Shape) (p : Placed
   pub y : List ℕ
   pub z : List ℕ
   pub walks : AreLoopWalks r t s v w x y z
-  pub left : before_last r x ≡ p.config.left
-  pub middle : before_last r y ≡ p.config.middle
-  pub right : before_last r z ≡ p.config.right
+  pub placed : placed_of r t s.before x y z ≡ p
 
 -- a placed configuration that has a shape and maps to t is made of three walks
-pub HasLoopWalks-shape : {r : LocalRule} {t : TailConfig} {s : Shape} {p : PlacedConfig} → IsRule r → IsTail r.states t → IsShapedPreimage r t s p → HasLoopWalks r t s p
-HasLoopWalks-shape {r} {t} {s} {p} rule ht h =
+pub HasLoopWalks-shape : {r : LocalRule} {t : TailConfig} {s : Shape} {p : PlacedConfig} → IsRule r → IsShapedPreimage r t s p → HasLoopWalks r t s p
+HasLoopWalks-shape {r} {t} {s} {p} rule h =
     let c : TailConfig = p.config in
     let d : ℕ = r.width - 1 in
     let left : ℕ = s.back * length t.left in
@@ -102,7 +82,6 @@ HasLoopWalks-shape {r} {t} {s} {p} rule ht h =
     let z : List ℕ = cells c last (right + d) in
     let v : ℕ = node_from r c (pos 0) in
     let w : ℕ = node_from r c last in
-    let i : ℤ = stretch_start t (s.back + s.before) in
     let at_node : p.at -ℤ p.at ≡ pos 0 = omega (arith, ints) in
     let at_loop : p.at -ℤ pos left -ℤ p.at ≡ first = omega (arith, ints) in
     let round : node_from r c first ≡ v =
@@ -110,11 +89,6 @@ HasLoopWalks-shape {r} {t} {s} {p} rule ht h =
     let turn = ap (value r.states) (run-same (cell c) (cell c) (last +ℤ pos right) last d (λ a l.
     let place : last +ℤ pos right +ℤ pos a ≡ last +ℤ pos a +ℤ pos (length c.right) = omega (arith, ints) in
     ap (cell c) place ∙ cell-right_period c (last +ℤ pos a) (omega (arith, ints)))) in
-    let back_end : first +ℤ pos left ≡ pos 0 = omega (arith, ints) in
-    let middle_end : pos 0 +ℤ pos middle ≡ last = omega (arith, ints) in
-    let walk_x : IsWalk r (cells t i left) (node_from r c first) (node_from r c (first +ℤ pos left)) x = IsWalk-placed rule h.maps i first left (omega (arith, ints)) in
-    let walk_y : IsWalk r (cells t (stretch_start t s.before) middle) v (node_from r c (pos 0 +ℤ pos middle)) y = IsWalk-placed rule h.maps (stretch_start t s.before) (pos 0) middle (omega (arith, ints)) in
-    let walk_z = IsWalk-placed rule h.maps (pos (length t.middle + s.after * length t.right)) last right (omega (arith, ints)) in
     record {
       v = v;
       w = w;
@@ -124,13 +98,14 @@ HasLoopWalks-shape {r} {t} {s} {p} rule ht h =
       walks = record {
         back_some = h.shape.back_some;
         on_some = h.shape.on_some;
-        left = subst (λ q. IsWalk r q v v x) (run-lefts t s.before s.back i refl)
-            (subst₂ (λ a b. IsWalk r (cells t i left) a b x) round (ap (node_from r c) back_end) walk_x);
-        middle = subst (λ q. IsWalk r q v w y) (cells-stretch ht s.before s.after) (subst (λ j. IsWalk r (cells t (stretch_start t s.before) middle) v (node_from r c j) y) middle_end walk_y);
-        right = subst (λ q. IsWalk r q w w z) (run-rights ht s.after s.on)
-            (subst (λ b. IsWalk r (cells t (pos (length t.middle + s.after * length t.right)) right) w b z) turn walk_z);
+        left = subst (λ u. IsWalk r (repeat s.back t.left) u v x) round
+            (IsWalk-placed rule h.maps (stretch_start t (s.back + s.before)) first (pos 0) left (omega (arith, ints)) (omega (arith, ints)) (cells-lefts t s.before s.back _ refl));
+        middle = IsWalk-placed rule h.maps (stretch_start t s.before) (pos 0) last middle (omega (arith, ints)) (omega (arith, ints)) (cells-stretch t s.before s.after);
+        right = subst (λ u. IsWalk r (repeat s.on t.right) w u z) turn
+            (IsWalk-placed rule h.maps (pos (length t.middle + s.after * length t.right)) last (last +ℤ pos right) right (omega (arith, ints)) refl (cells-rights t s.after s.on _ refl));
       };
-      left = before_last-cells r c first left ∙ ap (λ n. cells c (neg_ℤ (pos n)) n) (sym left_long) ∙ cells-left c;
-      middle = before_last-cells r c (pos 0) middle ∙ ap (cells c (pos 0)) (sym middle_long) ∙ cells-middle c;
-      right = before_last-cells r c last right ∙ ap₂ (λ (a b : ℕ). cells c (pos a) b) (sym middle_long) (sym right_long) ∙ cells-right c;
+      placed = ap₂ (λ (i : ℤ) (m : TailConfig). record { at = i; config = m }) (sym h.shape.at)
+          (ap₂ (λ (a b : List ℕ). config_of a b (before_last r z))
+          (before_last-cells r c first left ∙ ap (λ n. cells c (neg_ℤ (pos n)) n) (sym left_long) ∙ cells-left c) (before_last-cells r c (pos 0) middle ∙ ap (cells c (pos 0)) (sym middle_long) ∙ cells-middle c)
+          ∙ ap (config_of c.left c.middle) (before_last-cells r c last right ∙ ap₂ (λ (a b : ℕ). cells c (pos a) b) (sym middle_long) (sym right_long) ∙ cells-right c));
     }

@@ -1,37 +1,12 @@
 -- Three walks, a loop, one from it to another loop, and that loop, are a placed configuration that maps to the letters which they spell.
-use Rattle.std.proofs.Common.{◌≡◌, ℕ, zero, suc, ◌+◌, ◌-◌, ◌*◌, ◌<◌, ◌≤◌, List, [], ◌++◌, length, take, drop, get_or, slice_range, ℤ, pos, ◌+ℤ◌, ◌-ℤ◌, unsigned_abs, refl, sym, ap, ap₂, ◌∙◌, subst, arith, length-append, length-drop, append_assoc, mul_assoc, zero-mul, add-mul, mul-one, mul-le-mul_left, take-append-drop, length-take-le, append-nil}
-use Rattle.word_image.proofs.Common.{repeat, ints, mul-le, take-append-le, drop-append-le, All-take, LocalRule, IsRule, IsWord, value, word_of, local_map, length-word_of, value-injective, get_or-image}
-use Rattle.pair_laws.proofs.Common.{same_node}
-use Rattle.tail_config.proofs.Common.{TailConfig, IsTail, cell, cells, config_of, length-run, get_or-run, IsWord-run, run-same, slice_range-run, take-run, cell-below}
+use Rattle.std.proofs.Common.{◌≡◌, ℕ, zero, suc, ◌+◌, ◌-◌, ◌*◌, ◌<◌, ◌≤◌, List, [], ◌++◌, length, take, get_or, ℤ, pos, ◌+ℤ◌, ◌-ℤ◌, unsigned_abs, refl, sym, ap, ap₂, ◌∙◌, subst, arith, length-append, append_assoc, mul_assoc, zero-mul, add-mul, mul-one, mul-le-mul_left, take_at, append-nil}
+use Rattle.word_image.proofs.Common.{repeat, ints, mul-le, take-append-le, LocalRule, IsRule, word_of, local_map, image, image-take, length-word_of}
+use Rattle.tail_config.proofs.Common.{TailConfig, IsTail, cell, cells, run, image_of, config_of, get_or-run, run-same, image-run, take-run}
 use Rattle.tail_preimage.specs.Walks.{IsWalk, before_last}
 use Rattle.tail_preimage.specs.Preimages.{PlacedConfig, MapsTo, Shape, IsShapedPreimage, stretch, placed_cell, placed_cells}
 use Rattle.tail_preimage.specs.FirstWalks.{AreLoopWalks, placed_of}
-use Rattle.tail_preimage.proofs.laws.Walks.{IsWalk-last, IsWalk-none, IsWalk-join}
+use Rattle.tail_preimage.proofs.laws.Walks.{same_first, length-before_last, IsWord-before_last, IsWalk-last, IsWalk-none, IsWalk-then}
 use Rattle.tail_preimage.proofs.laws.Stretches.{length-repeat, repeat-add, repeat-repeat, stretch_length, length-stretch, stretch_start, cells-stretch}
-
--- before its last node a walk has a letter for each edge
-pub length-before_last : {r : LocalRule} {w x : List ℕ} {u v : ℕ} → IsWalk r w u v x → length (before_last r x) ≡ length w
-length-before_last {r} {x = x} h = let long = h.preimage.long in length-take-le (length x - (r.width - 1)) x (omega arith) ∙ omega arith
-
--- the letters of a walk before its last node are a word
-pub IsWord-before_last : {r : LocalRule} {w x : List ℕ} {u v : ℕ} → IsWalk r w u v x → IsWord r.states (before_last r x)
-IsWord-before_last {r} {x = x} h = All-take (λ a. a < r.states) (length x - (r.width - 1)) x h.preimage.word
-
--- a joined walk is the letters of the first before its last node, and the second
-pub join-before_last : {r : LocalRule} {u v s : ℕ} {w z x y : List ℕ} → IsWalk r w u v x → IsWalk r z v s y → x ++ drop (r.width - 1) y ≡ before_last r x ++ y
-join-before_last {r} {w = w} {z = z} {x = x} {y = y} h g =
-    let d : ℕ = r.width - 1 in
-    let long_x : length x ≡ length w + d = h.preimage.long in
-    let here : length x - d ≡ length w = omega arith in
-    let seam : drop (length x - d) x ≡ take d y =
-    ap (λ n. drop n x) here ∙ same_node r.states (length w) d x y h.preimage.word g.preimage.word long_x (omega arith) (h.last ∙ sym g.first) in
-    ap (λ a. a ++ drop d y) (sym (take-append-drop (length x - d) x))
-    ∙ append_assoc (before_last r x) (drop (length x - d) x) (drop d y)
-    ∙ ap (λ a. before_last r x ++ a) (ap (λ a. a ++ drop d y) seam ∙ take-append-drop d y)
-
--- a walk to a node and a walk from it on are joined into one
-pub IsWalk-then : {r : LocalRule} {u v s : ℕ} {w z x y : List ℕ} → IsRule r → IsWalk r w u v x → IsWalk r z v s y → IsWalk r (w ++ z) u s (before_last r x ++ y)
-IsWalk-then {r} {u} {s = s} {w = w} {z = z} rule h g = subst (IsWalk r (w ++ z) u s) (join-before_last h g) (IsWalk-join rule h g)
 
 -- a loop, n times, and then a walk are one walk
 pub IsWalk-round : {r : LocalRule} {v s : ℕ} {w z x y : List ℕ} → IsRule r → IsWalk r w v v x → IsWalk r z v s y → (n : ℕ) → IsWalk r (repeat n w ++ z) v s (repeat n (before_last r x) ++ y)
@@ -95,35 +70,26 @@ lefts-rounds t s n p e =
 le-times : (n p : ℕ) → 1 ≤ p → n ≤ n * p
 le-times n p h = let more : n * 1 ≤ n * p = mul-le-mul_left n h in omega (arith, mul-one n)
 
--- a window of the letters that n rounds spell
-spelled-window : {r : LocalRule} {t : TailConfig} {s : Shape} {v w : ℕ} {x y z : List ℕ} → IsRule r → IsTail r.states t → AreLoopWalks r t s v w x y z
-    → (n e : ℕ) → e + r.width ≤ stretch_length (spelled r x y z) n n
-    → local_map r (cells (spelled r x y z) (stretch_start (spelled r x y z) n +ℤ pos e) r.width) ≡ cell t (stretch_start t (n * s.back + s.before) +ℤ pos e)
-spelled-window {r} {t} {s} {w = w} {x = x} {y = y} {z = z} rule ht h n e inside =
+-- the image of what n rounds spell is what they span
+spelled-image : {r : LocalRule} {t : TailConfig} {s : Shape} {v w : ℕ} {x y z : List ℕ} → IsRule r → AreLoopWalks r t s v w x y z → (n e : ℕ) → e + (r.width - 1) ≡ stretch_length (spelled r x y z) n n
+    → run (image_of r (cell (spelled r x y z))) (stretch_start (spelled r x y z) n -ℤ r.offset) e ≡ cells t (stretch_start t (n * s.back + s.before)) e
+spelled-image {r} {t} {s} {w = w} {x = x} {y = y} {z = z} rule h n e inside =
     let c : TailConfig = spelled r x y z in
-    let hc : IsTail r.states c = IsTail-spelled ht h in
-    let m : ℕ = r.width in
-    let end : List ℕ = word_of r.states (m - 1) w in
-    let run : List ℕ = stretch c n n in
-    let walk = IsWalk-rounds rule h n n in
-    let run_long : length run ≡ stretch_length c n n = length-stretch c n n in
-    let end_long : length end ≡ m - 1 = length-word_of r.states (m - 1) w in
+    let d : ℕ = r.width - 1 in
+    let end : List ℕ = word_of r.states d w in
     let b : ℕ = n * s.back + s.before in
     let a : ℕ = s.after + n * s.on in
-    let both : length (run ++ end) ≡ length run + length end = length-append run end in
-    let within : e < length (rounds t s n n) = omega arith in
-    let t_long : length (rounds t s n n) ≡ stretch_length t b a = length-stretch t b a in
-    let window : slice_range (run ++ end) e (e + m) ≡ cells c (stretch_start c n +ℤ pos e) m =
-    ap (take (e + m - e)) (drop-append-le e run end (omega arith))
-    ∙ take-append-le (e + m - e) (drop e run) end (omega (arith, length-drop e run))
-    ∙ ap (λ i. slice_range i e (e + m)) (sym (cells-stretch hc n n))
-    ∙ slice_range-run (cell c) (stretch_start c n) (stretch_start c n +ℤ pos e) (stretch_length c n n) e m inside refl in
-    sym (get_or-image r (run ++ end) e (omega arith) ∙ ap (local_map r) window)
-    ∙ ap (λ i. get_or i e 0) (walk.preimage.maps ∙ sym (cells-stretch ht b a))
-    ∙ get_or-run (cell t) (stretch_start t b) (stretch_start t b +ℤ pos e) (stretch_length t b a) e (omega arith) refl
+    let walk = IsWalk-rounds rule h n n in
+    let short : e + d - d ≡ e = omega arith in
+    sym (image-run rule (cell c) (stretch_start c n -ℤ r.offset) (stretch_start c n) e (omega (arith, ints)))
+    ∙ ap (image r) (ap (cells c (stretch_start c n)) inside ∙ cells-stretch c n n ∙ sym (take_at (stretch c n n) end (e + d) (omega (arith, length-stretch c n n))))
+    ∙ image-take rule (e + d) (stretch c n n ++ end)
+    ∙ ap₂ (λ (i : ℕ) (u : List ℕ). take i u) short (walk.preimage.maps ∙ sym (cells-stretch t b a))
+    ∙ take-run (cell t) (stretch_start t b) (stretch_length t b a) e
+    (omega (arith, walk.preimage.long, length-append (stretch c n n) end, length-stretch c n n, length-word_of r.states d w, length-stretch t b a))
 
 -- the placed configuration of the walks maps to what they spell
-pub MapsTo-placed_of : {r : LocalRule} {t : TailConfig} {s : Shape} {v w : ℕ} {x y z : List ℕ} → IsRule r → IsTail r.states t → AreLoopWalks r t s v w x y z
+MapsTo-placed_of : {r : LocalRule} {t : TailConfig} {s : Shape} {v w : ℕ} {x y z : List ℕ} → IsRule r → IsTail r.states t → AreLoopWalks r t s v w x y z
     → MapsTo r (placed_of r t s.before x y z) t
 MapsTo-placed_of {r} {t} {s} {x = x} {y = y} {z = z} rule ht h =
     let c : TailConfig = spelled r x y z in
@@ -135,42 +101,37 @@ MapsTo-placed_of {r} {t} {s} {x = x} {y = y} {z = z} rule ht h =
           let j : ℤ = i +ℤ r.offset -ℤ p.at in
           let n : ℕ = unsigned_abs j + r.width in
           let e : ℕ = unsigned_abs (j +ℤ pos (n * length c.left)) in
+          let m : ℕ = stretch_length c n n - (r.width - 1) in
           let left : n ≤ n * length c.left = le-times n (length c.left) hc.left_some in
           let right : n ≤ n * length c.right = le-times n (length c.right) hc.right_some in
           let span : n * length c.left + s.before * length t.left ≡ (n * s.back + s.before) * length t.left =
           lefts-rounds t s n (length c.left) (length-before_last h.left ∙ length-repeat s.back t.left) in
-          let start : j ≡ stretch_start c n +ℤ pos e = omega (arith, ints) in
-          let place : stretch_start t (n * s.back + s.before) +ℤ pos e ≡ i = omega (arith, ints) in
-          ap (local_map r) (placed_cells-cells p (i +ℤ r.offset) (stretch_start c n +ℤ pos e) r.width start)
-          ∙ spelled-window rule ht h n e (omega (arith, ints))
-          ∙ ap (cell t) place;
+          let inside : e < m = omega (arith, ints) in
+          ap (local_map r) (placed_cells-cells p (i +ℤ r.offset) (i -ℤ p.at +ℤ r.offset) r.width (omega (arith, ints)))
+          ∙ sym (get_or-run (image_of r (cell c)) (stretch_start c n -ℤ r.offset) (i -ℤ p.at) m e inside (omega (arith, ints)))
+          ∙ ap (λ u. get_or u e 0) (spelled-image rule h n m (omega arith))
+          ∙ get_or-run (cell t) (stretch_start t (n * s.back + s.before)) i m e inside (omega (arith, ints));
     }
 
--- where rounds of the left loop begin stand the letters of its node
-spelled-node : {r : LocalRule} {t : TailConfig} {s : Shape} {v w : ℕ} {x y z : List ℕ} → IsRule r → IsTail r.states t → AreLoopWalks r t s v w x y z
-    → (b : ℕ) → value r.states (cells (spelled r x y z) (stretch_start (spelled r x y z) b) (r.width - 1)) ≡ v
-spelled-node {r} {t} {w = w} {x = x} {y = y} {z = z} rule ht h b =
+-- where b rounds of the left loop begin stand the first letters of the walk that they begin
+spelled-node : (r : LocalRule) (x y z : List ℕ) → IsTail r.states (spelled r x y z) → (b : ℕ) (end : List ℕ)
+    → cells (spelled r x y z) (stretch_start (spelled r x y z) b) (r.width - 1) ≡ take (r.width - 1) (stretch (spelled r x y z) b (r.width - 1) ++ end)
+spelled-node r x y z hc b end =
     let c : TailConfig = spelled r x y z in
-    let hc : IsTail r.states c = IsTail-spelled ht h in
     let d : ℕ = r.width - 1 in
     let right : d ≤ d * length c.right = le-times d (length c.right) hc.right_some in
-    let run : List ℕ = stretch c b d in
-    let inside : d ≤ stretch_length c b d = omega arith in
-    ap (value r.states)
-    (sym (take-run (cell c) (stretch_start c b) (stretch_length c b d) d inside) ∙ ap (take d) (cells-stretch hc b d)
-    ∙ sym (take-append-le d run (word_of r.states d w) (omega (arith, length-stretch c b d))))
-    ∙ (IsWalk-rounds rule h b d).first
+    sym (take-run (cell c) (stretch_start c b) (stretch_length c b d) d (omega arith)) ∙ ap (take d) (cells-stretch c b d)
+    ∙ sym (take-append-le d (stretch c b d) end (omega (arith, length-stretch c b d)))
 
 -- the placed configuration of three loop walks is one of their shape that maps to t
 pub IsShapedPreimage-placed_of : {r : LocalRule} {t : TailConfig} {s : Shape} {v w : ℕ} {x y z : List ℕ} → IsRule r → IsTail r.states t → AreLoopWalks r t s v w x y z
     → IsShapedPreimage r t s (placed_of r t s.before x y z)
-IsShapedPreimage-placed_of {r} {t} {s} {x = x} {y = y} {z = z} rule ht h =
+IsShapedPreimage-placed_of {r} {t} {s} {w = w} {x = x} {y = y} {z = z} rule ht h =
     let c : TailConfig = spelled r x y z in
-    let hc : IsTail r.states c = IsTail-spelled ht h in
     let p : PlacedConfig = placed_of r t s.before x y z in
     let d : ℕ = r.width - 1 in
     let left : length c.left ≡ s.back * length t.left = length-before_last h.left ∙ length-repeat s.back t.left in
-    let before : p.at -ℤ pos (s.back * length t.left) -ℤ p.at ≡ stretch_start c 1 = omega (arith, ints) in
+    let node = λ (b : ℕ). spelled-node r x y z (IsTail-spelled ht h) b (word_of r.states d w) in
     record {
       maps = MapsTo-placed_of rule ht h;
       shape = record {
@@ -181,8 +142,7 @@ IsShapedPreimage-placed_of {r} {t} {s} {x = x} {y = y} {z = z} rule ht h =
         right = length-before_last h.right ∙ length-repeat s.on t.right;
         at = refl;
         node = placed_cells-cells p p.at (stretch_start c 0) d (omega (arith, ints, zero-mul (length c.left)))
-            ∙ value-injective r.states (cells c (stretch_start c 0) d) (cells c (stretch_start c 1) d) (IsWord-run (cell-below hc) (stretch_start c 0) d) (IsWord-run (cell-below hc) (stretch_start c 1) d)
-            (length-run (cell c) (stretch_start c 0) d ∙ sym (length-run (cell c) (stretch_start c 1) d)) (spelled-node rule ht h 0 ∙ sym (spelled-node rule ht h 1))
-            ∙ sym (placed_cells-cells p (p.at -ℤ pos (s.back * length t.left)) (stretch_start c 1) d before);
+            ∙ node 0 ∙ same_first (IsWalk-rounds rule h 0 d) (IsWalk-rounds rule h 1 d) ∙ sym (node 1)
+            ∙ sym (placed_cells-cells p (p.at -ℤ pos (s.back * length t.left)) (stretch_start c 1) d (omega (arith, ints)));
       };
     }

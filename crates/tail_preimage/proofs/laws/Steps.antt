@@ -73,3 +73,9 @@ Open-rounds E n on u some (v, to, round) b =
     let enough : b + (n + b * on - b) ≡ n + b * on = omega (arith, mul-one b) in
     let (w, first, rest) = Steps-cut b (n + b * on - b) (subst (λ i. Steps E i u v) (sym enough) (Steps-add n (b * on) to (Steps-round round b))) in
     (w, first)
+
+-- rounds of one side, whose sum is known, by their number
+pub exact_rounds : (E : ℕ → ℕ → Type 0) (n m on sum v : ℕ) → n ≡ m → n + on ≡ sum → Rounds E n on v → Rounds E m (sum - m) v
+exact_rounds E n m on sum v same both h =
+    let rest : on ≡ sum - m = omega arith in
+    subst (λ k. Rounds E m k v) rest (subst (λ k. Rounds E k on v) same h)

@@ -1,7 +1,7 @@
 -- Words that are repeated, and the runs of a configuration that begin and end at whole periods.
-use Rattle.std.proofs.Common.{◌≡◌, ℕ, zero, suc, ◌+◌, ◌-◌, ◌*◌, ◌<◌, List, ◌∷◌, ◌++◌, length, drop, slice_index, ℤ, pos, ◌+ℤ◌, ◌-ℤ◌, neg_ℤ, refl, sym, ap, ap₂, ◌∙◌, arith, length-append, append_assoc, drop-cons, suc-mul, zero-mul, append-nil}
+use Rattle.std.proofs.Common.{◌≡◌, ℕ, zero, suc, ◌+◌, ◌-◌, ◌*◌, ◌<◌, List, ◌∷◌, ◌++◌, length, drop, slice_index, ℤ, pos, ◌+ℤ◌, ◌-ℤ◌, neg_ℤ, refl, sym, ap, ap₂, ◌∙◌, arith, length-append, append_assoc, drop-cons, suc-mul, zero-mul, add-mul, append-nil}
 use Rattle.word_image.proofs.Common.{repeat, ints, All-nil, All-append, IsWord}
-use Rattle.tail_config.proofs.Common.{TailConfig, IsTail, cell, cells, run-same, run-append, cells-middle, cells-left, cells-right, RepeatsLeft-times, cell-left_period, cell-right_period}
+use Rattle.tail_config.proofs.Common.{Config, run, TailConfig, IsTail, cell, cells, run-same, run-append, cells-middle, cells-left, cells-right, RepeatsLeft-times, RepeatsRight-times, cell-left_period, cell-right_period}
 use Rattle.tail_preimage.specs.Preimages.{stretch}
 
 -- n copies of a list have n times its letters
@@ -54,43 +54,48 @@ IsWord-stretch {k} {t} h b a =
     All-append (λ c. c < k) (repeat b t.left ++ t.middle) (repeat a t.right)
     (All-append (λ c. c < k) (repeat b t.left) t.middle (IsWord-repeat t.left h.left_word b) h.middle_word) (IsWord-repeat t.right h.right_word a)
 
--- left of place 0 stand copies of the left period
-pub cells-lefts : (t : TailConfig) (b : ℕ) → cells t (neg_ℤ (pos (b * length t.left))) (b * length t.left) ≡ repeat b t.left
-cells-lefts t zero = ap (cells t (neg_ℤ (pos (zero * length t.left)))) (zero-mul (length t.left))
-cells-lefts t (suc b) =
-    let p : ℕ = length t.left in
-    let start : ℤ = neg_ℤ (pos (suc b * p)) in
-    let long : suc b * p ≡ p + b * p = omega (arith, suc-mul b p) in
-    let seam : start +ℤ pos p ≡ neg_ℤ (pos (b * p)) = omega (arith, ints, suc-mul b p) in
-    let first = run-same (cell t) (cell t) start (neg_ℤ (pos p)) p (λ a l.
-    let place : start +ℤ pos a ≡ neg_ℤ (pos p) +ℤ pos a -ℤ pos (b * p) = omega (arith, ints, suc-mul b p) in
-    ap (cell t) place ∙ RepeatsLeft-times b p (cell t) (pos 0) (cell-left_period t) (neg_ℤ (pos p) +ℤ pos a) (omega (arith, ints)))
-    ∙ cells-left t in
-    ap (cells t start) long ∙ run-append (cell t) start (neg_ℤ (pos (b * p))) p (b * p) seam ∙ ap₂ (λ (x y : List ℕ). x ++ y) first (cells-lefts t b)
-
--- right of the middle stand copies of the right period
-pub cells-rights : {k : ℕ} {t : TailConfig} → IsTail k t → (a : ℕ) → cells t (pos (length t.middle)) (a * length t.right) ≡ repeat a t.right
-cells-rights {t = t} h zero = ap (cells t (pos (length t.middle))) (zero-mul (length t.right))
-cells-rights {t = t} h (suc a) =
-    let p : ℕ = length t.right in
-    let start : ℤ = pos (length t.middle) in
-    let long : suc a * p ≡ p + a * p = omega (arith, suc-mul a p) in
-    let rest = run-same (cell t) (cell t) (start +ℤ pos p) start (a * p) (λ c l.
-    let place : start +ℤ pos p +ℤ pos c ≡ start +ℤ pos c +ℤ pos p = omega (arith, ints) in
-    ap (cell t) place ∙ cell-right_period t (start +ℤ pos c) (omega (arith, ints))) in
-    ap (cells t start) long ∙ run-append (cell t) start (start +ℤ pos p) p (a * p) refl ∙ ap₂ (λ (x y : List ℕ). x ++ y) (cells-right t) (rest ∙ cells-rights h a)
+-- a run of n periods, each of which is w
+run-repeats : (x : Config) (i : ℤ) (n : ℕ) (w : List ℕ) → ((m : ℕ) → m < n → run x (i +ℤ pos (m * length w)) (length w) ≡ w) → run x i (n * length w) ≡ repeat n w
+run-repeats x i zero w each = ap (run x i) (zero-mul (length w))
+run-repeats x i (suc n) w each =
+    let p : ℕ = length w in
+    let long : suc n * p ≡ n * p + p = omega (arith, suc-mul n p) in
+    let next : n + 1 ≡ suc n = omega arith in
+    ap (run x i) long ∙ run-append x i (i +ℤ pos (n * p)) (n * p) p refl
+    ∙ ap₂ (λ (u v : List ℕ). u ++ v) (run-repeats x i n w (λ m l. each m (omega arith))) (each n (omega arith)) ∙ sym (repeat-more n w) ∙ ap (λ m. repeat m w) next
 
 -- the place at which b left periods before place 0 begin
 abbrev pub stretch_start : TailConfig → ℕ → ℤ
 stretch_start t b = neg_ℤ (pos (b * length t.left))
 
+-- n left periods that end b periods before place 0
+pub cells-lefts : (t : TailConfig) (b n : ℕ) (i : ℤ) → i ≡ stretch_start t (n + b) → cells t i (n * length t.left) ≡ repeat n t.left
+cells-lefts t b n i e = run-repeats (cell t) i n t.left (λ m l.
+    let p : ℕ = length t.left in
+    let c : ℕ = n + b - (m + 1) in
+    let split : n + b ≡ suc c + m = omega arith in
+    run-same (cell t) (cell t) (i +ℤ pos (m * p)) (neg_ℤ (pos p)) p (λ a g.
+    let place : i +ℤ pos (m * p) +ℤ pos a ≡ neg_ℤ (pos p) +ℤ pos a -ℤ pos (c * p) = omega (arith, ints, ap (λ j. j * p) split, add-mul (suc c) m p, suc-mul c p) in
+    ap (cell t) place ∙ RepeatsLeft-times c p (cell t) (pos 0) (cell-left_period t) (neg_ℤ (pos p) +ℤ pos a) (omega (arith, ints)))
+    ∙ cells-left t)
+
+-- n right periods from a periods after the middle on
+pub cells-rights : (t : TailConfig) (a n : ℕ) (i : ℤ) → i ≡ pos (length t.middle + a * length t.right) → cells t i (n * length t.right) ≡ repeat n t.right
+cells-rights t a n i e = run-repeats (cell t) i n t.right (λ m l.
+    let p : ℕ = length t.right in
+    let start : ℤ = pos (length t.middle) in
+    run-same (cell t) (cell t) (i +ℤ pos (m * p)) start p (λ c g.
+    let place : i +ℤ pos (m * p) +ℤ pos c ≡ start +ℤ pos c +ℤ pos ((a + m) * p) = omega (arith, ints, add-mul a m p) in
+    ap (cell t) place ∙ RepeatsRight-times (a + m) p (cell t) start (cell-right_period t) (start +ℤ pos c) (omega (arith, ints)))
+    ∙ cells-right t)
+
 -- b left periods, the middle and a right periods are a run of the configuration
-pub cells-stretch : {k : ℕ} {t : TailConfig} → IsTail k t → (b a : ℕ) → cells t (stretch_start t b) (stretch_length t b a) ≡ stretch t b a
-cells-stretch {t = t} h b a =
+pub cells-stretch : (t : TailConfig) (b a : ℕ) → cells t (stretch_start t b) (stretch_length t b a) ≡ stretch t b a
+cells-stretch t b a =
     let left : ℕ = b * length t.left in
     let m : ℕ = length t.middle in
     let start : ℤ = stretch_start t b in
     run-append (cell t) start (pos m) (left + m) (a * length t.right) (omega (arith, ints))
     ∙ ap₂ (λ (x y : List ℕ). x ++ y)
-    (run-append (cell t) start (pos 0) left m (omega (arith, ints)) ∙ ap₂ (λ (x y : List ℕ). x ++ y) (cells-lefts t b) (cells-middle t))
-    (cells-rights h a)
+    (run-append (cell t) start (pos 0) left m (omega (arith, ints)) ∙ ap₂ (λ (x y : List ℕ). x ++ y) (cells-lefts t 0 b start (omega (arith, ints))) (cells-middle t))
+    (cells-rights t 0 a (pos m) (omega (arith, ints, zero-mul (length t.right))))

@@ -1,10 +1,10 @@
 -- Walks: cut in two, joined, and one edge longer at either end.
-use Rattle.std.proofs.Common.{◌≡◌, ◌↔◌, ℕ, ◌+◌, ◌-◌, ◌<◌, List, [], ◌∷◌, ◌++◌, length, take, drop, refl, sym, ap, ap₂, ◌∙◌, subst, arith, length-append, length-drop, length-take-le, take_all, take_at, drop_at, take-take, drop-drop}
-use Rattle.word_image.proofs.Common.{length_push, take-append-le, All-append, All-take, All-drop, LocalRule, IsRule, IsWord, value, word_of, node_count, IsOrphan, next, label, IsEdge, value-injective, length-word_of, IsWord-word_of, value-word_of, IsLongerPreimage, IsPreimage-empty, IsPreimage-snoc, IsPreimage-push, image-take, image-drop, value-node, value-next, local_map-label}
+use Rattle.std.proofs.Common.{◌≡◌, ◌↔◌, ℕ, ◌+◌, ◌-◌, ◌<◌, List, [], ◌∷◌, ◌++◌, length, take, drop, get_or, refl, sym, ap, ap₂, ◌∙◌, subst, arith, length-append, length-drop, append_assoc, length-take-le, take_all, take_at, drop_at, take-take, drop-drop, take-append-drop, get_or-take, drop-cons}
+use Rattle.word_image.proofs.Common.{length_push, take-append-le, All-append, All-take, All-drop, LocalRule, IsRule, IsWord, value, word_of, node_count, node_letter, IsOrphan, next, label, IsEdge, value-injective, length-word_of, IsWord-word_of, value-word_of, IsPreimage-empty, IsPreimage-snoc, IsPreimage-push, image-take, image-drop, value-node, value-next, local_map-label}
 use Rattle.word_image.specs.declared.side.Side.TheVariants.{Right}
 use Rattle.word_image.proofs.laws.LastNodes.{IsLastNode-below, last_edge}
 use Rattle.pair_laws.proofs.Common.{drop-join_more, image-join, same_node, value-cut}
-use Rattle.tail_preimage.specs.Walks.{IsWalk, HasWalk}
+use Rattle.tail_preimage.specs.Walks.{IsWalk, HasWalk, before_last}
 
 -- a walk begins with a node
 pub IsWalk-first : {r : LocalRule} {w x : List ℕ} {u v : ℕ} → IsWalk r w u v x → u < node_count r
@@ -55,6 +55,30 @@ IsWalk-join {r} {w = w} {z = z} {x = x} {y = y} rule h g =
           ∙ ap (value r.states) (drop-join_more (length w) (length z) d x y long_x seam) ∙ g.last;
     }
 
+-- before its last node a walk has a letter for each edge
+pub length-before_last : {r : LocalRule} {w x : List ℕ} {u v : ℕ} → IsWalk r w u v x → length (before_last r x) ≡ length w
+length-before_last {r} {x = x} h = let long = h.preimage.long in length-take-le (length x - (r.width - 1)) x (omega arith) ∙ omega arith
+
+-- the letters of a walk before its last node are a word
+pub IsWord-before_last : {r : LocalRule} {w x : List ℕ} {u v : ℕ} → IsWalk r w u v x → IsWord r.states (before_last r x)
+IsWord-before_last {r} {x = x} h = All-take (λ a. a < r.states) (length x - (r.width - 1)) x h.preimage.word
+
+-- a joined walk is the letters of the first before its last node, and the second
+pub join-before_last : {r : LocalRule} {u v s : ℕ} {w z x y : List ℕ} → IsWalk r w u v x → IsWalk r z v s y → x ++ drop (r.width - 1) y ≡ before_last r x ++ y
+join-before_last {r} {w = w} {z = z} {x = x} {y = y} h g =
+    let d : ℕ = r.width - 1 in
+    let long_x : length x ≡ length w + d = h.preimage.long in
+    let here : length x - d ≡ length w = omega arith in
+    let seam : drop (length x - d) x ≡ take d y =
+    ap (λ n. drop n x) here ∙ same_node r.states (length w) d x y h.preimage.word g.preimage.word long_x (omega arith) (h.last ∙ sym g.first) in
+    ap (λ a. a ++ drop d y) (sym (take-append-drop (length x - d) x))
+    ∙ append_assoc (before_last r x) (drop (length x - d) x) (drop d y)
+    ∙ ap (λ a. before_last r x ++ a) (ap (λ a. a ++ drop d y) seam ∙ take-append-drop d y)
+
+-- a walk to a node and a walk from it on are joined into one
+pub IsWalk-then : {r : LocalRule} {u v s : ℕ} {w z x y : List ℕ} → IsRule r → IsWalk r w u v x → IsWalk r z v s y → IsWalk r (w ++ z) u s (before_last r x ++ y)
+IsWalk-then {r} {u} {s = s} {w = w} {z = z} rule h g = subst (IsWalk r (w ++ z) u s) (join-before_last h g) (IsWalk-join rule h g)
+
 -- a walk of two words in a row is one of each
 pub record IsCutWalk (r : LocalRule) (w z : List ℕ) (u s : ℕ) (x : List ℕ) : Type 0 where
   pub node : ℕ
@@ -98,51 +122,39 @@ IsWalk-push {r} {w = w} {x = x} rule h a b l e =
       last = ap (λ n. value r.states (drop n (x ++ b ∷ []))) (length_push w a) ∙ value-next rule (length w) x b h.preimage.word h.preimage.long l ∙ ap (λ n. next r n b) h.last;
     }
 
--- the last edge of a walk
-pub record HasLastEdge (r : LocalRule) (w : List ℕ) (a u s : ℕ) (x : List ℕ) : Type 0 where
-  pub before : List ℕ
-  pub node : ℕ
-  pub letter : ℕ
-  pub splits : x ≡ before ++ letter ∷ []
-  pub walk : IsWalk r w u node before
-  pub within : letter < r.states
-  pub spells : label r node letter ≡ a
-  pub leads : next r node letter ≡ s
+-- a walk begins with the first letter of its first node
+pub IsWalk-letter : {r : LocalRule} {w x : List ℕ} {u v : ℕ} → IsRule r → IsWalk r w u v x → x ≡ node_letter r u 0 ∷ drop 1 x
+IsWalk-letter {r} {x = x} {u = u} rule h =
+    let d : ℕ = r.width - 1 in
+    let some : 0 < d = omega (arith, rule.shape.least_width) in
+    let first : get_or x 0 0 ≡ node_letter r u 0 =
+    sym (get_or-take d x 0 0 some) ∙ ap (λ y. get_or y 0 0) (same_first h (IsWalk-none r u (IsWalk-first h))) ∙ get_or-take d (word_of r.states d u) 0 0 some in
+    drop-cons x 0 0 (omega arith) ∙ ap (λ a. a ∷ drop 1 x) first
 
-pub IsWalk-snoc : {r : LocalRule} {u s : ℕ} {x : List ℕ} → IsRule r → (w : List ℕ) (a : ℕ) → IsWalk r (w ++ a ∷ []) u s x → HasLastEdge r w a u s x
-IsWalk-snoc {r} {x = x} rule w a h =
-    let p : IsLongerPreimage r w a x = IsPreimage-snoc rule w a x h.preimage in
-    let (label, leads) = last_edge rule w a x p in
-    record {
-      before = p.before;
-      node = value r.states (drop (length w) p.before);
-      letter = p.letter;
-      splits = p.splits;
-      walk = record {
-        preimage = p.preimage;
-        first = ap (value r.states) (sym (take-append-le (r.width - 1) p.before (p.letter ∷ []) (omega arith))) ∙ ap (λ y. value r.states (take (r.width - 1) y)) (sym p.splits) ∙ h.first;
-        last = refl;
-      };
-      within = p.within;
-      spells = label;
-      leads = leads ∙ h.last;
-    }
+-- an edge, and then a walk from its end
+pub IsWalk-cons : {r : LocalRule} {w x : List ℕ} {a u v s : ℕ} → IsRule r → u < node_count r → IsEdge Right r a u v → IsWalk r w v s x → IsWalk r (a ∷ w) u s (node_letter r u 0 ∷ x)
+IsWalk-cons {r} {w} {x} {a} {u} {s = s} rule l (b, letter, (spells, leads)) h =
+    let edge = IsWalk-push rule (IsWalk-none r u l) a b letter spells in
+    let y : List ℕ = word_of r.states (r.width - 1) u ++ b ∷ [] in
+    let one : length y - (r.width - 1) ≡ 1 = omega (arith, edge.preimage.long) in
+    subst (λ z. IsWalk r (a ∷ w) u s (z ++ x)) (ap (λ n. take n y) one ∙ ap (take 1) (IsWalk-letter rule edge)) (IsWalk-then rule edge (subst (λ n. IsWalk r w n s x) (sym leads) h))
+
+-- the first edge of a walk, and the walk after it
+pub IsWalk-uncons : {r : LocalRule} {u s : ℕ} {x : List ℕ} → IsRule r → (a : ℕ) (w : List ℕ) → IsWalk r (a ∷ w) u s x → (v : ℕ) × IsEdge Right r a u v × IsWalk r w v s (drop 1 x)
+IsWalk-uncons {r} {u} {x = x} rule a w h =
+    let d : ℕ = r.width - 1 in
+    let cut = IsWalk-cut rule (a ∷ []) w h in
+    let p = IsPreimage-snoc rule [] a (take (1 + d) x) cut.before.preimage in
+    let (spells, leads) = last_edge rule [] a (take (1 + d) x) p in
+    let here : value r.states p.before ≡ u =
+    ap (value r.states) (sym (take_at p.before (p.letter ∷ []) d (omega (arith, p.preimage.long)))) ∙ ap (λ y. value r.states (take d y)) (sym p.splits) ∙ cut.before.first in
+    (cut.node, (p.letter, p.within, (ap (λ n. label r n p.letter) (sym here) ∙ spells, ap (λ n. next r n p.letter) (sym here) ∙ leads ∙ cut.before.last)), cut.after)
 
 -- from a node a word leads on after an edge with its first letter, and only so
 pub HasWalk-cons : {r : LocalRule} → IsRule r → (a : ℕ) (w : List ℕ) (u s : ℕ) → u < node_count r → HasWalk r (a ∷ w) u s ↔ ((v : ℕ) × (v < node_count r) × IsEdge Right r a u v × HasWalk r w v s)
 HasWalk-cons {r} rule a w u s l = (
-  (λ (x, h).
-      let cut = IsWalk-cut rule (a ∷ []) w h in
-      let edge = IsWalk-snoc rule [] a cut.before in
-      let here = IsWalk-stays edge.walk in (
-        cut.node,
-        IsWalk-first cut.after,
-        (edge.letter, edge.within, (ap (λ n. label r n edge.letter) here ∙ edge.spells, ap (λ n. next r n edge.letter) here ∙ edge.leads)),
-        (drop (length (a ∷ [])) x, cut.after),
-      )),
-  (λ (v, node, (b, letter, (spells, leads)), (y, rest)).
-      let edge = IsWalk-push rule (IsWalk-none r u l) a b letter spells in
-      (_, IsWalk-join rule edge (subst (λ n. IsWalk r w n s y) (sym leads) rest))),
+  (λ (x, h). let (v, edge, rest) = IsWalk-uncons rule a w h in (v, IsWalk-first rest, edge, (drop 1 x, rest))),
+  (λ (v, node, edge, (y, rest)). (_, IsWalk-cons rule l edge rest)),
 )
 
 -- two walks are joined to a walk of both words

@@ -2,8 +2,8 @@ use Rattle.std.proofs.Common.{◌≡◌, ◌+◌, ◌-◌, ◌*◌, ◌<◌, sli
 use Rattle.rule_classes.specs.Colourings.{AgreeFrom, IsChosen, entry, old_value}
 use Rattle.rule_classes.proofs.laws.Readings.{IsRow-made, window-below}
 use Rattle.rule_classes.proofs.laws.Colourings.{slice_index-best}
-use Rattle.rule_classes.proofs.laws.KnownWindows.{IsKnown, IsKnown-at}
-use Rattle.rule_classes.proofs.laws.Completions.{AgreeFrom-less, lesser_number, none_less-free, none_less-chosen}
+use Rattle.rule_classes.proofs.laws.KnownWindows.{IsKnown, IsKnown-at, entry-chosen, entry-free}
+use Rattle.rule_classes.proofs.laws.Completions.{AgreeFrom-less, lesser_number, none_less}
 use Rattle.rule_classes.proofs.search.told.Goals.{After-from-in-loop-letter}
 use Rattle.rule_classes.proofs.search.told.Goals as goal
 
@@ -36,8 +36,8 @@ here c =
 pub returns-then-is_free-clause-no_less : goal.returns-then-is_free-clause-no_less
 returns-then-is_free-clause-no_less c greater =
     let (known, agree, colour, other) = here (goal.at.returns-then-is_free-clause-no_less c).After-from-in-loop-letter in
-    none_less-free c.k-k.ensures.rule c.requires.high c.requires.colouring c.requires.best.colouring known agree
-    (omega (arith, colour, (c.is_free.ensures.free c.if-is_free.true).0)) (omega (arith, other, leb-false _ _ greater))
+    none_less c.k-k.ensures.rule c.requires.best.colouring known.below agree (λ d completes.
+    omega (arith, other, leb-false _ _ greater, entry-free c.k-k.ensures.rule c.requires.colouring completes known (omega (arith, colour, (c.is_free.ensures.free c.if-is_free.true).0))))
 
 pub returns-then-colour-other-clause-less : goal.returns-then-colour-other-clause-less
 returns-then-colour-other-clause-less c less same =
@@ -47,11 +47,12 @@ returns-then-colour-other-clause-less c less same =
 pub returns-then-colour-other-clause-no_less : goal.returns-then-colour-other-clause-no_less
 returns-then-colour-other-clause-no_less c greater =
     let (known, agree, colour, other) = here (goal.at.returns-then-colour-other-clause-no_less c).After-from-in-loop-letter in
-    none_less-chosen c.k-k.ensures.rule c.requires.high c.requires.colouring c.requires.best.colouring known agree
-    (subst (IsChosen c.args.low c.args.high) colour (c.is_free.ensures.chosen c.if-is_free.false)) (omega (arith, colour, other, ltb-false _ _ greater, c.if-colour-other.true))
+    let chosen = subst (IsChosen c.args.low c.args.high) colour (c.is_free.ensures.chosen c.if-is_free.false) in
+    none_less c.k-k.ensures.rule c.requires.best.colouring known.below agree (λ d completes.
+    omega (arith, colour, other, ltb-false _ _ greater, c.if-colour-other.true, entry-chosen c.k-k.ensures.rule c.requires.colouring completes known chosen))
 
 pub loop-letter-preserved : goal.loop-letter-preserved
 loop-letter-preserved c =
     let (known, agree, colour, other) = here (goal.at.loop-letter-preserved c).After-from-in-loop-letter in
-    AgreeFrom-less c.k-k.ensures.rule c.requires.high c.requires.colouring known
+    AgreeFrom-less c.k-k.ensures.rule c.requires.colouring known
     (subst (IsChosen c.args.low c.args.high) colour (c.is_free.ensures.chosen c.if-is_free.false)) (sym colour ∙ c.if-colour-other.false ∙ other) agree

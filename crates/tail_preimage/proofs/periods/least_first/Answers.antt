@@ -1,6 +1,7 @@
-use Rattle.std.proofs.Common.{◌-◌, arith, below_more}
+use Rattle.std.proofs.Common.{◌-◌, refl, arith, below_more}
 use Rattle.tail_preimage.specs.Relations.{Rounds, Meets}
 use Rattle.word_image.proofs.Common.{HasBit}
+use Rattle.tail_preimage.proofs.laws.Steps.{exact_rounds}
 use Rattle.tail_preimage.proofs.Meets.{IsSetOf-meets}
 use Rattle.tail_preimage.proofs.periods.least_first.Goals as goal
 
@@ -16,4 +17,6 @@ loop-n-preserved c =
     (λ meets. (IsSetOf-meets c.rounds.ensures c.args.set).1 meets c.if-rounds-set-ne0.false)
 
 pub unreachable-requires : goal.unreachable-requires
-unreachable-requires c = let (i, l, meets) = c.requires.some in c.loop-n.invariant i (omega (arith, l)) meets
+unreachable-requires c =
+    let (u, node, (n, on, both, some, rounds), bit) = c.requires.some in
+    c.loop-n.invariant n (omega (arith, both, some)) (u, node, exact_rounds (HasBit c.args.periods.now.period) n n on c.args.sum u refl both rounds, bit)

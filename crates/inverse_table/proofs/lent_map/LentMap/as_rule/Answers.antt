@@ -1,6 +1,6 @@
 use Rattle.std.proofs.Common.{◌≡◌, ℕ, None, ℤ, w8, w32, FitsSigned, to_z, of_z, refl, sym, ◌∙◌, arith, rules}
 use Rattle.std.proofs.lemmas.Int.{to_z-of_z}
-use Rattle.word_image.proofs.Common.{ints, none-some, IsRule, shape_fault, IsShape-shape_fault, shape_fault-IsShape, IsRuleBy-entries}
+use Rattle.word_image.proofs.Common.{err_from_is_err_and, ints, none-some, IsRule, shape_fault, IsShape-shape_fault, shape_fault-IsShape, IsRuleBy-entries}
 use Rattle.tail_config.proofs.Common.{WindowMap}
 use Rattle.inverse_table.specs.InverseMaps.{map_rule}
 use Rattle.inverse_table.specs.MapLimits.{IsWindowMap}
@@ -31,6 +31,12 @@ returns-in_err-check_shape-clause-accepted c =
       λ ok. absurd (grind arith),
       λ rule. absurd (none-some _ (sym (shape_fault-IsShape _ _ _ rule.shape) ∙ sym (asked c.n.ensures.map c.k.ensures.states width c.offset-o.ensures.offset) ∙ sym c.in_err-check_shape.ensures)),
     )
+
+pub returns-in_err-check_shape-clause-fault : goal.returns-in_err-check_shape-clause-fault
+returns-in_err-check_shape-clause-fault c =
+    let width : c.max-m.result ≡ (map_rule c.args.self.now).width = omega (arith, c.max-m.ensures, c.n.ensures.width) in
+    let p = err_from_is_err_and c.from_residual.result c.from_residual.ensures.1 in
+    rw (p.1, p.2) (c.in_err-check_shape.ensures ∙ asked c.n.ensures.map c.k.ensures.states width c.offset-o.ensures.offset ∙ shape_fault-limit c.n.ensures.map)
 
 pub from_fn-requires-clause-rule : goal.from_fn-requires-clause-rule
 from_fn-requires-clause-rule c =

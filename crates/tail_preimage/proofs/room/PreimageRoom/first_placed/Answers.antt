@@ -1,37 +1,21 @@
-use Rattle.std.proofs.Common.{ℕ, ◌<◌, ◌≤◌, List, ◌∙◌, rules, IsBitSet, w64}
+use Rattle.std.proofs.Common.{ℕ, List, ◌∙◌, rules, w64}
 use Rattle.std.proofs.lemmas.Int.{to_z-of_z}
 use Rattle.word_image.proofs.Common.{repeat, LocalRule, node_count, IsNodeSet, HasBit, IsSetOf-same}
 use Rattle.pair_laws.proofs.Common.{IsBitSet-below}
 use Rattle.tail_config.proofs.Common.{TailConfig, IsTail}
 use Rattle.tail_preimage.specs.Walks.{HasWalk}
 use Rattle.tail_preimage.specs.Preimages.{Shape}
-use Rattle.tail_preimage.specs.Relations.{Steps, IsFirst}
-use Rattle.tail_preimage.specs.Parts.{AreTailParts, Starts, IsPossible, shape_of}
+use Rattle.tail_preimage.specs.Relations.{Steps}
+use Rattle.tail_preimage.specs.Parts.{AreTailParts, shape_of}
 use Rattle.tail_preimage.specs.FirstWalks.{AreLoopWalks, AreFirstWalks}
 use Rattle.tail_preimage.specs.declared.shapes.PartRelations.{PartRelations}
-use Rattle.tail_preimage.proofs.laws.Walks.{IsWalk-last}
+use Rattle.tail_preimage.proofs.laws.Walks.{IsWalk-first, IsWalk-last}
 use Rattle.tail_preimage.proofs.laws.Stretches.{IsWord-stretch}
 use Rattle.tail_preimage.proofs.laws.Parts.{Steps-repeat, Starts-walks, walks-IsPossible}
 use Rattle.tail_preimage.proofs.laws.LeastPreimages.{IsFrom-first}
 use Rattle.tail_preimage.proofs.laws.Answers.{Starts-least}
 use Rattle.tail_preimage.proofs.room.PreimageRoom.first_placed.Goals as goal
 use Rattle.tail_preimage.proofs.room.PreimageRoom.first_placed.Goals.{After-left, After-least_node-start}
-
--- the start: a least node from which three walks lead
-record IsStart (r : LocalRule) (t : TailConfig) (s : Shape) (u : ℕ) : Type 0 where
-  below : u < node_count r
-  end : ℕ
-  left : List ℕ
-  middle : List ℕ
-  right : List ℕ
-  walks : AreLoopWalks r t s u end left middle right
-  least : (v q : ℕ) (a b c : List ℕ) → AreLoopWalks r t s v q a b c → u ≤ v
-
-start_node : {r : LocalRule} {t : TailConfig} {parts : PartRelations} {s : Shape} {set u : ℕ} → AreTailParts r t parts → IsPossible r parts s → IsNodeSet r (Starts r parts s) set → IsFirst (IsBitSet set) u → IsStart r t s u
-start_node {r} {set = set} {u = u} h possible starts least =
-    let below = IsBitSet-below (node_count r) set u starts.within least.holds in
-    let (w, x, y, z, walks) = Starts-walks h possible.back_some possible.on_some below ((starts.nodes u below).0 least.holds) in
-    record { below = below; end = w; left = x; middle = y; right = z; walks = walks; least = Starts-least h starts least }
 
 -- the nodes with a loop of right periods
 loop_nodes : {r : LocalRule} {t : TailConfig} {parts : PartRelations} {set : ℕ} → AreTailParts r t parts → (on : ℕ) → IsNodeSet r (λ u. Steps (HasBit parts.right.period) on u u) set → IsNodeSet r (λ u. HasWalk r (repeat on t.right) u u) set
@@ -41,24 +25,28 @@ loop_nodes h on = IsSetOf-same (λ u. Steps-repeat h.rule h.right on u u)
 is_tail : (c : After-left) → IsTail c.args.graph.now.states c.args.tail.now.config
 is_tail c = rw c.requires.one_k c.left.ensures.tail.short.tail
 
--- the node at which the middle begins is a start
-start : (c : After-least_node-start) → IsStart c.args.graph.now c.args.tail.now.config (shape_of c.args.spans) c.least_node-start.result
-start c = start_node c.requires.parts c.requires.shape.possible c.starts.ensures c.least_node-start.ensures
+-- three walks of the shape lead from the node at which the middle begins
+start : (c : After-least_node-start) → (w : ℕ) × (x : List ℕ) × (y : List ℕ) × (z : List ℕ) × AreLoopWalks c.args.graph.now c.args.tail.now.config (shape_of c.args.spans) c.least_node-start.result w x y z
+start c =
+    let found = c.least_node-start.ensures.holds in
+    let below = IsBitSet-below (node_count c.args.graph.now) c.starts.result c.least_node-start.result c.starts.ensures.within found in
+    let possible = c.requires.shape.possible in
+    Starts-walks c.requires.parts possible.back_some possible.on_some below ((c.starts.ensures.nodes c.least_node-start.result below).0 found)
 
 pub first_loop-requires-clause-turn : goal.first_loop-requires-clause-turn
-first_loop-requires-clause-turn c = let from = start (goal.at.first_loop-requires-clause-turn c).After-least_node-start in rw c.left.ensures.left (from.left, from.walks.left)
+first_loop-requires-clause-turn c = let (w, x, y, z, walks) = start (goal.at.first_loop-requires-clause-turn c).After-least_node-start in rw c.left.ensures.left (x, walks.left)
 
 pub least_walk-end-requires-clause-start : goal.least_walk-end-requires-clause-start
-least_walk-end-requires-clause-start c = (start (goal.at.least_walk-end-requires-clause-start c).After-least_node-start).below
+least_walk-end-requires-clause-start c = IsWalk-first (start (goal.at.least_walk-end-requires-clause-start c).After-least_node-start).4.left
 
 pub least_walk-end-requires-clause-word : goal.least_walk-end-requires-clause-word
 least_walk-end-requires-clause-word c = rw c.set_stretch.ensures.word (IsWord-stretch (is_tail (goal.at.least_walk-end-requires-clause-word c).After-left) c.args.spans.before c.args.spans.after)
 
 pub least_walk-end-requires-clause-reach : goal.least_walk-end-requires-clause-reach
 least_walk-end-requires-clause-reach c =
-    let from = start (goal.at.least_walk-end-requires-clause-reach c).After-least_node-start in
+    let (w, x, y, z, walks) = start (goal.at.least_walk-end-requires-clause-reach c).After-least_node-start in
     let loops = loop_nodes c.requires.parts c.args.spans.on c.loops-turns.ensures in
-    (from.end, (loops.nodes from.end (IsWalk-last from.walks.middle)).1 (from.right, from.walks.right), rw c.set_stretch.ensures.word (from.middle, from.walks.middle))
+    (w, (loops.nodes w (IsWalk-last walks.middle)).1 (z, walks.right), rw c.set_stretch.ensures.word (y, walks.middle))
 
 pub first_loop-requires-2-clause-word : goal.first_loop-requires-2-clause-word
 first_loop-requires-2-clause-word c = rw c.right.ensures.right (is_tail (goal.at.first_loop-requires-2-clause-word c).After-left).right_word
@@ -85,7 +73,7 @@ returns c =
     let walks : AreFirstWalks r t s c.least_node-start.result c.least_walk-end.result x y z = record {
       back_some = possible.back_some;
       on_some = possible.on_some;
-      start = (start (goal.at.returns c).After-least_node-start).least;
+      start = Starts-least h c.starts.ensures c.least_node-start.ensures;
       left = rw c.left.ensures.left at c.first_loop.ensures.walk;
       turns = c.loops-turns.result;
       turning = loop_nodes h s.on c.loops-turns.ensures;

@@ -3,9 +3,8 @@ use Rattle.word_image.proofs.Common.{node_count, node_letter}
 use Rattle.pair_laws.proofs.Common.{IsBitSet-below, IsBitSet-and}
 use Rattle.tail_preimage.specs.Walks.{Reaches, IsLeastWalkInto}
 use Rattle.tail_preimage.specs.FirstWalks.{AreOpen}
-use Rattle.tail_preimage.proofs.laws.Walks.{IsWalk-none, IsWalk-last}
-use Rattle.tail_preimage.proofs.laws.LeastWalks.{IsLeastBegun-start, IsLeastBegun-end}
-use Rattle.tail_preimage.proofs.OpenSets.{open-after, some_edge_on, IsLeastBegun-node}
+use Rattle.tail_preimage.proofs.laws.LeastWalks.{IsLeastBegun-start, IsLeastBegun-node, IsLeastBegun-end}
+use Rattle.tail_preimage.proofs.OpenSets.{open-after, some_edge_on}
 use Rattle.tail_preimage.proofs.walks.WalkRoom.least_walk.Goals as goal
 use Rattle.tail_preimage.proofs.walks.WalkRoom.least_walk.Goals.{After-write_node}
 
@@ -21,12 +20,12 @@ pub loop-n-init : goal.loop-n-init
 loop-n-init c =
     let reach : Reaches c.args.graph.now c.as_slice-word.result.now c.args.goal c.args.start = rw (word_is (goal.at.loop-n-init c).After-write_node) c.requires.reach in
     record {
-      begun = rw (rw c.rule-rule.ensures at c.write_node.ensures.word) (IsLeastBegun-start (rw c.rule-rule.ensures at c.m-last.ensures.rule) (IsWalk-none c.args.graph.now c.args.start c.requires.start) reach);
+      begun = rw (rw c.rule-rule.ensures at c.write_node.ensures.word) (IsLeastBegun-start c.requires.start reach);
       capacity = c.write_node.ensures.capacity;
     }
 
 pub ends-requires-clause-node : goal.ends-requires-clause-node
-ends-requires-clause-node c = IsWalk-last c.loop-n.invariant.begun.walk
+ends-requires-clause-node c = c.loop-n.invariant.begun.node
 
 pub least_node-node-requires : goal.least_node-node-requires
 least_node-node-requires c =
@@ -50,7 +49,7 @@ loop-n-preserved c =
 pub returns : goal.returns
 returns c = record {
   walk = subst (λ w. IsLeastWalkInto c.args.graph.now w c.args.start c.args.goal c.loop-n.node c.loop-n.walk.items) (word_is (goal.at.returns c).After-write_node)
-      (IsLeastBegun-end (rw c.rule-rule.ensures at c.m-last.ensures.rule) (omega arith) c.loop-n.invariant.begun);
+      (IsLeastBegun-end (omega arith) c.loop-n.invariant.begun);
   word = c.self.view_is;
   capacity = c.loop-n.invariant.capacity;
 }
