@@ -1,21 +1,20 @@
 -- The text that is written for a rule has fewer than 450,000 bytes.
-use Rattle.std.proofs.Common.{ℕ, ◌+◌, ◌-◌, ◌^◌, ◌<◌, ◌≤◌, true, false, ⊎_elim, List, [], ◌∷◌, length, map, slice_index, Option, Some, None, arith, length-append, ℤ, pos, negsuc, ◌≤ℤ◌, codes}
+use Rattle.std.proofs.Common.{ℕ, ◌+◌, ◌-◌, ◌^◌, ◌<◌, ◌≤◌, true, ⊎_elim, List, length, map, slice_index, Option, Some, None, arith, length-append, ℤ, pos, negsuc, ◌≤ℤ◌}
 use Rattle.std.proofs.lemmas.Fmt.{length-decimal-le, length_signed_le}
 use Rattle.word_image.proofs.Common.{pow-le-pow_right, ints, length-map, All-weaker, LocalRule, IsRule, node_count, pair_count, AreWeights, window_count-le, pair_count-le}
-use Rattle.serde_json.specs.Data.{Data, Members, no_members, member, string}
 use Rattle.serde_json.specs.Written.{compact_text, members_text}
 use Rattle.rule_text.specs.PrintedRules.{offset_text, printed_rule}
 use Rattle.tail_laws.proofs.Common.{length-IsLeastTwins}
 use Rattle.cert_values.specs.declared.cert_version.CertVersion.{CertVersion}
 use Rattle.cert_values.specs.declared.cert_version.CertVersion.TheVariants.{One}
-use Rattle.cert_values.proofs.Common.{number_of, SurjectiveEvidence, InjectiveEvidence, SideEvidence, SumEvidence, Certificate, IsSurjectiveShape, IsInjectiveShape, IsSideShape, IsSumShape, IsClaim, IsRankShape, IsNear, IsShaped, Sets, Pairs, Orphan, Window, Twins, Ahead, Split, Flux, Ring, array_from, whole_value, signed_value, word_value, tail_value, claim_value, surjective_value, injective_value, side_value, sum_value, ranks_value, weights_members, certificate_text, weights_members-cases}
+use Rattle.cert_values.proofs.Common.{number_of, SurjectiveEvidence, InjectiveEvidence, SideEvidence, SumEvidence, Certificate, IsSurjectiveShape, IsInjectiveShape, IsSideShape, IsSumShape, IsClaim, IsRankShape, IsNear, IsShaped, Sets, Pairs, Orphan, Window, Twins, Ahead, Split, Flux, Ring, array_from, whole_value, signed_value, claim_value, surjective_value, injective_value, side_value, sum_value, weights_members, certificate_text, weights_members-cases}
 use Rattle.certificate_laws.specs.LeastEvidence.{IsOrphanPart, IsInjectivePart, IsConservingPart}
 use Rattle.certificate_laws.specs.WrittenCertificates.{orphan_of, IsListPart, HasWrittenParts}
 use Rattle.certificate_laws.proofs.PairLists.{length-reached}
 use Rattle.certificate_laws.proofs.FamilySizes.{length-IsCoverList}
 use Rattle.certificate_laws.proofs.ShortOrphans.{length-IsLeastOrphan}
 use Rattle.certificate_laws.proofs.ShortWords.{length-IsLeastLossyRing}
-use Rattle.certificate_laws.proofs.TextLengths.{length-quoted, length-word_value, length-tail_value, length-values, length-pair_text, length-member, length-only}
+use Rattle.certificate_laws.proofs.TextLengths.{length-escape_byte, length-comma_if, length-escape, length-word_text, length-tail_text, length-values}
 
 -- a number of sixteen bits has at most five digits
 length-whole_value : (n : ℕ) → n ≤ 65535 → length (compact_text (whole_value n)) ≤ 5
@@ -53,39 +52,33 @@ length-surjective_value : (version : CertVersion) {r : LocalRule} → IsRule r �
 length-surjective_value version {r} rule (Sets sets) shape surjective (two, covers) =
     let most : 2 ^ node_count r ≤ 2 ^ 16 = pow-le-pow_right (omega arith) rule.shape.most_nodes in
     let small = All-weaker (λ s. s ≤ 2 ^ node_count r - 1) (λ s. length (compact_text (whole_value s)) ≤ 5) (λ s l. length-whole_value s (omega (arith, l, most))) sets shape in
-    omega (arith, length-only (codes "sets") (array_from (map whole_value sets)), length-values whole_value 5 sets small, length-IsCoverList rule covers)
+    simp length-append (omega (arith, length-escape_byte, length-comma_if, length-values whole_value 5 sets small, length-IsCoverList rule covers))
 length-surjective_value version {r} rule (Pairs pairs) shape surjective (three, reached) =
     let most = pair_count-le rule in
     let small = All-weaker (λ p. p < pair_count r) (λ p. length (compact_text (whole_value p)) ≤ 5) (λ p l. length-whole_value p (omega (arith, l, most))) pairs shape.1 in
-    omega (arith, length-only (codes "pairs") (array_from (map whole_value pairs)), length-values whole_value 5 pairs small, length-reached rule reached, most)
-length-surjective_value version rule (Orphan w) shape least list = omega (arith, length-IsLeastOrphan rule least, length-only (codes "orphan") (word_value w), length-word_value w)
+    simp length-append (omega (arith, length-escape_byte, length-comma_if, length-values whole_value 5 pairs small, length-reached rule reached, most))
+length-surjective_value version rule (Orphan w) shape least list = simp length-append (omega (arith, length-escape_byte, length-comma_if, length-IsLeastOrphan rule least, length-word_text w))
 
 -- the text of a window or twins has at most 1,100 bytes
 length-injective_value : {r : LocalRule} → IsRule r → (e : InjectiveEvidence) → IsInjectiveShape r e → IsInjectivePart r e → length (compact_text (injective_value e)) ≤ 1100
 length-injective_value rule (Window n c) shape part =
-    omega (
-      arith,
-      length-member false (codes "c") (whole_value c) (member (codes "n") (whole_value n) no_members),
-      length-member true (codes "n") (whole_value n) no_members,
-      length-whole_value n shape.1,
-      length-whole_value c shape.3,
-    )
+    simp length-append (omega (arith, length-escape_byte, length-comma_if, length-whole_value n shape.1, length-whole_value c shape.3))
 length-injective_value rule (Twins x y) shape part =
     let brief = length-IsLeastTwins rule part.1 in
-    omega (arith, brief.0, brief.1, length-only (codes "twins") (array_from (word_value x ∷ word_value y ∷ [])), length-pair_text (word_value x) (word_value y), length-word_value x, length-word_value y)
+    simp length-append (omega (arith, length-escape_byte, length-comma_if, brief.0, brief.1, length-word_text x, length-word_text y))
 
 -- the text of a look-ahead or a split has at most 6,300 bytes
 length-side_value : (r : LocalRule) (e : SideEvidence) → IsSideShape r e → length (compact_text (side_value e)) ≤ 6300
-length-side_value r (Ahead n) shape = omega (arith, length-only (codes "ahead") (whole_value n), length-whole_value n shape.1)
+length-side_value r (Ahead n) shape = simp length-append (omega (arith, length-escape_byte, length-comma_if, length-whole_value n shape.1))
 length-side_value r (Split x y) shape =
-    omega (arith, length-only (codes "split") (array_from (tail_value x ∷ tail_value y ∷ [])), length-pair_text (tail_value x) (tail_value y), length-tail_value x, length-tail_value y)
+    simp length-append (omega (arith, length-escape_byte, length-comma_if, length-tail_text x, length-tail_text y))
 
 -- the text of a flux or a ring has at most 200 bytes
 length-sum_value : (weight : ℕ → ℕ) {r : LocalRule} → IsRule r → (e : SumEvidence) → IsSumShape r e → IsConservingPart weight r e → length (compact_text (sum_value e)) ≤ 200
 length-sum_value weight rule (Flux phi) shape part =
     let small = All-weaker IsNear (λ z. length (compact_text (signed_value z)) ≤ 8) length-signed_value phi shape.1 in
-    omega (arith, length-only (codes "flux") (array_from (map signed_value phi)), length-values signed_value 8 phi small, shape.0, rule.shape.most_nodes)
-length-sum_value weight rule (Ring p) shape part = omega (arith, length-IsLeastLossyRing rule part.1, rule.shape.most_width, length-only (codes "ring") (word_value p), length-word_value p)
+    simp length-append (omega (arith, length-escape_byte, length-comma_if, length-values signed_value 8 phi small, shape.0, rule.shape.most_nodes))
+length-sum_value weight rule (Ring p) shape part = simp length-append (omega (arith, length-escape_byte, length-comma_if, length-IsLeastLossyRing rule part.1, rule.shape.most_width, length-word_text p))
 
 -- the text of the ranks of one direction has at most 1,538 bytes
 length-row : {r : LocalRule} {row : List (Option ℕ)} → IsRule r → IsRankShape r row → length (compact_text (array_from (map claim_value row))) ≤ 1538
@@ -93,21 +86,13 @@ length-row {r} {row} rule shape =
     let small = All-weaker IsClaim (λ o. length (compact_text (claim_value o)) ≤ 5) length-claim_value row shape.claims in
     omega (arith, length-values claim_value 5 row small, shape.each_pair, pair_count-le rule)
 
--- the text of the ranks of both directions has at most 3,200 bytes
-length-ranks_value : {r : LocalRule} {forward backward : List (Option ℕ)} → IsRule r → IsRankShape r forward → IsRankShape r backward → length (compact_text (ranks_value forward backward)) ≤ 3200
-length-ranks_value {r} {forward} {backward} rule ahead back =
-    let front : Data = array_from (map claim_value forward) in
-    let behind : Data = array_from (map claim_value backward) in
-    omega (arith, length-member false (codes "backward") behind (member (codes "forward") front no_members), length-member true (codes "forward") front no_members, length-row rule ahead, length-row rule back)
-
 -- the weights, where they are written, and the closing brace have at most 200 bytes
 length-weights_members : {r : LocalRule} → IsRule r → (weights : List ℕ) → AreWeights r.states weights → length (members_text true (weights_members r weights)) ≤ 200
 length-weights_members {r} rule weights are =
-    let value : Data = array_from (map whole_value weights) in
     let small = All-weaker (λ w. w ≤ 255) (λ w. length (compact_text (whole_value w)) ≤ 5) (λ w l. length-whole_value w (omega (arith, l))) weights are.small in
     ⊎_elim
     (λ (own, none). rw none (omega arith))
-    (λ (other, named). rw named (omega (arith, length-member true (codes "weights") value no_members, length-values whole_value 5 weights small, are.each_letter)))
+    (λ (other, named). rw named (simp length-append (omega (arith, length-escape_byte, length-comma_if, length-values whole_value 5 weights small, are.each_letter))))
     (weights_members-cases r weights)
 
 -- the number of a version is small
@@ -119,32 +104,20 @@ number_of-le _ = omega arith
 pub short-own : {c : Certificate} → IsShaped c → HasWrittenParts c.version c.rule c.weights c → length (certificate_text c) < 450000
 short-own {c} shaped parts =
     let rule = shaped.rule in
-    let weights : Members = weights_members c.rule c.weights in
-    let version : Members = member (codes "version") (whole_value (number_of c.version)) weights in
-    let surjective : Members = member (codes "surjective") (surjective_value c.surjective) version in
-    let text : Members = member (codes "rule") (string (printed_rule c.rule)) surjective in
-    let right : Members = member (codes "right") (side_value c.right) text in
-    let ranks : Members = member (codes "ranks") (ranks_value c.forward c.backward) right in
-    let left : Members = member (codes "left") (side_value c.left) ranks in
-    let injective : Members = member (codes "injective") (injective_value c.injective) left in
-    omega (
+    let least = parts.least in
+    simp length-append (omega (
       arith,
-      length-member false (codes "conserving") (sum_value c.conserving) injective,
-      length-member true (codes "injective") (injective_value c.injective) left,
-      length-member true (codes "left") (side_value c.left) ranks,
-      length-member true (codes "ranks") (ranks_value c.forward c.backward) right,
-      length-member true (codes "right") (side_value c.right) text,
-      length-member true (codes "rule") (string (printed_rule c.rule)) surjective,
-      length-member true (codes "surjective") (surjective_value c.surjective) version,
-      length-member true (codes "version") (whole_value (number_of c.version)) weights,
       length-weights_members rule c.weights (shaped.weights).each,
-      length-sum_value (slice_index c.weights) rule c.conserving shaped.conserving parts.least.conserving,
-      length-injective_value rule c.injective shaped.injective parts.least.injective,
+      length-sum_value (slice_index c.weights) rule c.conserving shaped.conserving least.conserving,
+      length-injective_value rule c.injective shaped.injective least.injective,
       length-side_value c.rule c.left shaped.left,
-      length-ranks_value rule shaped.forward shaped.backward,
+      length-row rule shaped.forward,
+      length-row rule shaped.backward,
       length-side_value c.rule c.right shaped.right,
-      length-quoted (printed_rule c.rule),
+      length-escape (printed_rule c.rule),
       length-printed_rule rule,
-      length-surjective_value c.version rule c.surjective shaped.surjective parts.least.surjective parts.list,
+      length-surjective_value c.version rule c.surjective shaped.surjective least.surjective parts.list,
       length-whole_value (number_of c.version) (number_of-le c.version),
-    )
+      length-escape_byte,
+      length-comma_if,
+    ))

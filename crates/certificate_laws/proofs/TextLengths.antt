@@ -2,13 +2,13 @@
 use Rattle.std.proofs.Common.{◌≡◌, ◌≢◌, ℕ, ◌+◌, ◌*◌, ◌/◌, ◌%◌, ◌≤◌, Bool, true, false, cond, List, [], ◌∷◌, ◌++◌, length, map, All, refl, ap, ap₂, ◌∙◌, arith, length-append, nat_lt, codes, ne_eqb, le-ltb, ltb-true, ltb-false}
 use Rattle.std.specs.Char.{digit_char}
 use Rattle.word_image.proofs.Common.{cond_both, length-map, All-nil, All-cons, All-head, All-tail, All-map, All-append, lower_digit, word_text}
-use Rattle.json.specs.Print.{escape_letter, escape_byte, escape, quoted}
-use Rattle.serde_json.specs.Data.{Data, string, Members, no_members, member}
+use Rattle.json.specs.Print.{escape_letter, escape_byte, escape}
+use Rattle.serde_json.specs.Data.{Data}
 use Rattle.serde_json.specs.View.{items_of}
-use Rattle.serde_json.specs.Written.{compact_text, items_text, members_text, comma_if}
+use Rattle.serde_json.specs.Written.{compact_text, items_text, comma_if}
 use Rattle.tail_config.proofs.Common.{TailConfig}
 use Rattle.tail_config.specs.TailTexts as tail
-use Rattle.cert_values.proofs.Common.{array_from, word_value, tail_value, only}
+use Rattle.cert_values.proofs.Common.{array_from}
 
 -- one of two texts of at most six bytes has at most six
 length-either : (b : Bool) (s t : List ℕ) → length s ≤ 6 → length t ≤ 6 → length (cond b s t) ≤ 6
@@ -16,20 +16,16 @@ length-either true s t first second = first
 length-either false s t first second = second
 
 -- what stands in a string for a byte has at most six bytes
-length-escape_byte : (x : ℕ) → length (escape_byte x) ≤ 6
+pub length-escape_byte : (x : ℕ) → length (escape_byte x) ≤ 6
 unfolding escape_byte
 length-escape_byte x =
     length-either (nat_lt 0 (escape_letter x)) (92 ∷ escape_letter x ∷ []) _ (omega arith)
     (length-either (nat_lt x 32) (92 ∷ 117 ∷ 48 ∷ 48 ∷ digit_char (x / 16) ∷ digit_char (x % 16) ∷ []) (x ∷ []) (omega arith) (omega arith))
 
 -- the escaped text of a string has at most six bytes for each of its bytes
-length-escape : (s : List ℕ) → length (escape s) ≤ length s * 6
+pub length-escape : (s : List ℕ) → length (escape s) ≤ length s * 6
 length-escape [] = omega arith
 length-escape (x ∷ s) = omega (arith, length-append (escape_byte x) (escape s), length-escape_byte x, length-escape s)
-
--- the escaped text of a string with the quotation marks has two bytes more
-pub length-quoted : (s : List ℕ) → length (quoted s) ≤ length s * 6 + 2
-length-quoted s = omega (arith, length-append (escape s) (34 ∷ []), length-escape s)
 
 -- a byte that is neither a control character, a quotation mark nor a backslash
 abbrev IsPlainByte : ℕ → Type 0
@@ -45,10 +41,6 @@ escape-plain : (s : List ℕ) → All IsPlainByte s → escape s ≡ s
 escape-plain [] all = refl
 escape-plain (x ∷ s) all = ap₂ (λ (a b : List ℕ). a ++ b) (escape_byte-plain x (All-head IsPlainByte x s all)) (escape-plain s (All-tail IsPlainByte x s all))
 
--- the string of a plain text has two bytes more
-length-plain : (s : List ℕ) → All IsPlainByte s → length (compact_text (string s)) ≡ length s + 2
-length-plain s all = ap (λ (t : List ℕ). length (34 ∷ (t ++ 34 ∷ []))) (escape-plain s all) ∙ omega (arith, length-append s (34 ∷ []))
-
 -- the digit of a letter is plain
 IsPlainByte-digit : (a : ℕ) → IsPlainByte (lower_digit a)
 IsPlainByte-digit a =
@@ -60,34 +52,21 @@ IsPlainByte-digit a =
 IsPlain-word : (w : List ℕ) → All IsPlainByte (word_text w)
 IsPlain-word w = All-map IsPlainByte lower_digit w (λ i d l. IsPlainByte-digit _)
 
--- the string of a word has two bytes more than the word has letters
-pub length-word_value : (w : List ℕ) → length (compact_text (word_value w)) ≡ length w + 2
-length-word_value w = length-plain (word_text w) (IsPlain-word w) ∙ ap (λ n. n + 2) (length-map w lower_digit)
+-- the escaped text of a word has as many bytes as the word has letters
+pub length-word_text : (w : List ℕ) → length (escape (word_text w)) ≡ length w
+length-word_text w = ap length (escape-plain (word_text w) (IsPlain-word w)) ∙ length-map w lower_digit
 
--- the string of a configuration has four bytes more than its parts have letters
-pub length-tail_value : (t : TailConfig) → length (compact_text (tail_value t)) ≡ length t.left + length t.middle + length t.right + 4
-length-tail_value t =
-    let a : List ℕ = word_text t.left in
-    let b : List ℕ = word_text t.middle in
-    let c : List ℕ = word_text t.right in
-    let bar : List ℕ = codes "|" in
-    let plain_bar : All IsPlainByte bar = All-cons IsPlainByte 124 [] (omega arith, λ e. omega arith) (All-nil IsPlainByte) in
-    let front : All IsPlainByte (a ++ bar ++ b) = All-append IsPlainByte (a ++ bar) b (All-append IsPlainByte a bar (IsPlain-word t.left) plain_bar) (IsPlain-word t.middle) in
-    let all : All IsPlainByte (tail.printed t) = All-append IsPlainByte (a ++ bar ++ b ++ bar) c (All-append IsPlainByte (a ++ bar ++ b) bar front plain_bar) (IsPlain-word t.right) in
-    omega (
-      arith,
-      length-plain (tail.printed t) all,
-      length-append (a ++ bar ++ b ++ bar) c,
-      length-append (a ++ bar ++ b) bar,
-      length-append (a ++ bar) b,
-      length-append a bar,
-      length-map t.left lower_digit,
-      length-map t.middle lower_digit,
-      length-map t.right lower_digit,
-    )
+-- the escaped text of a configuration has two bytes more than its parts have letters
+pub length-tail_text : (t : TailConfig) → length (escape (tail.printed t)) ≡ length t.left + length t.middle + length t.right + 2
+length-tail_text t =
+    let bar = All-cons IsPlainByte 124 [] (omega arith, λ e. omega arith) (All-nil IsPlainByte) in
+    let left = All-append IsPlainByte (word_text t.left) (codes "|") (IsPlain-word t.left) bar in
+    let middle = All-append IsPlainByte _ (codes "|") (All-append IsPlainByte _ (word_text t.middle) left (IsPlain-word t.middle)) bar in
+    ap length (escape-plain (tail.printed t) (All-append IsPlainByte _ (word_text t.right) middle (IsPlain-word t.right)))
+    ∙ simp (length-append, length-map) (omega arith)
 
 -- a comma, or none, has at most one byte
-length-comma_if : (later : Bool) → length (comma_if later) ≤ 1
+pub length-comma_if : (later : Bool) → length (comma_if later) ≤ 1
 length-comma_if true = omega arith
 length-comma_if false = omega arith
 
@@ -100,19 +79,3 @@ length-items_text n later (d ∷ ds) all =
 -- the text of an array of values of n bytes each takes one byte more for each, and two for the brackets
 pub length-values : {A : Type 0} (f : A → Data) (n : ℕ) (xs : List A) → All (λ x. length (compact_text (f x)) ≤ n) xs → length (compact_text (array_from (map f xs))) ≤ length xs * (n + 1) + 2
 length-values f n xs all = omega (arith, length-items_text n false (map f xs) (All-map (λ d. length (compact_text d) ≤ n) f xs all), ap (λ k. k * (n + 1)) (length-map xs f))
-
--- the text of an array of two values has three bytes more than theirs
-pub length-pair_text : (d e : Data) → length (compact_text (array_from (d ∷ e ∷ []))) ≡ length (compact_text d) + length (compact_text e) + 3
-length-pair_text d e =
-    let rest : List ℕ = compact_text e ++ 93 ∷ [] in
-    omega (arith, length-append (compact_text d) (44 ∷ rest), length-append (compact_text e) (93 ∷ []))
-
--- a member takes its key, its value, and four bytes of punctuation
-pub length-member : (later : Bool) (k : List ℕ) (d : Data) (ms : Members) → length (members_text later (member k d ms)) ≤ length k * 6 + 4 + length (compact_text d) + length (members_text true ms)
-length-member later k d ms =
-    let rest : List ℕ = compact_text d ++ members_text true ms in
-    omega (arith, length-comma_if later, length-append (comma_if later) (quoted k ++ 58 ∷ rest), length-append (quoted k) (58 ∷ rest), length-quoted k, length-append (compact_text d) (members_text true ms))
-
--- the text of an object with one member takes its key, its value, and six bytes of punctuation
-pub length-only : (k : List ℕ) (d : Data) → length (compact_text (only k d)) ≤ length k * 6 + 6 + length (compact_text d)
-length-only k d = omega (arith, length-member false k d no_members)

@@ -1,10 +1,10 @@
 -- The text of a certificate within its limits is a text of it.
-use Rattle.std.proofs.Common.{ℕ, suc, ◌+◌, ◌-◌, ◌^◌, ◌<◌, ◌≤◌, negsuc, pos, List, [], ◌∷◌, map, All, IsUtf8, Option, Some, None, codes, decimal, refl, sym, subst, ⊎_elim, arith, lt-ltb, ℤ, nat_lt}
+use Rattle.std.proofs.Common.{ℕ, suc, ◌+◌, ◌-◌, ◌^◌, ◌<◌, ◌≤◌, negsuc, pos, List, [], ◌∷◌, map, All, IsUtf8, Option, Some, None, codes, decimal, refl, ⊎_elim, arith, lt-ltb, ℤ, nat_lt}
 use Rattle.std.proofs.lemmas.Fmt.{IsAscii-decimal}
 use Rattle.std.proofs.lemmas.Str.{IsUtf8-append, IsUtf8-from_ascii}
 use Rattle.word_image.proofs.Common.{pow-le-pow_right, cond_both, ints, All-head, All-tail, All-weaker, All-nil, All-cons, LocalRule, IsRule, IsWord, node_count, lower_digit, word_text, pair_count-le}
 use Rattle.json.proofs.Printed.Utf8.{IsUtf8-are_ascii}
-use Rattle.serde_json.specs.Data.{object, Members}
+use Rattle.serde_json.specs.Data.{Members}
 use Rattle.tail_config.proofs.Common.{TailConfig, IsShortTail}
 use Rattle.tail_config.specs.TailTexts as tail
 use Rattle.rule_text.specs.PrintedRules.{offset_text, printed_rule}
@@ -33,9 +33,7 @@ IsUtf8-word {k} most (a ∷ w) word =
 IsUtf8-tail : {k : ℕ} → k ≤ 16 → (t : TailConfig) → IsShortTail k t → IsUtf8 (tail.printed t)
 IsUtf8-tail most t short =
     let bar = IsUtf8-are_ascii (codes "|") refl in
-    let left = IsUtf8-append (word_text t.left) (codes "|") (IsUtf8-word most t.left short.tail.left_word) bar in
-    let middle = IsUtf8-append _ (codes "|") (IsUtf8-append _ (word_text t.middle) left (IsUtf8-word most t.middle short.tail.middle_word)) bar in
-    IsUtf8-append _ (word_text t.right) middle (IsUtf8-word most t.right short.tail.right_word)
+    search (IsUtf8-append, bar, IsUtf8-word most t.left short.tail.left_word, IsUtf8-word most t.middle short.tail.middle_word, IsUtf8-word most t.right short.tail.right_word)
 
 -- the text of a decimal number is UTF-8
 IsUtf8-decimal : (n : ℕ) → n < 2 ^ 64 → IsUtf8 (decimal n)
@@ -52,10 +50,10 @@ IsUtf8-rule {r} rule =
     let shape = rule.shape in
     let colon = IsUtf8-are_ascii (codes ":") refl in
     let near : IsNear r.offset = (grind (arith, ints, shape.least_offset), grind (arith, ints, shape.most_offset)) in
-    let states = IsUtf8-append (decimal r.states) (codes ":") (IsUtf8-decimal r.states (omega (arith, shape.most_states))) colon in
-    let width = IsUtf8-append _ (codes ":") (IsUtf8-append _ (decimal r.width) states (IsUtf8-decimal r.width (omega (arith, shape.most_width)))) colon in
-    let offset = IsUtf8-append _ (codes ":") (IsUtf8-append _ (offset_text r.offset) width (IsUtf8-offset r.offset near)) colon in
-    IsUtf8-append _ (word_text r.table) (IsUtf8-append _ (codes "t") offset (IsUtf8-are_ascii (codes "t") refl)) (IsUtf8-word shape.most_states r.table rule.letters)
+    let table = IsUtf8-are_ascii (codes "t") refl in
+    let states = IsUtf8-decimal r.states (omega (arith, shape.most_states)) in
+    let width = IsUtf8-decimal r.width (omega (arith, shape.most_width)) in
+    search (IsUtf8-append, colon, table, states, width, IsUtf8-offset r.offset near, IsUtf8-word shape.most_states r.table rule.letters) depth 12
 
 -- an array of numbers below a limit of 64 bits is read back
 whole_values : (n limit : ℕ) → limit ≤ 2 ^ 64 → (values : List ℕ) → All (λ v. v < limit) values → IsReadBack (suc n) (array_from (map whole_value values))
@@ -137,13 +135,10 @@ members-back {c} shaped rest =
 -- the value of a certificate within its limits is read back
 IsReadBack-certificate : {c : Certificate} → IsShaped c → IsReadBack 3 (certificate_value c)
 IsReadBack-certificate {c} shaped =
+    let weights = IsReadBack-array whole_value (λ w. w ≤ 255) (λ w small. IsReadBack-whole 1 w (omega (arith, small))) c.weights shaped.weights.each.small in
     ⊎_elim
-    (λ (own, none). subst (λ ms. IsReadBack 3 (object (members_before ms c))) (sym none) (IsReadBack-object refl (members-back shaped (HaveReadBack-none 2))))
-    (λ (other, named).
-    subst (λ ms. IsReadBack 3 (object (members_before ms c))) (sym named)
-    (IsReadBack-object refl
-    (members-back shaped
-    (HaveReadBack-member (codes "weights") refl (IsReadBack-array whole_value (λ w. w ≤ 255) (λ w small. IsReadBack-whole 1 w (omega (arith, small))) c.weights shaped.weights.each.small) (HaveReadBack-none 2)))))
+    (λ (own, none). rw none (IsReadBack-object refl (members-back shaped (HaveReadBack-none 2))))
+    (λ (other, named). rw named (IsReadBack-object refl (members-back shaped (HaveReadBack-member (codes "weights") refl weights (HaveReadBack-none 2)))))
     (weights_members-cases c.rule c.weights)
 
 -- a certificate within its limits is read from its own text

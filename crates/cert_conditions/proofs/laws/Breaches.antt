@@ -1,6 +1,6 @@
 -- A breach of a condition says that the condition isn't met, and a certificate has at most one first breach.
-use Rattle.std.proofs.Common.{◌≡◌, ◌≢◌, sym, subst, List, length, take, drop, get_or, slice_index, ℕ, suc, ◌+◌, ◌<◌, ◌^◌, ◌≤◌, Contains, arith, All}
-use Rattle.word_image.proofs.Common.{slice_get-get_or, take_more, All-push, LocalRule, word_of, ring_image, full_set, first_of, second_of, pair_count, IsFirstOf, slice_get-cut}
+use Rattle.std.proofs.Common.{◌≡◌, ◌≢◌, sym, subst, List, length, take, drop, get_or, ℕ, suc, ◌+◌, ◌<◌, ◌≤◌, arith, All}
+use Rattle.word_image.proofs.Common.{slice_get-get_or, take_more, All-push, LocalRule, ring_image, slice_get-cut}
 use Rattle.word_image.specs.declared.side.Side.TheVariants as side
 use Rattle.tail_config.proofs.Common.{TailConfig, Different, ShareImage}
 use Rattle.cert_values.proofs.Common.{Certificate}
@@ -10,12 +10,7 @@ use Rattle.cert_conditions.specs.declared.refusal.TwinCause.{TwinCause}
 use Rattle.cert_conditions.specs.declared.refusal.SplitCause.{SplitCause}
 use Rattle.cert_conditions.specs.declared.refusal.Refusal.{Refusal}
 use Rattle.cert_conditions.specs.Breaches.{EachBelow, IsFirstBreach}
-use Rattle.cert_conditions.specs.Sets.{StepIsKept, LeadsTo}
-use Rattle.cert_conditions.specs.Pairs.{FirstIsListed, StepsAreListed}
-use Rattle.cert_conditions.specs.Claims.{IsWindowPair, IsAheadPair}
-use Rattle.cert_conditions.specs.Sides.{AgreeBehind, claims_on}
-use Rattle.cert_conditions.specs.Sums.{Flows, IsLossy}
-use Rattle.cert_conditions.specs.Conditions.{conditions, Holds, MeetsConditions, OfSets, OfPairs, OfOrphan, OfWindow, OfTwins, OfAhead, OfSplit, OfFlux, OfRing}
+use Rattle.cert_conditions.specs.Conditions.{conditions, Holds, MeetsConditions}
 use Rattle.cert_conditions.specs.Refusals.{IsBreach, IsTwinsBreach, IsSplitBreach, IsFirstUnmet}
 use Rattle.cert_conditions.specs.Refusals.IsBreach.{Rising, NoFull, Empty, NotClosed, NoFirst, Diagonal, Leaves, NoOrphan, NoWindow, NoTwins, NoAhead, NoSplit, NoFlux, NoRing}
 use Rattle.cert_conditions.specs.Refusals.IsTwinsBreach.{Length, Same as SameWords, Image as OtherRings}
@@ -38,26 +33,19 @@ split_fails (OtherImages _ _ none) h = none h.2
 -- a condition with a breach isn't met
 pub breach_fails : {c : Certificate} {one : Condition} {f : Refusal} → IsBreach c one f → ¬ Holds c one
 breach_fails (Rising side p first) h = first_fails first h
-breach_fails {c} (NoFull sets same other) h = other (subst (λ e. OfSets e (λ sets. Contains sets (full_set c.rule))) same h)
-breach_fails {c} (Empty sets i same first) h = first_fails first (subst (λ e. OfSets e (λ sets. EachBelow (length sets) (λ i. slice_index sets i ≢ 0))) same h)
-breach_fails {c} (NotClosed sets i a same first_set first_letter) h =
-    first_fails first_set (subst (λ e. OfSets e (λ sets. EachBelow (length sets) (λ i. EachBelow c.rule.states (StepIsKept c.version c.rule sets (slice_index sets i))))) same h)
-breach_fails {c} (NoFirst pairs p same first) h = first_fails first (subst (λ e. OfPairs e (λ pairs. EachBelow (pair_count c.rule) (FirstIsListed c.rule pairs))) same h)
-breach_fails {c} (Diagonal pairs i same first) h =
-    first_fails first (subst (λ e. OfPairs e (λ pairs. EachBelow (length pairs) (λ i. first_of c.rule (slice_index pairs i) ≢ second_of c.rule (slice_index pairs i)))) same h)
-breach_fails {c} (Leaves pairs i a b same first letters) h =
-    first_fails first (subst (λ e. OfPairs e (λ pairs. EachBelow (length pairs) (λ i. StepsAreListed c.rule pairs (slice_index pairs i)))) same h)
-breach_fails {c} (NoOrphan w same other) h = other (subst (λ e. OfOrphan e (λ w. LeadsTo c.rule (full_set c.rule) w 0)) same h)
-breach_fails {c} (NoWindow n at p same first) h =
-    first_fails first (subst (λ e. OfWindow e (λ n at. EachBelow (pair_count c.rule) (IsWindowPair c.rule c.forward c.backward n at))) same h)
-breach_fails {c} (NoTwins x y cause same fails) h =
-    twins_fail fails (subst (λ e. OfTwins e (λ x y. ((length x ≡ length y) × (1 ≤ length x)) × (x ≢ y) × (ring_image c.rule x ≡ ring_image c.rule y))) same h)
-breach_fails {c} (NoAhead side n p same first) h =
-    first_fails first (subst (λ e. OfAhead e (λ n. EachBelow (pair_count c.rule) (IsAheadPair (IsFirstOf side c.rule) (claims_on c side) n))) same h)
-breach_fails {c} (NoSplit side x y cause same fails) h = split_fails fails (subst (λ e. OfSplit e (λ x y. Different x y × AgreeBehind side x y × ShareImage c.rule x y)) same h)
-breach_fails {c} (NoFlux phi v same first) h =
-    first_fails first (subst (λ e. OfFlux e (λ phi. EachBelow (c.rule.states ^ c.rule.width) (λ v. Flows (slice_index c.weights) c.rule phi (word_of c.rule.states c.rule.width v)))) same h)
-breach_fails {c} (NoRing p same other) h = other (subst (λ e. OfRing e (IsLossy (slice_index c.weights) c.rule)) same h)
+breach_fails (NoFull sets same other) h = other (rw same at h)
+breach_fails (Empty sets i same first) h = first_fails first (rw same at h)
+breach_fails (NotClosed sets i a same first letter) h = first_fails first (rw same at h)
+breach_fails (NoFirst pairs p same first) h = first_fails first (rw same at h)
+breach_fails (Diagonal pairs i same first) h = first_fails first (rw same at h)
+breach_fails (Leaves pairs i a b same first letters) h = first_fails first (rw same at h)
+breach_fails (NoOrphan w same other) h = other (rw same at h)
+breach_fails (NoWindow n at p same first) h = first_fails first (rw same at h)
+breach_fails (NoTwins x y cause same fails) h = twins_fail fails (rw same at h)
+breach_fails (NoAhead side n p same first) h = first_fails first (rw same at h)
+breach_fails (NoSplit side x y cause same fails) h = split_fails fails (rw same at h)
+breach_fails (NoFlux phi v same first) h = first_fails first (rw same at h)
+breach_fails (NoRing p same other) h = other (rw same at h)
 
 -- what has a breach doesn't meet the conditions
 pub unmet_fails : {c : Certificate} {f : Refusal} → IsFirstUnmet c f → ¬ MeetsConditions c

@@ -1,8 +1,7 @@
-use Rattle.std.proofs.Common.{◌≡◌, sym, ap, subst, ◌∙◌}
+use Rattle.std.proofs.Common.{◌≡◌, sym, ap, ◌∙◌}
 use Rattle.word_image.proofs.Common.{false≢true, first_of, second_of}
-use Rattle.word_image.specs.declared.side.Side.{Side}
 use Rattle.cert_check.specs.SideWindows.{rest_of}
-use Rattle.cert_check.proofs.laws.FirstPairs.{HaveOneLabel, DifferAtEnd, IsFirstOf-differ, DifferAtEnd-first}
+use Rattle.cert_check.proofs.laws.FirstPairs.{DifferAtEnd, IsFirstOf-differ, DifferAtEnd-first}
 use Rattle.cert_check.proofs.aheads.is_first.Goals as goal
 use Rattle.cert_check.proofs.aheads.is_first.Goals.{then-u-v-via-then-u-v, then-u-v-via-else-u-v+then-rest_of}
 
@@ -29,6 +28,6 @@ returns c =
     let rest : rest_of c.args.side r (first_of r p) ≡ rest_of c.args.side r (second_of r p) =
     ap (rest_of c.args.side r) (sym nodes.first) ∙ sym c.rest_of.ensures ∙ c.if-rest_of.false ∙ c.rest_of-else-u-v.ensures ∙ ap (rest_of c.args.side r) nodes.second in (
       λ yes. IsFirstOf-differ c.args.side p nodes.rule c.requires
-          (λ e. c.if-u-v.false (nodes.first ∙ e ∙ sym nodes.second), rest, subst (λ (s : Side). HaveOneLabel s r (first_of r p) (second_of r p)) c.other.ensures (c.share_a_label.ensures.0 yes)),
-      λ f. c.share_a_label.ensures.1 (subst (λ (s : Side). HaveOneLabel s r (first_of r p) (second_of r p)) (sym c.other.ensures) (DifferAtEnd-first c.args.side p nodes.rule f).2),
+          (λ e. c.if-u-v.false (nodes.first ∙ e ∙ sym nodes.second), rest, rw c.other.ensures at (c.share_a_label.ensures.0 yes)),
+      λ f. c.share_a_label.ensures.1 (rw c.other.ensures (DifferAtEnd-first c.args.side p nodes.rule f).2),
     )

@@ -1,8 +1,8 @@
-use Rattle.std.proofs.Common.{◌≡◌, Ok, Err, inl, inr, sym, ap, ◌∙◌, subst, ⊎_elim}
+use Rattle.std.proofs.Common.{◌≡◌, Ok, Err, inl, inr, sym, ap, ◌∙◌, ⊎_elim}
 use Rattle.word_image.proofs.Common.{err_from_is_err_and, handed_on}
 use Rattle.cert_format.specs.declared.cert_fault.CertFault.TheVariants as cert_fault
 use Rattle.cert_conditions.specs.declared.refusal.Refusal.TheVariants as refusal
-use Rattle.cert_conditions.proofs.Common.{IsRefusal, AreTrue-accepted}
+use Rattle.cert_conditions.proofs.Common.{AreTrue-accepted}
 use Rattle.cert_conditions.specs.Refusals.IsRefusal.{NoShape, Unmet}
 use Rattle.cert_conditions.proofs.laws.Breaches.{unmet_fails}
 use Rattle.cert_conditions.proofs.laws.OneBreach.{one_unmet}
@@ -39,9 +39,7 @@ pub returns-in-Err-Format-clause-refused : goal.returns-in-Err-Format-clause-ref
 returns-in-Err-Format-clause-refused c =
     ⊎_elim
     (λ memory. absurd (cc))
-    (λ (s, same, fault).
-    let named : s ≡ c.in-Err-Format.fault = cc in
-    inr (subst (λ t. IsRefusal c.args.bytes.now (refusal.Format t)) named (NoShape s fault)))
+    (λ (s, same, fault). let named : s ≡ c.in-Err-Format.fault = cc in inr (rw (← named) (NoShape s fault)))
     c.in-Err-Format.ensures.fault
 
 pub returns-in-Err-Format-clause-every_accepted : goal.returns-in-Err-Format-clause-every_accepted

@@ -1,13 +1,12 @@
-use Rattle.std.proofs.Common.{ℕ, List, Contains, true≢false, eq-eqb, sym, ap, ◌∙◌, subst, subst₂, arith}
-use Rattle.cert_values.proofs.Common.{Certificate, surjective_of}
+use Rattle.std.proofs.Common.{Contains, true≢false, eq-eqb, sym, ap, ◌∙◌, arith}
+use Rattle.cert_values.proofs.Common.{surjective_of}
 use Rattle.cert_conditions.specs.declared.condition.Condition.TheVariants as condition
 use Rattle.cert_conditions.specs.declared.refusal.Refusal.TheVariants as refusal
-use Rattle.cert_conditions.proofs.Common.{IsBreach, NoFull}
+use Rattle.cert_conditions.proofs.Common.{NoFull}
 use Rattle.cert_check.proofs.sets.full_listed.Goals as goal
 
 pub returns-else-contains : goal.returns-else-contains
 returns-else-contains c =
     let none : ¬ Contains c.as_slice.result.now c.all_nodes.result = λ (i, inside, same).
     true≢false (sym (eq-eqb _ _ same) ∙ c.if-contains.ensures.cases i c.all_nodes.result (omega arith) inside) in
-    subst (λ (x : Certificate). IsBreach x condition.FullListed refusal.NoFull) c.cert.view_is
-    (NoFull c.in-Sets.sets (ap surjective_of c.in-Sets.is) (subst₂ (λ (l : List ℕ) (s : ℕ). ¬ Contains l s) c.as_slice.ensures c.all_nodes.ensures.set none))
+    rw (← c.cert.view_is) (NoFull c.in-Sets.sets (ap surjective_of c.in-Sets.is) (rw (c.as_slice.ensures, c.all_nodes.ensures.set) at none))

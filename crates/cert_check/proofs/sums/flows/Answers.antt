@@ -11,19 +11,12 @@ one_number p q f g = (
   λ e. (Decides-eqb (of_z w64 p) (of_z w64 q)).1 (ap (of_z w64) e),
 )
 
--- numbers of 32 bits, and so their differences, are numbers of 64
-wide : (g : ℤ) → FitsSigned w32 g → FitsSigned w64 g
-wide g f = search rules
-
-wide_difference : (g h : ℤ) → FitsSigned w32 g → FitsSigned w32 h → FitsSigned w64 (g -ℤ h)
-wide_difference g h f e = search rules
-
--- the test of two differences
+-- the test of two differences of numbers of 32 bits
 one_difference : (g h x y : ℤ) → FitsSigned w32 g → FitsSigned w32 h → FitsSigned w32 x → FitsSigned w32 y
     → IsTrue (nat_eq (of_z w64 (to_z w64 (of_z w64 g) -ℤ to_z w64 (of_z w64 h))) (of_z w64 (to_z w64 (of_z w64 x) -ℤ to_z w64 (of_z w64 y)))) ↔ ((g -ℤ h) ≡ (x -ℤ y))
 one_difference g h x y fit_g fit_h fit_x fit_y =
-    rw (to_z-of_z w64 g (wide g fit_g), to_z-of_z w64 h (wide h fit_h), to_z-of_z w64 x (wide x fit_x), to_z-of_z w64 y (wide y fit_y))
-    (one_number (g -ℤ h) (x -ℤ y) (wide_difference g h fit_g fit_h) (wide_difference x y fit_x fit_y))
+    rw (to_z-of_z w64 g (search rules), to_z-of_z w64 h (search rules), to_z-of_z w64 x (search rules), to_z-of_z w64 y (search rules))
+    (one_number (g -ℤ h) (x -ℤ y) (search rules) (search rules))
 
 pub returns : goal.returns
 returns c =
@@ -33,17 +26,11 @@ returns c =
     let weight = slice_index c.args.weights.now in
     let new : c.from.result ≡ pos (weight (slice_index r.table v)) = c.from.ensures ∙ ap pos (c.at-2.ensures ∙ ap weight c.at.ensures.entry) in
     let old : c.from-2.result ≡ pos (weight (v / node_count r)) = c.from-2.ensures ∙ ap pos (c.at-3.ensures ∙ ap weight c.end_letter.ensures.value) in
-    let fit_first : FitsSigned w32 (number c.from-3.result) = search rules in
-    let fit_last : FitsSigned w32 (number c.from-4.result) = search rules in
     let first : c.from-first.result ≡ number (v / r.states) =
-    c.from-first.ensures ∙ to_z-of_z w32 (number c.from-3.result) fit_first ∙ ap number (c.from-3.ensures ∙ c.end_node.ensures.value) in
+    c.from-first.ensures ∙ to_z-of_z w32 (number c.from-3.result) (search rules) ∙ ap number (c.from-3.ensures ∙ c.end_node.ensures.value) in
     let last : c.from-last.result ≡ number (v % node_count r) =
-    c.from-last.ensures ∙ to_z-of_z w32 (number c.from-4.result) fit_last ∙ ap number (c.from-4.ensures ∙ c.end_node-2.ensures.value) in
-    let fit_new : FitsSigned w32 c.from.result = search rules in
-    let fit_old : FitsSigned w32 c.from-2.result = search rules in
-    let fit_f : FitsSigned w32 c.from-first.result = search rules in
-    let fit_l : FitsSigned w32 c.from-last.result = search rules in
-    let test = one_difference c.from.result c.from-2.result c.from-first.result c.from-last.result fit_new fit_old fit_f fit_l in
+    c.from-last.ensures ∙ to_z-of_z w32 (number c.from-4.result) (search rules) ∙ ap number (c.from-4.ensures ∙ c.end_node-2.ensures.value) in
+    let test = one_difference c.from.result c.from-2.result c.from-first.result c.from-last.result (search rules) (search rules) (search rules) (search rules) in
     let gain = ap₂ (λ (i j : ℤ). i -ℤ j) new old in
     let flow = ap₂ (λ (i j : ℤ). i -ℤ j) first last in
     let value = Flows-value c.end_node.ensures.rule weight c.args.flux.now v c.requires.window in
