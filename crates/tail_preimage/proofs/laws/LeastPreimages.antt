@@ -1,7 +1,8 @@
 -- Of the first shape the first loop walks are the least preimage: the least node with a loop, and first walks for each of the three parts. There is one least preimage.
 use Rattle.std.proofs.Common.{◌≡◌, ◌≢◌, ℕ, ◌+◌, ◌-◌, ◌<◌, ◌≤◌, List, ◌++◌, length, take, drop, ℤ, refl, sym, ap, ap₂, ◌∙◌, subst, arith, length-append, length-drop, append_assoc, ⊎_elim, nat_cmp, Ordering, Less, Equal, Greater, take-append-drop, length-take-le, take_at, drop_at}
 use Rattle.std.proofs.lemmas.Cmp.{nat_cmp_total, nat_list_cmp_total, on_total, then_total}
-use Rattle.word_image.proofs.Common.{repeat, ordering_then, IsTotalOrder, nat_cmp_is, slice_cmp, cases_lt, drop-append-le, All-take, LocalRule, IsRule, value, IsBitSet-pow, slice_cmp-value, then_equal, then_not_greater, nat_cmp-equal, slice_cmp-same}
+use Rattle.std.proofs.lemmas.Map.Lookups.{exact_bytes}
+use Rattle.word_image.proofs.Common.{repeat, ordering_then, IsTotalOrder, nat_cmp_is, slice_cmp, cases_lt, drop-append-le, All-take, LocalRule, IsRule, value, IsBitSet-pow, slice_cmp-value, then_equal, then_not_greater, nat_cmp-equal, slice_cmp-append, slice_cmp-same, tied}
 use Rattle.tail_config.proofs.Common.{TailConfig, IsTail, config_of}
 use Rattle.tail_preimage.specs.Walks.{IsWalk, before_last}
 use Rattle.tail_preimage.specs.Preimages.{PlacedConfig, Shape, HasShape, IsShapedPreimage, IsLeastPreimage, shape_cmp, letters, stretch, IsSmall, IsFrom}
@@ -9,7 +10,11 @@ use Rattle.tail_preimage.specs.FirstWalks.{AreLoopWalks, AreFirstWalks, placed_o
 use Rattle.tail_preimage.proofs.laws.Walks.{same_first, IsWalk-last}
 use Rattle.tail_preimage.proofs.laws.Placements.{IsShapedPreimage-placed_of, join-before_last, length-before_last, IsWalk-then}
 use Rattle.tail_preimage.proofs.laws.PlacedWalks.{HasLoopWalks-shape}
-use Rattle.tail_preimage.proofs.laws.Orders.{slice_cmp-append, slice_cmp-equal, first_not_greater, tied}
+
+-- the first isn't greater if both together aren't
+first_not_greater : (a b : Ordering) → ordering_then a b ≢ Greater → a ≢ Greater
+first_not_greater Greater b h e = h refl
+first_not_greater _ b h e = cc
 
 -- two walks of one length are compared by their first nodes, and then by the letters behind them
 cmp-first : (r : LocalRule) (x y : List ℕ) → r.width - 1 ≤ length x → length x ≡ length y
@@ -17,7 +22,7 @@ cmp-first : (r : LocalRule) (x y : List ℕ) → r.width - 1 ≤ length x → le
 cmp-first r x y l e =
     let d : ℕ = r.width - 1 in
     ap₂ (slice_cmp nat_cmp) (sym (take-append-drop d x)) (sym (take-append-drop d y))
-    ∙ slice_cmp-append (take d x) (drop d x) (take d y) (drop d y) (length-take-le d x l ∙ sym (length-take-le d y (omega arith)))
+    ∙ slice_cmp-append nat_cmp (take d x) (drop d x) (take d y) (drop d y) (length-take-le d x l ∙ sym (length-take-le d y (omega arith)))
 
 -- of walks from one node the first has no greater letters behind it
 behind-not_greater : {r : LocalRule} {w z x y : List ℕ} {u v s : ℕ} → IsWalk r w u v x → IsWalk r z u s y → length w ≡ length z → slice_cmp nat_cmp x y ≢ Greater
@@ -31,7 +36,7 @@ behind-not_greater {r} {x = x} {y = y} h g e least greater =
 same-behind : {r : LocalRule} {w z x y : List ℕ} {u v s : ℕ} → IsWalk r w u v x → IsWalk r z u s y → slice_cmp nat_cmp (drop (r.width - 1) x) (drop (r.width - 1) y) ≡ Equal → x ≡ y
 same-behind {r} {x = x} {y = y} h g e =
     let d : ℕ = r.width - 1 in
-    sym (take-append-drop d x) ∙ ap₂ (λ (a b : List ℕ). a ++ b) (same_first h g) (slice_cmp-equal (drop d x) (drop d y) e) ∙ take-append-drop d y
+    sym (take-append-drop d x) ∙ ap₂ (λ (a b : List ℕ). a ++ b) (same_first h g) (exact_bytes (drop d x) (drop d y) e) ∙ take-append-drop d y
 
 -- a walk from a lesser node is less
 lesser-node : {r : LocalRule} {w z x y : List ℕ} {u v s t : ℕ} → IsWalk r w u v x → IsWalk r z s t y → length w ≡ length z → u < s → slice_cmp nat_cmp x y ≡ Less
@@ -67,9 +72,9 @@ whole-not_greater : {r : LocalRule} {t : TailConfig} {s : Shape} {v w v' w' : �
 whole-not_greater {r} {t} {s} {v} {w} {v'} {w'} {x} {y} {z} {x'} {y'} {z'} rule h g =
     let d : ℕ = r.width - 1 in
     let long : (a b : List ℕ) → length a ≡ length (repeat s.back t.left) + d → length b ≡ length (repeat s.back t.left) + d → length a ≡ length b = λ a b i j. omega arith in
-    let parts = slice_cmp-append x (drop d y ++ drop d z) x' (drop d y' ++ drop d z') (long x x' h.left.walk.preimage.long g.left.preimage.long) in
+    let parts = slice_cmp-append nat_cmp x (drop d y ++ drop d z) x' (drop d y' ++ drop d z') (long x x' h.left.walk.preimage.long g.left.preimage.long) in
     let behind : slice_cmp nat_cmp (drop d y ++ drop d z) (drop d y' ++ drop d z') ≡ ordering_then (slice_cmp nat_cmp (drop d y) (drop d y')) (slice_cmp nat_cmp (drop d z) (drop d z')) =
-    slice_cmp-append (drop d y) (drop d z) (drop d y') (drop d z') (omega (arith, length-drop d y, length-drop d y')) in
+    slice_cmp-append nat_cmp (drop d y) (drop d z) (drop d y') (drop d z') (omega (arith, length-drop d y, length-drop d y')) in
     let most : v ≤ v' = h.start v' w' x' y' z' g in
     let first : slice_cmp nat_cmp x x' ≢ Greater =
     ⊎_elim
@@ -78,7 +83,7 @@ whole-not_greater {r} {t} {s} {v} {w} {v'} {w'} {x} {y} {z} {x'} {y'} {z'} rule 
     h.left.least v x' ((IsBitSet-pow v v).1 refl) (subst (λ n. IsWalk r (repeat s.back t.left) n n x') same g.left))
     (cases_lt v v') in
     let rest : slice_cmp nat_cmp x x' ≡ Equal → slice_cmp nat_cmp (drop d y ++ drop d z) (drop d y' ++ drop d z') ≢ Greater = λ e.
-    let same_x : x ≡ x' = slice_cmp-equal x x' e in
+    let same_x : x ≡ x' = exact_bytes x x' e in
     let same : v' ≡ v = sym g.left.first ∙ ap (λ a. value r.states (take d a)) (sym same_x) ∙ h.left.walk.first in
     let middle : IsWalk r (stretch t s.before s.after) v w' y' = subst (λ n. IsWalk r (stretch t s.before s.after) n w' y') same g.middle in
     let turn_bit = (h.turning.nodes w' (IsWalk-last g.middle)).1 (z', g.right) in
@@ -135,7 +140,7 @@ first-letters {r} {t} {s} {x = x} {y = y} {z = z} {q = q} rule ht h other =
     let i : List ℕ = drop (length z - d) z in
     let j : List ℕ = drop (length g.z - d) g.z in
     let all : slice_cmp nat_cmp (whole r x y z) (whole r g.x g.y g.z) ≡ ordering_then (slice_cmp nat_cmp a b) (slice_cmp nat_cmp i j) =
-    ap₂ (slice_cmp nat_cmp) (whole-letters rule mine) (whole-letters rule g.walks) ∙ slice_cmp-append a i b j (length-letters mine g.walks) in
+    ap₂ (slice_cmp nat_cmp) (whole-letters rule mine) (whole-letters rule g.walks) ∙ slice_cmp-append nat_cmp a i b j (length-letters mine g.walks) in
     let same : b ≡ letters q = ap₂ (λ (m n : List ℕ). m ++ n ++ before_last r g.z) g.left g.middle ∙ ap (λ n. q.config.left ++ q.config.middle ++ n) g.right in
     subst (λ m. slice_cmp nat_cmp a m ≢ Greater) same (first_not_greater (slice_cmp nat_cmp a b) (slice_cmp nat_cmp i j) (λ e. whole-not_greater rule h g.walks (all ∙ e)))
 
@@ -181,4 +186,4 @@ IsLeastPreimage-unique {r} {t} {p} {q} h g =
     then_total (on_total (λ (a : Shape × PlacedConfig). a.0) keys) (on_total (λ (a : Shape × PlacedConfig). letters a.1) nat_list_cmp_total) in
     let (shapes, words) = then_equal (shape_cmp h.shape g.shape) (slice_cmp nat_cmp (letters p) (letters q))
     (tied order (h.shape, p) (g.shape, q) (h.least g.shape q g.preimage) (g.least h.shape p h.preimage)) in
-    same_placed h.preimage.shape (subst (λ s. HasShape r t s q) (sym (shape_cmp-equal h.shape g.shape shapes)) g.preimage.shape) (slice_cmp-equal (letters p) (letters q) words)
+    same_placed h.preimage.shape (subst (λ s. HasShape r t s q) (sym (shape_cmp-equal h.shape g.shape shapes)) g.preimage.shape) (exact_bytes (letters p) (letters q) words)

@@ -1,10 +1,10 @@
 -- The first walk of a word from a node into a set of nodes is found edge by edge: at each place the least letter from whose edge the set can still be reached.
 use Rattle.std.proofs.Common.{◌≡◌, ◌≢◌, ◌↔◌, ℕ, ◌+◌, ◌-◌, ◌<◌, ◌≤◌, List, [], ◌∷◌, ◌++◌, length, take, drop, get_or, IsBitSet, sym, ap, ◌∙◌, subst, arith, length-drop, ⊎_elim, nat_cmp, Equal, Greater, take-append-drop, take_all, take-take, take_at, length-take-le}
-use Rattle.word_image.proofs.Common.{slice_cmp, cases_lt, take_more, nil_from_length, LocalRule, IsRule, value, node_count, next, label, IsEdge, then_not_greater, slice_cmp-same}
+use Rattle.word_image.proofs.Common.{slice_cmp, cases_lt, take_more, nil_from_length, LocalRule, IsRule, value, node_count, next, label, IsEdge, key_not_greater, then_not_greater, slice_cmp-append, slice_cmp-same}
+use Rattle.std.proofs.lemmas.Map.Lookups.{exact_bytes}
 use Rattle.word_image.specs.declared.side.Side.TheVariants.{Right}
 use Rattle.tail_preimage.specs.Walks.{IsWalk, Reaches, IsLeastWalkInto}
 use Rattle.tail_preimage.proofs.laws.Walks.{HasLastEdge, IsWalk-none, IsWalk-stays, IsWalk-cut, IsWalk-push, IsWalk-snoc, HasWalk-cons, IsWalk-last, same_first}
-use Rattle.tail_preimage.proofs.laws.Orders.{slice_cmp-append, slice_cmp-equal, key_not_greater}
 
 -- at the end of the word the set is reached from its nodes
 pub Reaches-none : {r : LocalRule} → (goal u : ℕ) → u < node_count r → Reaches r [] goal u ↔ IsBitSet goal u
@@ -82,12 +82,12 @@ push-not_greater : {r : LocalRule} {w : List ℕ} {u goal n v : ℕ} {x y : List
 push-not_greater {r} {w} {u} {goal} {n} {v} {x} {y} walk b none least o e =
     let c : ℕ = o.letter in
     let first : slice_cmp nat_cmp x o.before ≢ Greater = subst (λ z. slice_cmp nat_cmp x z ≢ Greater) o.begins least in
-    let letters = slice_cmp-append x (b ∷ []) o.before (c ∷ []) (omega arith) in
+    let letters = slice_cmp-append nat_cmp x (b ∷ []) o.before (c ∷ []) (omega arith) in
     let greater : slice_cmp nat_cmp (x ++ b ∷ []) (o.before ++ c ∷ []) ≡ Greater = subst (λ z. slice_cmp nat_cmp (x ++ b ∷ []) z ≡ Greater) o.splits e in
     let last : slice_cmp nat_cmp x o.before ≡ Equal → slice_cmp nat_cmp (b ∷ []) (c ∷ []) ≢ Greater = λ same.
-    let node : v ≡ o.node = sym walk.last ∙ ap (λ z. value r.states (drop (length (take n w)) z)) (slice_cmp-equal x o.before same) ∙ o.walk.last in
+    let node : v ≡ o.node = sym walk.last ∙ ap (λ z. value r.states (drop (length (take n w)) z)) (exact_bytes x o.before same) ∙ o.walk.last in
     let at_most : b ≤ c = ⊎_elim (λ l. absurd (none c l (ap (λ i. label r i c) node ∙ o.spells) (subst (λ i. Reaches r (drop (n + 1) w) goal (next r i c)) (sym node) o.on))) (λ l. l) (cases_lt c b) in
-    key_not_greater b c Equal at_most (λ _ e. cc) in
+    (key_not_greater b c Equal).1 (at_most, λ _ e. cc) in
     then_not_greater (slice_cmp nat_cmp x o.before) (slice_cmp nat_cmp (b ∷ []) (c ∷ [])) first last (sym letters ∙ greater)
 
 -- the first walk goes on by the least letter that spells the next one and leads to where the goal is reached

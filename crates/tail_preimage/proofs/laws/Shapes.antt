@@ -1,13 +1,12 @@
 -- The first possible shape is found key by key, and the first gap side by side.
 use Rattle.std.proofs.Common.{◌≡◌, ◌↔◌, ℕ, ◌+◌, ◌-◌, ◌<◌, ◌≤◌, IsBitSet, refl, sym, subst, arith, ⊎_elim, nat_cmp}
-use Rattle.word_image.proofs.Common.{ordering_then, cases_lt, LocalRule, node_count, IsNodeSet, HasBit, nat_cmp-le}
+use Rattle.word_image.proofs.Common.{ordering_then, cases_lt, LocalRule, node_count, IsNodeSet, HasBit, key_not_greater, nat_cmp-le}
 use Rattle.pair_laws.proofs.Common.{IsBitSet-below}
 use Rattle.tail_config.proofs.Common.{TailConfig}
 use Rattle.tail_preimage.specs.Preimages.{Shape}
 use Rattle.tail_preimage.specs.Relations.{Open, Rounds, SomeRounds, Meets, IsFirst}
 use Rattle.tail_preimage.specs.Parts.{AreTailParts, Through, PassesThrough, IsPossible, IsFirstShape}
 use Rattle.tail_preimage.specs.declared.shapes.PartRelations.{PartRelations}
-use Rattle.tail_preimage.proofs.laws.Orders.{key_not_greater}
 use Rattle.tail_preimage.proofs.laws.Steps.{Open-rounds}
 use Rattle.tail_preimage.proofs.laws.Parts.{ArePeriods-end, SomeRounds-periods}
 
@@ -104,10 +103,19 @@ IsFirstShape-keys {r} {t} {parts} h left right before after keys =
           IsFirst-le (λ n. Through r parts (Rounds A before (left - before)) (Rounds C n (right - n))) after u.after keys.after_first
           (Through-map r parts P Q (Rounds A before (left - before)) (Rounds C u.after (right - u.after)) (λ v _ rounds. exact_rounds A u.before before u.back left v (sym g) (omega (arith, e)) rounds)
           (λ w _ rounds. exact_rounds C u.after u.after u.on right w refl (omega (arith, f)) rounds) through) in
-          key_not_greater (s.back + s.before) lefts (ordering_then (nat_cmp (s.on + s.after) rights) (ordering_then (nat_cmp before u.before) (nat_cmp after u.after))) (omega (arith, first)) (λ e.
-          key_not_greater (s.on + s.after) rights (ordering_then (nat_cmp before u.before) (nat_cmp after u.after)) (omega (arith, second (omega (arith, e)))) (λ f.
-          key_not_greater before u.before (nat_cmp after u.after) (third (omega (arith, e)) (omega (arith, f))) (λ g.
-          nat_cmp-le after u.after (fourth (omega (arith, e)) (omega (arith, f)) g))));
+          (key_not_greater (s.back + s.before) lefts (ordering_then (nat_cmp (s.on + s.after) rights) (ordering_then (nat_cmp before u.before) (nat_cmp after u.after)))).1 (
+            omega (arith, first),
+            λ e.
+                (key_not_greater (s.on + s.after) rights (ordering_then (nat_cmp before u.before) (nat_cmp after u.after))).1 (
+                  omega (arith, second (omega (arith, e))),
+                  λ f.
+                      (key_not_greater before u.before (nat_cmp after u.after)).1 (
+                        third (omega (arith, e)) (omega (arith, f)),
+                        λ g.
+                            nat_cmp-le after u.after (fourth (omega (arith, e)) (omega (arith, f)) g),
+                      ),
+                ),
+          );
     }
 
 -- where 16 periods on either side lead through, there is a first key
