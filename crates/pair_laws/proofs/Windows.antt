@@ -1,6 +1,6 @@
 -- Determined windows by pairs of nodes: no two that differ at a letter end together for what is before it and begin together for what is behind.
 use Rattle.std.proofs.Common.{◌≡◌, ◌≢◌, ℕ, ◌+◌, ◌-◌, ◌<◌, ◌≤◌, ◌↔◌, min, List, ◌++◌, length, take, drop, get_or, slice_index, refl, subst₂, sym, ap, ap₂, ◌∙◌, ⊎_elim, arith, length-drop, length-take-le, get_or-take, get_or-drop}
-use Rattle.word_image.proofs.Common.{cases_eq, All-take, All-drop, LocalRule, IsRule, IsWord, value, word_of, node_count, HaveOneImage, IsDetermined, first_of, second_of, pair_of, pair_count, node_letter, BeginTogether, EndTogether, word_of-value}
+use Rattle.word_image.proofs.Common.{cases_eq, All-take, All-drop, LocalRule, IsRule, IsWord, value, word_of, HaveOneImage, IsDetermined, first_of, second_of, pair_of, pair_count, node_letter, BeginTogether, EndTogether, word_of-value}
 use Rattle.word_image.specs.declared.side.Side.TheVariants.{Right}
 use Rattle.pair_laws.proofs.Joins.{drop-join, same_node, HaveOneImage-drop, HaveOneImage-join}
 use Rattle.pair_laws.proofs.Walks.{HaveOneImage-between}
