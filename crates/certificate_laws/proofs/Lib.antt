@@ -1,7 +1,6 @@
 pub mod CoverLists
 pub mod PairLists
 pub mod MetConditions
-pub mod LongerWords
 pub mod ShortSplits
 pub mod Limits
 pub mod WrittenShapes

@@ -1,6 +1,6 @@
 -- The least normal right split is short: its middle and right period have together at most as many letters as there are pairs, and m more.
 use Rattle.std.proofs.Common.{ℕ, ◌+◌, ◌-◌, ◌≤◌, ◌∷◌, length, subst, ⊎_elim, arith, length-append}
-use Rattle.word_image.proofs.Common.{cases_lt, LocalRule, IsRule, word_of, IsRightAhead, pair_count, IsFirstOfRight, length-word_of, PairGoes}
+use Rattle.word_image.proofs.Common.{cases_lt, LocalRule, IsRule, word_of, IsRightAhead, pair_count, IsFirstOfRight, length-word_of, PairGoes, key_not_greater}
 use Rattle.word_image.specs.declared.side.Side.TheVariants.{Right}
 use Rattle.pair_laws.proofs.Common.{pair_of-first_of, Together-endless}
 use Rattle.pair_laws.proofs.Aheads.{IsRightAhead-pairs}
@@ -8,7 +8,6 @@ use Rattle.tail_config.proofs.Common.{TailConfig, IsNormalRightSplit, IsLeastRig
 use Rattle.tail_laws.proofs.FirstPairs.{LeadsToLoop, looped_tail, normal_split-loop}
 use Rattle.tail_laws.proofs.EndlessPairs.{LeadsToLoop-begin}
 use Rattle.tail_laws.proofs.Common.{IsRightClosing-ahead, no_right_closing}
-use Rattle.certificate_laws.proofs.LongerWords.{later_by_number}
 
 -- a normal right split with few letters
 record HasShortSplit (r : LocalRule) : Type 0 where
@@ -37,7 +36,7 @@ IsLeastRightSplit-le {r} {x} {y} rule least =
       omega arith,
       (λ p first begins.
           let other = HasShortSplit-begins rule first (Together-endless Right rule _ _ _ (omega arith) begins (pair_count r)) in
-          least.least other.x other.y other.split (later_by_number (length x.middle + length x.right) (length (other.x).middle + length (other.x).right) _ (omega (arith, other.short)))),
+          omega (arith, other.short, ((key_not_greater (length x.middle + length x.right) (length (other.x).middle + length (other.x).right) _).0 (least.least other.x other.y other.split)).0)),
     ) in
     absurd (no_right_closing least (IsRightClosing-ahead rule ahead)))
     (λ short. short)

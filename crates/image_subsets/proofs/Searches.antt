@@ -7,13 +7,6 @@ use Rattle.search_laws.proofs.LeastSteps.{parent-least}
 use Rattle.image_subsets.specs.FamilyTrees.{IsTree, IsLeastParent, IsFamilyTree}
 use Rattle.image_subsets.specs.Searches.{IsWay, IsTreeSearch, EndsEmpty, IsExpanded}
 
--- the set that stands at a place
-state_at : {r : LocalRule} {sets : List ℕ} {parents : List (Option (ℕ × ℕ))} {e : ℕ} → (h : IsTreeSearch r sets parents e) → (i : ℕ) (x : Place ℕ) → slice_get h.search.tree i ≡ Some x
-    → (i < length sets) × (slice_index sets i ≡ x.state)
-state_at {sets = sets} h i x at =
-    let there : slice_get sets i ≡ Some x.state = subst (λ l. slice_get l i ≡ Some x.state) h.search.lists (mapped_at (λ y. y.state) h.search.tree i x at) in
-    (slice_get_within sets i x.state there, get_or_from_slice_get sets i x.state 0 there)
-
 -- a way stays one where places are added
 IsWay-more : (tree more : List (Place ℕ)) (i : ℕ) (way : Option (ℕ × ℕ)) → IsWay tree i way → IsWay (tree ++ more) i way
 IsWay-more tree more i None none = none
@@ -29,86 +22,87 @@ IsExpanded-start {r} rule =
           (Contains-push_cases [] (full_set r) 0 has),
     )
 
--- the sets are sets of nodes
-pub set-below : {r : LocalRule} {sets : List ℕ} {parents : List (Option (ℕ × ℕ))} {e : ℕ} → IsTreeSearch r sets parents e → (i : ℕ) → i < length sets → slice_index sets i < 2 ^ node_count r
-set-below {r} {sets} h i below =
-    search-below h.search (2 ^ node_count r) (omega (arith, pow_pos (node_count r))) (λ s a t step. step.within) i (slice_index sets i) (slice_get-get_or sets i 0 below)
+module _ {r : LocalRule} {sets : List ℕ} {parents : List (Option (ℕ × ℕ))} {e : ℕ} (h : IsTreeSearch r sets parents e) where
+  -- the set that stands at a place
+  state_at : (i : ℕ) (x : Place ℕ) → slice_get h.search.tree i ≡ Some x → (i < length sets) × (slice_index sets i ≡ x.state)
+  state_at i x at =
+      let there : slice_get sets i ≡ Some x.state = subst (λ l. slice_get l i ≡ Some x.state) h.search.lists (mapped_at (λ y. y.state) h.search.tree i x at) in
+      (slice_get_within sets i x.state there, get_or_from_slice_get sets i x.state 0 there)
 
--- a search of the sets of at most 16 nodes has at most 65,536 sets
-pub length-search-most : {r : LocalRule} {sets : List ℕ} {parents : List (Option (ℕ × ℕ))} {e : ℕ} → IsRule r → IsTreeSearch r sets parents e → length sets ≤ 65536
-length-search-most {r} rule h =
-    let few = length-search-le h.search (2 ^ node_count r) (omega (arith, pow_pos (node_count r))) (λ s a t step. step.within) in
-    omega (arith, few, pow_mono {i = node_count r} {j = 16} rule.shape.most_nodes)
+  -- the sets are sets of nodes
+  pub set-below : (i : ℕ) → i < length sets → slice_index sets i < 2 ^ node_count r
+  set-below i below =
+      search-below h.search (2 ^ node_count r) (omega (arith, pow_pos (node_count r))) (λ s a t step. step.within) i (slice_index sets i) (slice_get-get_or sets i 0 below)
 
--- the parents of a search are the least ones
-IsLeastParent-search : {r : LocalRule} {sets : List ℕ} {parents : List (Option (ℕ × ℕ))} {e : ℕ} → IsTreeSearch r sets parents e
-    → (i p a : ℕ) → slice_get parents i ≡ Some (Some (p, a)) → IsLeastParent r sets i p a
-IsLeastParent-search {r} {sets} {parents} h i p a way =
-    let (x, positive, at, from_p, by_a) = h.ways i (Some (p, a)) way in
-    let set = slice_index sets i in
-    let state : x.state ≡ set = sym (state_at h i x at).1 in
-    let branch = h.search.queue.fills.branches i x positive at in
-    let from = state_at h x.parent branch.parent branch.stands in
-    let least = λ (q b : ℕ) (less : q < length sets) (letter : b < r.states) (step : IsStep r (slice_index sets q) b set).
-    let (y, there, other) = search_place h.search q (slice_index sets q) (slice_get-get_or sets q 0 less) in
-    parent-least h.search.queue i q b x y positive at there letter (subst₂ (λ s t. IsStep r s b t) (sym other) (sym state) step) in
-    subst₂ (λ q b. IsLeastParent r sets i q b) from_p by_a (record {
-      earlier = branch.earlier;
-      letter = branch.letter;
-      step = subst₂ (λ s t. IsStep r s x.letter t) (sym from.1) state branch.step;
-      least_place = λ q b less letter step. (least q b less letter step).0;
-      least_letter = λ b letter step. (least x.parent b from.0 letter step).1 refl;
-    })
+  -- the parents of a search are the least ones
+  IsLeastParent-search : (i p a : ℕ) → slice_get parents i ≡ Some (Some (p, a)) → IsLeastParent r sets i p a
+  IsLeastParent-search i p a way =
+      let (x, positive, at, from_p, by_a) = h.ways i (Some (p, a)) way in
+      let set = slice_index sets i in
+      let state : x.state ≡ set = sym (state_at i x at).1 in
+      let branch = h.search.queue.fills.branches i x positive at in
+      let from = state_at x.parent branch.parent branch.stands in
+      let least = λ (q b : ℕ) (less : q < length sets) (letter : b < r.states) (step : IsStep r (slice_index sets q) b set).
+      let (y, there, other) = search_place h.search q (slice_index sets q) (slice_get-get_or sets q 0 less) in
+      parent-least h.search.queue i q b x y positive at there letter (subst₂ (λ s t. IsStep r s b t) (sym other) (sym state) step) in
+      subst₂ (λ q b. IsLeastParent r sets i q b) from_p by_a (record {
+        earlier = branch.earlier;
+        letter = branch.letter;
+        step = subst₂ (λ s t. IsStep r s x.letter t) (sym from.1) state branch.step;
+        least_place = λ q b less letter step. (least q b less letter step).0;
+        least_letter = λ b letter step. (least x.parent b from.0 letter step).1 refl;
+      })
 
--- each parent stands before its set
-earlier_of : {r : LocalRule} {sets : List ℕ} {parents : List (Option (ℕ × ℕ))} {e : ℕ} → IsTreeSearch r sets parents e
-    → (i : ℕ) (way : Option (ℕ × ℕ)) → slice_get parents i ≡ Some way → MatchOption way (i ≡ 0) (λ (p, a). p < i)
-earlier_of h i None at = h.ways i None at
-earlier_of h i (Some (p, a)) at = (IsLeastParent-search h i p a at).earlier
+  -- each parent stands before its set
+  earlier_of : (i : ℕ) (way : Option (ℕ × ℕ)) → slice_get parents i ≡ Some way → MatchOption way (i ≡ 0) (λ (p, a). p < i)
+  earlier_of i None at = h.ways i None at
+  earlier_of i (Some (p, a)) at = (IsLeastParent-search i p a at).earlier
 
--- a search lists a tree
-pub IsTree-search : {r : LocalRule} {sets : List ℕ} {parents : List (Option (ℕ × ℕ))} {e : ℕ} → IsRule r → IsTreeSearch r sets parents e
-    → IsTree (record { sets = sets; parents = parents })
-IsTree-search {sets = sets} {parents = parents} rule h = record {
-  most = length-search-most rule h;
-  one_each = h.one_each;
-  earlier = earlier_of h;
-}
+  -- each set has its least parent, but for the first, which has none
+  parent_of : (i : ℕ) (way : Option (ℕ × ℕ)) → slice_get parents i ≡ Some way → MatchOption way (i ≡ 0) (λ (p, a). IsLeastParent r sets i p a)
+  parent_of i None at = h.ways i None at
+  parent_of i (Some (p, a)) at = IsLeastParent-search i p a at
 
--- each set has its least parent, but for the first, which has none
-parent_of : {r : LocalRule} {sets : List ℕ} {parents : List (Option (ℕ × ℕ))} {e : ℕ} → IsTreeSearch r sets parents e
-    → (i : ℕ) (way : Option (ℕ × ℕ)) → slice_get parents i ≡ Some way → MatchOption way (i ≡ 0) (λ (p, a). IsLeastParent r sets i p a)
-parent_of h i None at = h.ways i None at
-parent_of h i (Some (p, a)) at = IsLeastParent-search h i p a at
+module _ {r : LocalRule} {sets : List ℕ} {parents : List (Option (ℕ × ℕ))} {e : ℕ} (rule : IsRule r) (h : IsTreeSearch r sets parents e) where
+  -- a search of the sets of at most 16 nodes has at most 65,536 sets
+  pub length-search-most : length sets ≤ 65536
+  length-search-most =
+      let few = length-search-le h.search (2 ^ node_count r) (omega (arith, pow_pos (node_count r))) (λ s a t step. step.within) in
+      omega (arith, few, pow_mono {i = node_count r} {j = 16} rule.shape.most_nodes)
 
--- the sets of a search and their parents, if the sets are a family
-IsFamilyTree-search : {r : LocalRule} {sets : List ℕ} {parents : List (Option (ℕ × ℕ))} {e : ℕ} → IsRule r → (h : IsTreeSearch r sets parents e) → IsFamily r (states_of h.search.tree)
-    → IsFamilyTree r (record { sets = sets; parents = parents })
-IsFamilyTree-search {r} {sets} rule h family =
-    let q = h.search.queue.fills in
-    let first = state_at h 0 q.first q.root in
-    record {
-      rule = rule;
-      family = subst (IsFamily r) h.search.lists family;
-      starts = slice_get-get_or sets 0 0 first.0 ∙ ap Some (first.1 ∙ q.starts);
-      parents = parent_of h;
-    }
+  -- a search lists a tree
+  pub IsTree-search : IsTree (record { sets = sets; parents = parents })
+  IsTree-search = record {
+    most = length-search-most;
+    one_each = h.one_each;
+    earlier = earlier_of h;
+  }
 
--- where all edges were followed and no set is empty, the search has listed the family
-pub IsFamilyTree-closed : {r : LocalRule} {sets : List ℕ} {parents : List (Option (ℕ × ℕ))} {e : ℕ} → IsRule r → IsTreeSearch r sets parents e
-    → length sets * r.states ≤ e → ¬ Contains sets 0 → IsFamilyTree r (record { sets = sets; parents = parents })
-IsFamilyTree-closed {r} {e = e} rule h all nonempty =
-    IsFamilyTree-search rule h (IsFamily-closed rule h.search.queue (subst (λ n. n * r.states ≤ e) (sym (length-search h.search)) all) (λ i x _ at empty.
-    let there = state_at h i x at in
-    nonempty (i, there.0, there.1 ∙ empty)))
+  -- the sets of a search and their parents, if the sets are a family
+  IsFamilyTree-search : IsFamily r (states_of h.search.tree) → IsFamilyTree r (record { sets = sets; parents = parents })
+  IsFamilyTree-search family =
+      let q = h.search.queue.fills in
+      let first = state_at h 0 q.first q.root in
+      record {
+        rule = rule;
+        family = subst (IsFamily r) h.search.lists family;
+        starts = slice_get-get_or sets 0 0 first.0 ∙ ap Some (first.1 ∙ q.starts);
+        parents = parent_of h;
+      }
 
--- where the empty set was found last, the search has listed the family
-pub IsFamilyTree-stopped : {r : LocalRule} {sets : List ℕ} {parents : List (Option (ℕ × ℕ))} {e : ℕ} → IsRule r → IsTreeSearch r sets parents e
-    → EndsEmpty sets → IsFamilyTree r (record { sets = sets; parents = parents })
-IsFamilyTree-stopped {r} {sets} {parents} rule h empty =
-    let (x, at, state) = search_place h.search (length sets - 1) 0 empty in
-    let some = slice_get_within sets (length sets - 1) 0 empty in
-    IsFamilyTree-search rule h (IsFamily-stopped rule h.search.queue (length sets - 1) x (omega (arith, length-search h.search)) at state)
+  -- where all edges were followed and no set is empty, the search has listed the family
+  pub IsFamilyTree-closed : length sets * r.states ≤ e → ¬ Contains sets 0 → IsFamilyTree r (record { sets = sets; parents = parents })
+  IsFamilyTree-closed all nonempty =
+      IsFamilyTree-search (IsFamily-closed rule h.search.queue (subst (λ n. n * r.states ≤ e) (sym (length-search h.search)) all) (λ i x _ at empty.
+      let there = state_at h i x at in
+      nonempty (i, there.0, there.1 ∙ empty)))
+
+  -- where the empty set was found last, the search has listed the family
+  pub IsFamilyTree-stopped : EndsEmpty sets → IsFamilyTree r (record { sets = sets; parents = parents })
+  IsFamilyTree-stopped empty =
+      let (x, at, state) = search_place h.search (length sets - 1) 0 empty in
+      let some = slice_get_within sets (length sets - 1) 0 empty in
+      IsFamilyTree-search (IsFamily-stopped rule h.search.queue (length sets - 1) x (omega (arith, length-search h.search)) at state)
 
 -- the empty set was added last
 pub EndsEmpty-push : (sets : List ℕ) (after : ℕ) → after ≡ 0 → EndsEmpty (sets ++ after ∷ [])

@@ -1,7 +1,7 @@
 -- The tree of a search that has ended with all that is reached.
-use Rattle.std.proofs.Common.{append-nil, ◌≡◌, ◌≢◌, ℕ, ◌*◌, ◌<◌, ◌≤◌, List, [], ◌∷◌, length, map, Option, Some, None, sym, ap, ◌∙◌, arith, slice_get, IfSome, IfNone, All, Contains, slice_index_or}
-use Rattle.word_image.proofs.Common.{length-map, All-map, none-some, slice_get-get_or, LocalRule, pair_count, marked, pairs_cmp, word_cmp, Contains-slice_get}
-use Rattle.search_laws.proofs.Common.{TreeSpells, mapped_at, TreeSpells-some, PairWalk-leads, ArePairs-walk, pairs_cmp-codes, codes-uncode, code, Leads-walk, PairWalk, IsLeastWalkTo, uncode}
+use Rattle.std.proofs.Common.{append-nil, ◌≡◌, ◌≢◌, ℕ, ◌*◌, ◌<◌, ◌≤◌, List, [], ◌∷◌, length, map, Option, Some, None, ap, ◌∙◌, arith, slice_get, IfSome, IfNone, All, Contains, slice_index_or}
+use Rattle.word_image.proofs.Common.{length-map, All-map, none-some, slice_get-get_or, LocalRule, pair_count, marked, Contains-slice_get}
+use Rattle.search_laws.proofs.Common.{TreeSpells, mapped_at, TreeSpells-some, PairWalk-leads, pairs_cmp-leads, code, Leads-walk, PairWalk, IsLeastWalkTo, uncode}
 use Rattle.search_laws.proofs.LeastFirst.{IsLeastTo-spelled, reached_all}
 use Rattle.least_walk.specs.declared.queue.Reached.{Reached}
 use Rattle.least_walk.specs.declared.breadth_first.Arrival.{Arrival}
@@ -31,14 +31,7 @@ pub IsLeastWalkTo-spelled : {r : LocalRule} {ends : Ends} {queue : List Reached}
 IsLeastWalkTo-spelled {r} {queue = queue} {i = i} {w} walking spells x at =
     let le : r.states ≤ 16 = walking.rule.shape.most_states in
     let first = IsLeastTo-spelled walking.filled spells (place_of x) (place_at queue i x at) in
-    let walk = PairWalk-leads first.leads in
-    record {
-      walk = walk;
-      least = λ v other greater.
-          let order : pairs_cmp (map (uncode 16) w) v ≡ word_cmp w (map (code 16) v) =
-          pairs_cmp-codes 16 (map (uncode 16) w) v (ArePairs-walk 16 le walk) (ArePairs-walk 16 le other) ∙ ap (λ u. word_cmp u (map (code 16) v)) (codes-uncode 16 w) in
-          first.least (map (code 16) v) (Leads-walk 16 le other) (sym order ∙ greater);
-    }
+    record { walk = PairWalk-leads first.leads; least = λ v other. pairs_cmp-leads le first.leads other (first.least (map (code 16) v) (Leads-walk 16 le other)) }
 
 -- no walk of at most `most` steps leads to what stands at no place
 pub no_walk-absent : {r : LocalRule} {start most t : ℕ} {queue : List Reached} {places : List ℕ} → IsWalkTree r start most queue places → ((i : ℕ) (x : Reached) → slice_get queue i ≡ Some x → x.pair ≢ t)

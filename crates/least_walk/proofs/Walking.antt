@@ -1,11 +1,11 @@
 -- A breadth first search through the marked pairs, one step more at a time.
 use Rattle.std.proofs.Common.{◌≡◌, ◌≢◌, ℕ, zero, suc, ◌+◌, ◌-◌, ◌*◌, ◌/◌, ◌%◌, ◌<◌, ◌≤◌, ◌↔◌, ◌⊎◌, inl, inr, List, [], ◌∷◌, ◌++◌, length, get_or, map, zero-mul, Option, Some, None, Bool, true, false, true≢false, refl, sym, ap, ◌∙◌, subst, subst₂, arith, ⊎_elim, slice_get, ◌==◌}
 use Rattle.std.specs.Option.{option_eq}
-use Rattle.word_image.proofs.Common.{cases_lt, Decides-eqb, map-append, length-map, length_push, slice_get_within, slice_get-get_or, get_or_from_slice_get, none-some, same_Some, LocalRule, IsRule, node_count, pair_count, marked, slice_get-append, slice_get-push, slice_get-push_cases, only_place}
+use Rattle.word_image.proofs.Common.{cases_lt, Decides-eqb, map-append, length-map, length_push, slice_get_within, slice_get-get_or, none-some, same_Some, LocalRule, IsRule, node_count, pair_count, marked, slice_get-append, slice_get-push, slice_get-push_cases, only_place}
 use Rattle.std.proofs.Math.Nat.{mul-le-mul_right}
 use Rattle.search_laws.proofs.Common.{Place, TreeSpells, NoEdgeBefore, Root, Branch, HaveMet-next, HaveMet-push, edge-within, IsQueue-start, IsQueue-there, IsQueue-new, mapped_at, unmapped_at, length-queue-le, state-below, TreeSpells-some, length-spelled-le, code, Leads-walk, CodeStep-some, IsLeastWalk-steps, PairWalk, IsLeastWalk, uncode}
 use Rattle.search_laws.proofs.LeastSteps.{IsLeastStepsTo, IsLeastStepsTo-edge}
-use Rattle.search_laws.proofs.QueueDepths.{AreDepths, depths-ascending, no_word_within}
+use Rattle.search_laws.proofs.QueueDepths.{lengths-ascending, no_word_within}
 use Rattle.pair_laws.proofs.Common.{marked-below}
 use Rattle.least_walk.specs.declared.queue.Reached.{Reached}
 use Rattle.least_walk.specs.declared.breadth_first.Ends.{Ends}
@@ -176,35 +176,16 @@ goal-tells (Some x) q b e =
 pub IsBackward-walking : {r : LocalRule} {ends : Ends} {queue : List Reached} {e : ℕ} → IsWalking r ends queue e → IsBackward queue
 IsBackward-walking {queue = queue} w i x positive at = (w.filled.fills.branches i (place_of x) positive (place_at queue i x at)).earlier
 
--- how many steps lead to a place
-abbrev depth_at : List Reached → ℕ → ℕ
-depth_at queue i = (get_or queue i (record { pair = 0; parent = 0; step = 0; depth = 0 })).depth
-
-depth_at-place : (queue : List Reached) (i : ℕ) (x : Reached) → slice_get queue i ≡ Some x → depth_at queue i ≡ x.depth
-depth_at-place queue i x at = ap (λ z. z.depth) (get_or_from_slice_get queue i x _ at)
-
--- the depths in the queue of a search are the depths of its places
-AreDepths-queue : {r : LocalRule} {ends : Ends} {queue : List Reached} {e : ℕ} → IsWalking r ends queue e → AreDepths (places_of queue) (depth_at queue)
-AreDepths-queue {queue = queue} w =
-    let (first, root, _) = reached_at queue 0 w.filled.fills.first w.filled.fills.root in
-    record {
-      root = depth_at-place queue 0 first root ∙ w.depths.root first root;
-      more = λ i z some at.
-          let (x, there, alike) = reached_at queue i z at in
-          let (p, stands, deeper) = w.depths.more i x some there in
-          let parent : x.parent ≡ z.parent = ap (λ y. y.parent) alike in
-          depth_at-place queue i x there ∙ deeper ∙ ap (λ d. d + 1) (sym (depth_at-place queue x.parent p stands)) ∙ ap (λ j. depth_at queue j + 1) parent;
-    }
-
--- the word that is spelled to a place has as many letters as its depth
-length-spelled : {tree : List (Place ℕ)} {depth : ℕ → ℕ} → AreDepths tree depth → (i : ℕ) (w : List ℕ) → TreeSpells tree i w → length w ≡ depth i
-length-spelled d _ _ Root = sym d.root
-length-spelled d _ _ (Branch i x w some at spells) = length_push w x.letter ∙ ap (λ n. n + 1) (length-spelled d x.parent w spells) ∙ sym (d.more i x some at)
-
 -- the word that is spelled to a place has as many letters as steps lead there
 pub length-walked : {r : LocalRule} {ends : Ends} {queue : List Reached} {e i : ℕ} {w : List ℕ} → IsWalking r ends queue e → TreeSpells (places_of queue) i w
     → (x : Reached) → slice_get queue i ≡ Some x → length w ≡ x.depth
-length-walked {queue = queue} {i = i} {w = w} walking spells x at = length-spelled (AreDepths-queue walking) i w spells ∙ depth_at-place queue i x at
+length-walked walking Root x at = sym (walking.depths.root x at)
+length-walked {queue = queue} walking (Branch i z w some there before) x at =
+    let (p, stands, deeper) = walking.depths.more i x some at in
+    let here = place_at queue i x at in
+    let alike : place_of x ≡ z = cc in
+    let rest = length-walked walking before p (subst (λ j. slice_get queue j ≡ Some p) (ap (λ (y : Place ℕ). y.parent) alike) stands) in
+    omega (arith, length_push w z.letter)
 
 -- fewer than 512 steps lead to a place, since there are at most 512 places
 pub depth-below : {r : LocalRule} {ends : Ends} {queue : List Reached} {e : ℕ} → IsWalking r ends queue e → (i : ℕ) (x : Reached) → slice_get queue i ≡ Some x → x.depth < 512
@@ -216,12 +197,9 @@ depth-below {queue = queue} w i x at =
 pub deeper : {r : LocalRule} {ends : Ends} {queue : List Reached} {e : ℕ} → IsWalking r ends queue e
     → (i j : ℕ) (x y : Reached) → i ≤ j → slice_get queue i ≡ Some x → slice_get queue j ≡ Some y → x.depth ≤ y.depth
 deeper {queue = queue} w i j x y le at there =
-    omega (
-      arith,
-      depths-ascending w.filled (AreDepths-queue w) j i j (place_of x) (place_of y) (omega arith) le (place_at queue i x at) (place_at queue j y there),
-      depth_at-place queue i x at,
-      depth_at-place queue j y there,
-    )
+    let (u, spells) = TreeSpells-some w.filled.fills i (place_of x) (place_at queue i x at) in
+    let (v, also) = TreeSpells-some w.filled.fills j (place_of y) (place_at queue j y there) in
+    omega (arith, lengths-ascending w.filled le spells also (place_of x) (place_of y) (place_at queue i x at) (place_at queue j y there), length-walked w spells x at, length-walked w also y there)
 
 -- where only the edges from the places before the head were followed, and these are nearer than `most` steps, no place is further
 pub near-all : {r : LocalRule} {ends : Ends} {queue : List Reached} {most : ℕ} → (h : ℕ) → IsWalking r ends queue (h * step_count r)
@@ -254,11 +232,10 @@ length-arrival {step = step} a near (w, spells, whole) =
 pub no_walk-edge : {r : LocalRule} {ends : Ends} {queue : List Reached} {most goal : ℕ} → (x : IsEnded r ends queue most) → NoEdgeBefore (MarkedStep r) (step_count r) (places_of queue) x.edges goal
     → (w : List (ℕ × ℕ)) → 0 < length w → length w ≤ most → ¬ PairWalk (marked r) r.states ends.start w goal
 no_walk-edge {r} {ends} {queue} {most} {goal} x none w some short walk =
-    let depths = AreDepths-queue x.walking in
-    no_word_within {most = most} x.walking.filled depths
+    no_word_within x.walking.filled {most = most}
     (record {
       followed = x.followed;
-      deep = λ i z past at. let (y, there, alike) = reached_at queue i z at in omega (arith, x.deep i y past there, depth_at-place queue i y there);
+      deep = λ i z v past at spells. let (y, there, alike) = reached_at queue i z at in omega (arith, x.deep i y past there, length-walked x.walking spells y there);
     })
     none (map (code 16) w) (omega (arith, length-map w (code 16))) (omega (arith, length-map w (code 16)))
     (Leads-walk 16 x.walking.rule.shape.most_states walk)

@@ -1,7 +1,8 @@
 -- A window is a node and the letter after it, and also the letter before a node and that node: so a step leads back from a pair along the windows that its nodes end.
-use Rattle.std.proofs.Common.{◌≡◌, ℕ, ◌+◌, ◌*◌, ◌-◌, ◌/◌, ◌%◌, ◌<◌, ◌↔◌, Some, slice_index, eq-eqb, refl, sym, ap, ap₂, ◌∙◌, subst, mod-lt, mul_comm, arith, div-add-mod'}
+use Rattle.std.proofs.Common.{◌≡◌, ℕ, ◌+◌, ◌*◌, ◌-◌, ◌/◌, ◌%◌, ◌^◌, ◌<◌, ◌↔◌, Some, slice_index, eq-eqb, refl, sym, ap, ap₂, ◌∙◌, subst, subst₂, mod-lt, mul_comm, arith, div-add-mod'}
 use Rattle.word_image.proofs.Common.{div-mul-add, mod-mul-add, div-div-eq-div-mul, LocalRule, IsRule, node_count, next, node_letter, first_of, second_of, pair_of, pair_count, follow_on, LeadsOn, IsWord-word_of, length-word_of, next-below, some_letter, rest_count, node_count-rest, node_parts, window_with-within, end_node-below, window_with, label_at, end_at}
-use Rattle.pair_laws.proofs.Pairs.{first_of-pair_of, second_of-pair_of, pair_of-first_of, pair_of-below, some_if_equal, first_of-below, second_of-below, follow-pair_of, follow-some, follow-below}
+use Rattle.pair_laws.proofs.Pairs.{first_of-pair_of, second_of-pair_of, pair_of-first_of, some_if_equal, first_of-below, second_of-below, follow-some, follow-below, LeadTogether-pairs}
+use Rattle.pair_laws.proofs.Walks.{LeadTogether, LeadTogether-edges}
 use Rattle.word_image.specs.declared.side.Side.{Side}
 use Rattle.word_image.specs.declared.side.Side.TheVariants.{Right, Left}
 use Rattle.word_image.specs.BackSteps.{LeadsBack}
@@ -27,33 +28,36 @@ same_window {r} rule u c a s letter node = (
   (λ (first, leads). sym (div-add-mod' (u * r.states + c) (node_count r)) ∙ ap₂ (λ b t. window_with Left r t b) (first_letter rule u c letter ∙ first) leads),
 )
 
--- the window of letter a before node s is that of a node that begins with a, and of a letter that leads from it to s
-back_edge : {r : LocalRule} → IsRule r → (s a : ℕ) → s < node_count r → a < r.states → let w : ℕ = window_with Left r s a in
-    (w / r.states < node_count r) × (w % r.states < r.states) × (w / r.states * r.states + w % r.states ≡ w) × (node_letter r (w / r.states) 0 ≡ a) × (next r (w / r.states) (w % r.states) ≡ s)
-back_edge {r} rule s a node letter =
+-- two windows with one label are two edges with one label
+pub window_edges : {r : LocalRule} → IsRule r → (w z : ℕ) → w < r.states ^ r.width → z < r.states ^ r.width → slice_index r.table w ≡ slice_index r.table z
+    → LeadTogether r (w / r.states) (z / r.states) 1 (w % node_count r) (z % node_count r)
+window_edges {r} rule w z below_w below_z one_label =
+    let k : ℕ = r.states in
+    let split = λ (x : ℕ). div-add-mod' x k in
+    subst₂ (λ (x y : ℕ). LeadTogether r (w / k) (z / k) 1 (x % node_count r) (y % node_count r)) (split w) (split z)
+    (LeadTogether-edges rule (w / k) (z / k) (w % k) (z % k) (end_node-below Left rule w below_w) (end_node-below Left rule z below_z) (mod-lt w (some_letter rule)) (mod-lt z (some_letter rule))
+    (ap (slice_index r.table) (split w) ∙ one_label ∙ ap (slice_index r.table) (sym (split z))))
+
+-- the first node of the window of letter a before node s begins with a
+begins_with : {r : LocalRule} → IsRule r → (s a : ℕ) → s < node_count r → node_letter r (end_at Left r s a) 0 ≡ a
+begins_with {r} rule s a node =
     let w : ℕ = window_with Left r s a in
-    let last = mod-lt w (some_letter rule) in
-    let split = div-add-mod' w r.states in
-    let (first, leads) = (same_window rule (w / r.states) (w % r.states) a s last node).0 split in
-    (end_at-below Left rule s a node letter, last, split, first, leads)
+    sym (first_letter rule (w / r.states) (w % r.states) (mod-lt w (some_letter rule))) ∙ ap (λ x. x / node_count r) (div-add-mod' w r.states) ∙ div-mul-add a (node_count r) s node
 
 -- the pair of the nodes of two windows leads back, where the windows have one label
 leads_back : {r : LocalRule} → IsRule r → (q a b : ℕ) → q < pair_count r → a < r.states → b < r.states → label_at Left r (first_of r q) a ≡ label_at Left r (second_of r q) b
     → LeadsBack r q a b (pair_of r (end_at Left r (first_of r q) a) (end_at Left r (second_of r q) b))
 leads_back {r} rule q a b pair ha hb one_label =
-    let (in_u, in_c, at_u, first, to_first) = back_edge rule (first_of r q) a (first_of-below rule q pair) ha in
-    let (in_v, in_d, at_v, second, to_second) = back_edge rule (second_of r q) b (second_of-below rule q) hb in
+    let hu = first_of-below rule q pair in
+    let hv = second_of-below rule q in
+    let edges = window_edges rule _ _ (window_with-within Left rule (first_of r q) a hu ha) (window_with-within Left rule (second_of r q) b hv hb) one_label in
+    let step = LeadTogether-pairs rule (subst₂ (LeadTogether r _ _ 1) (mod-mul-add a (node_count r) (first_of r q) hu) (mod-mul-add b (node_count r) (second_of r q) hv) edges) in
+    let inside = end_at-below Left rule (second_of r q) b hv hb in
     record {
-      in_pairs = pair_of-below r _ _ in_u in_v;
-      first = ap (λ u. node_letter r u 0) (first_of-pair_of r _ _ in_v) ∙ first;
-      second = ap (λ u. node_letter r u 0) (second_of-pair_of r _ _ in_v) ∙ second;
-      leads = (
-        _,
-        _,
-        in_c,
-        in_d,
-        follow-pair_of r _ _ _ _ in_v (ap (slice_index r.table) at_u ∙ one_label ∙ ap (slice_index r.table) (sym at_v)) ∙ ap Some (ap₂ (pair_of r) to_first to_second ∙ pair_of-first_of r q),
-      );
+      in_pairs = step.in_pairs;
+      first = ap (λ u. node_letter r u 0) (first_of-pair_of r _ _ inside) ∙ begins_with rule (first_of r q) a hu;
+      second = ap (λ u. node_letter r u 0) (second_of-pair_of r _ _ inside) ∙ begins_with rule (second_of r q) b hv;
+      leads = (step.a, step.b, step.a_letter, step.b_letter, step.follows ∙ ap Some (pair_of-first_of r q));
     }
 
 -- where a pair leads back, the two windows have one label, and it leads to the pair of their nodes

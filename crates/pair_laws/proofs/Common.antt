@@ -1,7 +1,8 @@
 -- The definitions and lemmas that the proofs of crates above cite, passed on from one place. Declares nothing.
 pub use Rattle.pair_laws.specs.FirstWindows.{HasEndlessFirst, end_pair, with_end}
+pub use Rattle.pair_laws.proofs.Aheads.{IsFirstOf-step, ahead_pairs}
 pub use Rattle.pair_laws.proofs.BackSteps.{LeadsBack-follow, LeadsOn-follows, end_at-below, follow_on-edges}
-pub use Rattle.pair_laws.proofs.BothWays.{IsDetermined-none_both_ways, IsDetermined-not_both_ways, ahead_pairs, no_ahead, some_ahead}
+pub use Rattle.pair_laws.proofs.BothWays.{IsDetermined-none_both_ways, IsDetermined-not_both_ways, no_ahead, some_ahead}
 pub use Rattle.pair_laws.proofs.Decisions.{Together-decide, Together-rank, differ_below}
 pub use Rattle.pair_laws.proofs.Edges.{HaveOneImage-none, HaveOneImage-push, image-first, image-push, image-window, next-digits, value-first}
 pub use Rattle.pair_laws.proofs.Endless.{IsRank-below, Loops-long, PairGoes-closed, PairGoes-stable, Together-endless}

@@ -1,6 +1,6 @@
 -- Endless pairs: a walk of as many steps as there are pairs goes through one pair twice, so it can be made as long as one likes.
 use Rattle.std.proofs.Common.{ℕ, zero, suc, ◌+◌, ◌-◌, ◌<◌, ◌≤◌, refl, subst₂, ⊎_elim, arith}
-use Rattle.word_image.proofs.Common.{cases_lt, same_from_place, LocalRule, IsRule, node_count, first_of, second_of, pair_of, pair_count, LeadsOn, IsRank, IsEndless, Together, PairGoes, twice_below}
+use Rattle.word_image.proofs.Common.{cases_lt, same_from_place, LocalRule, IsRule, node_count, pair_of, pair_count, LeadsOn, IsRank, IsEndless, Together, PairGoes, twice_below}
 use Rattle.word_image.specs.declared.side.Side.{Side}
 use Rattle.word_image.specs.declared.side.Side.TheVariants.{Right, Left}
 use Rattle.pair_laws.proofs.Walks.{LeadTogether, place_node, HaveOneImage-between, LeadTogether-front, LeadTogether-rest, LeadTogether-join, LeadTogether-first, LeadTogether-none}
@@ -60,12 +60,6 @@ Together-endless Left rule u v m many h n =
 -- a rank is below the number of pairs
 pub IsRank-below : (side : Side) {r : LocalRule} → IsRule r → (u v n : ℕ) → IsRank (Together side r u v) n → n < pair_count r
 IsRank-below side {r} rule u v n rank = ⊎_elim (λ l. l) (λ many. absurd (rank.no_more (Together-endless side rule u v n many rank.holds (n + 1)))) (cases_lt n (pair_count r))
-
--- an endless pair leads on to an endless pair
-pub PairGoes-endless_step : (side : Side) {r : LocalRule} → IsRule r → (p : ℕ) → IsEndless (PairGoes side r p) → (q : ℕ) × LeadsOn side r p q × IsEndless (PairGoes side r q)
-PairGoes-endless_step side {r} rule p h =
-    let (q, step, rest) = PairGoes-step side rule p (pair_count r) (pair_count r + 1) refl (h (pair_count r + 1)) in
-    (q, step, Together-endless side rule (first_of r q) (second_of r q) (pair_count r) (omega arith) rest)
 
 -- pairs of which each leads on to one of them are endless
 pub PairGoes-closed : (side : Side) {r : LocalRule} → IsRule r → (Q : ℕ → Type 0) → ((p : ℕ) → Q p → (q : ℕ) × LeadsOn side r p q × Q q) → (n p : ℕ) → Q p → PairGoes side r p n

@@ -6,7 +6,7 @@ use Rattle.word_image.specs.declared.side.Side.TheVariants.{Right, Left}
 use Rattle.pair_laws.proofs.Pairs.{pair_of-below}
 use Rattle.pair_laws.proofs.Claims.{ClaimsBelow, FallsOn, ClaimsRanks, PairGoes-claims_below, PairGoes-ranks}
 use Rattle.pair_laws.proofs.Windows.{IsDetermined-pairs}
-use Rattle.pair_laws.proofs.BothWays.{ahead_pairs}
+use Rattle.pair_laws.proofs.Aheads.{ahead_pairs}
 
 -- the nodes of a pair agree at the letter c of a window, or a claim keeps them from ending or from beginning together there
 abbrev pub IsClaimedApart : LocalRule → (ℕ → Option ℕ) → (ℕ → Option ℕ) → ℕ → ℕ → ℕ → Type 0

@@ -1,135 +1,70 @@
 -- The first pairs of a side are the ends of two windows that differ in their last letter on that side alone and have one label.
-use Rattle.std.proofs.Common.{◌≡◌, ℕ, ◌+◌, ◌-◌, ◌*◌, ◌/◌, ◌%◌, ◌^◌, ◌<◌, drop, slice_index, sym, ap, ap₂, ◌∙◌, subst, arith, mul_comm, mod-lt, div-add-mod'}
-use Rattle.word_image.proofs.Common.{mul-add-lt, div_below, div-mul-add, mod-mul-add, LocalRule, IsRule, node_count, value, word_of, next, label, node_letter, pair_of, first_of, second_of, pair_count, IsFirstOfLeft, IsFirstOf, value-word_of, node_count_pos, windows-nodes, rest_count, node_count-rest, window_parts, node_parts, end_node}
-use Rattle.pair_laws.proofs.Edges.{rest_count_pos, next-digits}
-use Rattle.pair_laws.proofs.Pairs.{first_of-pair_of, second_of-pair_of, pair_of-below, pair_of-first_of, first_of-below, second_of-below}
+use Rattle.std.proofs.Common.{◌≡◌, ℕ, ◌+◌, ◌*◌, ◌/◌, ◌%◌, ◌^◌, ◌<◌, slice_index, sym, ap, ap₂, ◌∙◌, subst, mul_comm, mod-lt, div-add-mod'}
+use Rattle.word_image.proofs.Common.{div_below, div-mul-add, mod-mul-add, LocalRule, IsRule, node_count, pair_of, IsFirstOf, node_count_pos, some_letter, windows-nodes, window_with, window_with-within, end_node, end_node-below, other}
+use Rattle.word_image.specs.Ends.{end_letter}
+use Rattle.pair_laws.proofs.Walks.{LeadTogether, LeadTogether-first, LeadTogether-one}
+use Rattle.pair_laws.proofs.Pairs.{pair_of-first_of}
+use Rattle.pair_laws.proofs.BackSteps.{window_edges}
+use Rattle.pair_laws.proofs.Aheads.{Fork, same_next, IsFirstOf-fork, fork_of}
 use Rattle.word_image.specs.declared.side.Side.{Side}
 use Rattle.word_image.specs.declared.side.Side.TheVariants.{Right, Left}
 use Rattle.pair_laws.specs.FirstWindows.{with_end, end_pair, AreFirst}
 
--- the letter, the word of m - 2 letters and the letter of which a window is made
-record Parts (r : LocalRule) (w : ℕ) : Type 0 where
-  first : ℕ
-  rest : ℕ
-  last : ℕ
-  first_letter : first < r.states
-  word : rest < rest_count r
-  last_letter : last < r.states
-  window : w ≡ (first * rest_count r + rest) * r.states + last
-  back : w % node_count r ≡ rest * r.states + last
-
--- each window has a first letter, a word of m - 2 letters and a last letter
-parts_of : {r : LocalRule} → IsRule r → (w : ℕ) → w < r.states ^ r.width → Parts r w
-parts_of {r} rule w below =
+-- a window is known by its first and its last node
+same_ends : {r : LocalRule} → IsRule r → (w z : ℕ) → w / r.states ≡ z / r.states → w % node_count r ≡ z % node_count r → w ≡ z
+same_ends {r} rule w z first last =
     let k : ℕ = r.states in
-    let some : 0 < k = omega (arith, rule.shape.least_states) in
-    let x : ℕ = w % node_count r in
-    let inside = mod-lt w (node_count_pos rule) in
-    let split = div-add-mod' x k in
-    let whole = div-add-mod' w (node_count r) in
-    record {
-      first = w / node_count r;
-      rest = x / k;
-      last = x % k;
-      first_letter = div_below w (node_count r) k (node_count_pos rule) (subst (λ n. w < n) (windows-nodes rule ∙ mul_comm (node_count r) k) below);
-      word = div_below x k (rest_count r) some (subst (λ n. x < n) (node_count-rest rule) inside);
-      last_letter = mod-lt x some;
-      window = sym whole ∙ ap (λ n. w / node_count r * node_count r + n) (sym split) ∙ window_parts rule (w / node_count r) (x / k) (x % k);
-      back = sym split;
-    }
+    let split = λ (x : ℕ). div-add-mod' x k in
+    let some = λ (x : ℕ). mod-lt x (some_letter rule) in
+    let ends = ap (λ x. x % node_count r) (split w) ∙ last ∙ ap (λ x. x % node_count r) (sym (split z)) in
+    sym (split w) ∙ ap₂ (λ (x y : ℕ). x * k + y) first (same_next rule (w / k) (z / k) (w % k) (z % k) (some w) (some z) ends).1 ∙ split z
 
 -- the ends of two first windows of a side are a first pair of the side
 pub IsFirst-ends : (side : Side) {r : LocalRule} → IsRule r → (w a : ℕ) → AreFirst side r w a → IsFirstOf side r (end_pair side r w a)
 IsFirst-ends Right {r} rule w a h =
-    let k : ℕ = r.states in
-    let some : 0 < k = omega (arith, rule.shape.least_states) in
-    let split = div-add-mod' w k in
-    record {
-      node = w / k;
-      a = w % k;
-      b = a;
-      in_nodes = div_below w k (node_count r) some (subst (λ n. w < n) (windows-nodes rule) h.window);
-      a_letter = mod-lt w some;
-      b_letter = h.letter;
-      different = λ e. h.different (sym split ∙ ap (λ b. w / k * k + b) e);
-      one_label = ap (slice_index r.table) split ∙ h.one_label;
-      pair = ap (λ v. pair_of r (v % node_count r) (next r (w / k) a)) (sym split);
-    }
+    let z : ℕ = with_end Right r w a in
+    let first : z / r.states ≡ w / r.states = div-mul-add (w / r.states) r.states a h.letter in
+    let edges = window_edges rule w z h.window (window_with-within Right rule (w / r.states) a (end_node-below Left rule w h.window) h.letter) h.one_label in
+    IsFirstOf-fork Right rule _ _ _ (subst (λ u. LeadTogether r (w / r.states) u 1 (w % node_count r) (z % node_count r)) first edges) (λ last. h.different (same_ends rule w z (sym first) last))
 IsFirst-ends Left {r} rule w a h =
-    let k : ℕ = r.states in
-    let n : ℕ = node_count r in
-    let parts = parts_of rule w h.window in
-    let u : ℕ = parts.first * rest_count r + parts.rest in
-    let v : ℕ = a * rest_count r + parts.rest in
-    let other : with_end Left r w a ≡ v * k + parts.last = ap (λ x. a * n + x) parts.back ∙ window_parts rule a parts.rest parts.last in
-    let first : end_node Left r w ≡ u = ap (λ x. x / k) parts.window ∙ div-mul-add u k parts.last parts.last_letter in
-    let second : end_node Left r (with_end Left r w a) ≡ v = ap (λ x. x / k) other ∙ div-mul-add v k parts.last parts.last_letter in
-    let below : (b : ℕ) → b < k → b * rest_count r + parts.rest < n = λ b l. subst (λ c. b * rest_count r + parts.rest < c) (sym (node_count-rest rule)) (mul-add-lt b (rest_count r) parts.rest k l parts.word) in
-    let letter : (b : ℕ) → node_letter r (b * rest_count r + parts.rest) 0 ≡ b = λ b. (node_parts rule (b * rest_count r + parts.rest)).0 ∙ div-mul-add b (rest_count r) parts.rest parts.word in
-    let rest : (b : ℕ) → drop 1 (word_of k (r.width - 1) (b * rest_count r + parts.rest)) ≡ word_of k (r.width - 2) parts.rest =
-    λ b. (node_parts rule (b * rest_count r + parts.rest)).1 ∙ ap (word_of k (r.width - 2)) (mod-mul-add b (rest_count r) parts.rest parts.word) in
-    let at : (q : ℕ) → q ≡ pair_of r u v → IsFirstOfLeft r q = λ q e.
-    let one : first_of r q ≡ u = ap (first_of r) e ∙ first_of-pair_of r u v (below a h.letter) in
-    let two : second_of r q ≡ v = ap (second_of r) e ∙ second_of-pair_of r u v (below a h.letter) in
-    record {
-      letter = parts.last;
-      in_pairs = subst (λ c. c < pair_count r) (sym e) (pair_of-below r u v (below parts.first parts.first_letter) (below a h.letter));
-      in_letters = parts.last_letter;
-      different = λ same.
-          let letters : parts.first ≡ a = sym (letter parts.first) ∙ ap (λ c. node_letter r c 0) (sym one) ∙ same ∙ ap (λ c. node_letter r c 0) two ∙ letter a in
-          h.different (parts.window ∙ ap (λ b. (b * rest_count r + parts.rest) * k + parts.last) letters ∙ sym other);
-      same_rest = ap (λ c. drop 1 (word_of k (r.width - 1) c)) one ∙ rest parts.first ∙ sym (ap (λ c. drop 1 (word_of k (r.width - 1) c)) two ∙ rest a);
-      one_label = ap (λ c. label r c parts.last) one ∙ ap (slice_index r.table) (sym parts.window) ∙ h.one_label ∙ ap (slice_index r.table) other ∙ ap (λ c. label r c parts.last) (sym two);
-    } in
-    at (end_pair Left r w a) (ap₂ (pair_of r) first second)
+    let z : ℕ = with_end Left r w a in
+    let inside = mod-lt w (node_count_pos rule) in
+    let last : z % node_count r ≡ w % node_count r = mod-mul-add a (node_count r) (w % node_count r) inside in
+    let edges = window_edges rule w z h.window (window_with-within Left rule (w % node_count r) a inside h.letter) h.one_label in
+    IsFirstOf-fork Left rule _ _ _ (subst (LeadTogether r (w / r.states) (z / r.states) 1 (w % node_count r)) last edges) (λ first. h.different (same_ends rule w z first (sym last)))
+
+-- a fork of a side consists of two windows with one label, which end with its nodes on this side and with one node on the other
+fork_windows : (side : Side) {r : LocalRule} → IsRule r → (s u v : ℕ) → Fork side r s u v → (w : ℕ) × (z : ℕ) × (w < r.states ^ r.width) × (z < r.states ^ r.width)
+    × (slice_index r.table w ≡ slice_index r.table z) × (end_node side r w ≡ u) × (end_node side r z ≡ v) × (end_node (other side) r w ≡ end_node (other side) r z)
+fork_windows Right {r} rule s u v fork =
+    let (a, b, in_a, in_b, one_label, to_u, to_v) = LeadTogether-one rule fork in
+    let node = (LeadTogether-first fork).0 in
+    (s * r.states + a, s * r.states + b, window_with-within Right rule s a node in_a, window_with-within Right rule s b node in_b, one_label, to_u, to_v, div-mul-add s r.states a in_a ∙ sym (div-mul-add s r.states b in_b))
+fork_windows Left {r} rule s u v fork =
+    let (a, b, in_a, in_b, one_label, to_s, also) = LeadTogether-one rule fork in
+    let (hu, hv) = LeadTogether-first fork in
+    (u * r.states + a, v * r.states + b, window_with-within Right rule u a hu in_a, window_with-within Right rule v b hv in_b, one_label, div-mul-add u r.states a in_a, div-mul-add v r.states b in_b, to_s ∙ sym also)
+
+-- a window consists of its node on the other side and its end letter
+window-end : (side : Side) {r : LocalRule} → IsRule r → (z : ℕ) → z < r.states ^ r.width → (end_letter side r z < r.states) × (window_with side r (end_node (other side) r z) (end_letter side r z) ≡ z)
+window-end Right {r} rule z below = (mod-lt z (some_letter rule), div-add-mod' z r.states)
+window-end Left {r} rule z below =
+    (div_below z (node_count r) r.states (node_count_pos rule) (subst (λ n. z < n) (windows-nodes rule ∙ mul_comm (node_count r) r.states) below), div-add-mod' z (node_count r))
 
 -- each first pair of a side has the ends of two windows that differ in one letter at the other side
 pub first_ends : (side : Side) {r : LocalRule} {p : ℕ} → IsRule r → IsFirstOf side r p → (w : ℕ) × (a : ℕ) × AreFirst side r w a × (p ≡ end_pair side r w a)
-first_ends Right {r} {p} rule f =
-    let k : ℕ = r.states in
-    let w : ℕ = f.node * k + f.a in
-    let node = div-mul-add f.node k f.a f.a_letter in
-    let other : with_end Right r w f.b ≡ f.node * k + f.b = ap (λ u. u * k + f.b) node in (
+first_ends side {r} {p} rule f =
+    let (s, fork, different) = fork_of side rule p f in
+    let (w, z, below_w, below_z, one_label, first, second, seam) = fork_windows side rule s _ _ fork in
+    let (letter, whole) = window-end side rule z below_z in
+    let same : with_end side r w (end_letter side r z) ≡ z = ap (λ u. window_with side r u (end_letter side r z)) seam ∙ whole in (
       w,
-      f.b,
+      end_letter side r z,
       record {
-        window = subst (λ n. w < n) (mul_comm k (node_count r) ∙ sym (windows-nodes rule)) (mul-add-lt f.node k f.a (node_count r) f.in_nodes f.a_letter);
-        letter = f.b_letter;
-        different = λ e. f.different (let same : f.node * k + f.a ≡ f.node * k + f.b = e ∙ other in omega arith);
-        one_label = f.one_label ∙ ap (slice_index r.table) (sym other);
+        window = below_w;
+        letter = letter;
+        different = λ e. different (sym first ∙ ap (end_node side r) (e ∙ same) ∙ second);
+        one_label = one_label ∙ ap (slice_index r.table) (sym same);
       },
-      f.pair ∙ ap (λ v. pair_of r (next r f.node f.a) (v % node_count r)) (sym other),
-    )
-first_ends Left {r} {p} rule f =
-    let k : ℕ = r.states in
-    let n : ℕ = node_count r in
-    let d : ℕ = rest_count r in
-    let u : ℕ = first_of r p in
-    let v : ℕ = second_of r p in
-    let some = rest_count_pos rule in
-    let hu = first_of-below rule p f.in_pairs in
-    let hv = second_of-below rule p in
-    let word : (c : ℕ) → c % d < d = λ c. mod-lt c some in
-    let one_rest = sym (value-word_of k (r.width - 2) (u % d) (word u))
-    ∙ ap (value k) (sym (node_parts rule u).1 ∙ f.same_rest ∙ (node_parts rule v).1)
-    ∙ value-word_of k (r.width - 2) (v % d) (word v) in
-    let split_v = div-add-mod' v d in
-    let w : ℕ = u * k + f.letter in
-    let a : ℕ = v / d in
-    let back = next-digits rule u f.letter f.in_letters in
-    let other : with_end Left r w a ≡ v * k + f.letter =
-    ap (λ x. a * n + x) (back ∙ ap (λ c. c * k + f.letter) one_rest) ∙ window_parts rule a (v % d) f.letter ∙ ap (λ c. c * k + f.letter) split_v in (
-      w,
-      a,
-      record {
-        window = subst (λ c. w < c) (mul_comm k n ∙ sym (windows-nodes rule)) (mul-add-lt u k f.letter n hu f.in_letters);
-        letter = div_below v d k some (subst (λ c. v < c) (node_count-rest rule ∙ mul_comm d k) hv);
-        different = λ e. f.different
-            (let same : u * k + f.letter ≡ v * k + f.letter = e ∙ other in
-            let nodes : u ≡ v = sym (div-mul-add u k f.letter f.in_letters) ∙ ap (λ c. c / k) same ∙ div-mul-add v k f.letter f.in_letters in
-            ap (λ c. node_letter r c 0) nodes);
-        one_label = f.one_label ∙ ap (slice_index r.table) (sym other);
-      },
-      sym (pair_of-first_of r p)
-          ∙ ap₂ (pair_of r) (sym (div-mul-add u k f.letter f.in_letters)) (sym (ap (λ c. c / k) other ∙ div-mul-add v k f.letter f.in_letters)),
+      sym (pair_of-first_of r p) ∙ ap₂ (pair_of r) (sym first) (sym (ap (end_node side r) same ∙ second)),
     )

@@ -8,9 +8,8 @@ pub mod Pairs
 pub mod BackSteps
 pub mod Claims
 pub mod Windows
-pub mod Aheads
 pub mod Mirrors
-pub mod LeftAheads
+pub mod Aheads
 pub mod Endless
 pub mod Decisions
 pub mod Evidence

@@ -1,10 +1,10 @@
--- The mirrored rule: words with one image read backwards, mirrored nodes, and left look-aheads said in words.
-use Rattle.std.proofs.Common.{◌≡◌, ℕ, ◌+◌, ◌-◌, ◌<◌, ◌≤◌, ◌↔◌, List, length, take, drop, reverse, slice_index, sym, ap, subst, subst₂, ◌∙◌, arith, length-drop, length-take-le}
-use Rattle.word_image.proofs.Common.{length-reverse, reverse-reverse, get_or-reverse, All-take, All-drop, LocalRule, IsRule, IsWord, value, word_of, node_count, mirrored, HaveOneImage, BeginTogether, EndTogether, Together, IsLeftAhead, length-word_of, IsWord-word_of, value-word_of, word_of-value, IsWord-reverse, image-mirrored, IsRule-mirrored, mirrored-mirrored, value-node, reverse-cut}
+-- The mirrored rule: words with one image read backwards, and mirrored nodes.
+use Rattle.std.proofs.Common.{◌≡◌, ℕ, ◌+◌, ◌-◌, ◌<◌, List, length, take, drop, reverse, sym, ap, subst, subst₂, ◌∙◌, arith, length-drop, length-take-le}
+use Rattle.word_image.proofs.Common.{length-reverse, reverse-reverse, All-take, All-drop, LocalRule, IsRule, IsWord, value, word_of, node_count, mirrored, HaveOneImage, EndTogether, Together, length-word_of, IsWord-word_of, value-word_of, word_of-value, IsWord-reverse, image-mirrored, IsRule-mirrored, mirrored-mirrored, value-node, reverse-cut}
 use Rattle.word_image.specs.declared.side.Side.{Side}
 use Rattle.word_image.specs.declared.side.Side.TheVariants.{Right, Left}
 use Rattle.pair_laws.proofs.Walks.{LeadTogether}
-use Rattle.pair_laws.proofs.Ranks.{LeadTogether-begin, LeadTogether-end, BeginTogether-walk, EndTogether-walk, BeginTogether-same}
+use Rattle.pair_laws.proofs.Ranks.{LeadTogether-end, BeginTogether-walk, BeginTogether-same}
 
 -- words with one image, read backwards, have one under the mirrored rule
 pub HaveOneImage-reverse : {r : LocalRule} {n : ℕ} {x y : List ℕ} → IsRule r → HaveOneImage r n x y → HaveOneImage (mirrored r) n (reverse x) (reverse y)
@@ -53,7 +53,7 @@ value-drop_reverse r n x h e =
     ∙ value-reverse r (take (r.width - 1) x) (All-take (λ a. a < r.states) (r.width - 1) x h) (length-take-le (r.width - 1) x (omega arith))
 
 -- a walk read backwards leads back under the mirrored rule, from the mirrored nodes to the mirrored nodes
-LeadTogether-mirrored : {r : LocalRule} {u v s t n : ℕ} → IsRule r → LeadTogether r u v n s t → LeadTogether (mirrored r) (mirror_node r s) (mirror_node r t) n (mirror_node r u) (mirror_node r v)
+pub LeadTogether-mirrored : {r : LocalRule} {u v s t n : ℕ} → IsRule r → LeadTogether r u v n s t → LeadTogether (mirrored r) (mirror_node r s) (mirror_node r t) n (mirror_node r u) (mirror_node r v)
 LeadTogether-mirrored {r} {n = n} rule h =
     record {
       x = reverse h.x;
@@ -65,42 +65,15 @@ LeadTogether-mirrored {r} {n = n} rule h =
       second_last = value-drop_reverse r n h.y h.one_image.second h.one_image.second_long ∙ ap (mirror_node r) h.second;
     }
 
--- two nodes end together exactly where the mirrored ones begin together under the mirrored rule
-pub EndTogether-is_mirrored : {r : LocalRule} → IsRule r → (u v n : ℕ) → u < node_count r → v < node_count r
-    → EndTogether r u v n ↔ BeginTogether (mirrored r) (mirror_node r u) (mirror_node r v) n
-EndTogether-is_mirrored {r} rule u v n hu hv = (
-  (λ h. LeadTogether-begin (LeadTogether-mirrored rule (EndTogether-walk h).2)),
-  (λ h. subst (λ (s : LocalRule). EndTogether s u v n) (mirrored-mirrored rule)
-      (subst₂ (λ (s t : ℕ). EndTogether (mirrored (mirrored r)) s t n) (mirror_node-mirror_node r u hu) (mirror_node-mirror_node r v hv) (LeadTogether-end (LeadTogether-mirrored (IsRule-mirrored rule) (BeginTogether-walk h).2)))),
-)
+-- a walk under the mirrored rule, read backwards, is one under the rule
+pub LeadTogether-unmirrored : {r : LocalRule} {u v s t n : ℕ} → IsRule r → LeadTogether (mirrored r) u v n s t → LeadTogether r (mirror_node r s) (mirror_node r t) n (mirror_node r u) (mirror_node r v)
+LeadTogether-unmirrored {r} {u} {v} {s} {t} {n} rule h =
+    subst (λ (q : LocalRule). LeadTogether q (mirror_node r s) (mirror_node r t) n (mirror_node r u) (mirror_node r v)) (mirrored-mirrored rule) (LeadTogether-mirrored (IsRule-mirrored rule) h)
 
 -- a node goes on together with itself for every n
 pub Together-same : (side : Side) {r : LocalRule} → IsRule r → (n u : ℕ) → u < node_count r → Together side r u u n
 Together-same Right rule n u h = BeginTogether-same rule n u h
-Together-same Left {r} rule n u h = (EndTogether-is_mirrored rule u u n h h).1 (BeginTogether-same (IsRule-mirrored rule) n (mirror_node r u) (mirror_node-below r u h))
-
--- a rule looks ahead to the left for n exactly where n letters of the image and the last m - 1 determine the letter before them
-pub IsLeftAhead-words : {r : LocalRule} → IsRule r → (n : ℕ)
-    → IsLeftAhead r n ↔ ((1 ≤ n) × ((x y : List ℕ) → HaveOneImage r n x y → drop n x ≡ drop n y → slice_index x (n - 1) ≡ slice_index y (n - 1)))
-IsLeftAhead-words {r} rule n = (
-  (λ ahead. (
-    ahead.some,
-    (λ x y h same.
-        let some : 1 ≤ n = ahead.some in
-        let place : length x - 1 - (r.width - 1) ≡ n - 1 = omega arith in
-        let place_y : length y - 1 - (r.width - 1) ≡ n - 1 = omega arith in
-        ap (slice_index x) (sym place) ∙ sym (get_or-reverse x (r.width - 1) 0 (omega arith))
-        ∙ ahead.letter (reverse x) (reverse y) (HaveOneImage-reverse rule h)
-        ((reverse-cut n (r.width - 1) x h.first_long).0 ∙ ap reverse same ∙ sym (reverse-cut n (r.width - 1) y h.second_long).0)
-        ∙ get_or-reverse y (r.width - 1) 0 (omega arith) ∙ ap (slice_index y) place_y),
-  )),
-  (λ words. record {
-    some = words.0;
-    letter = λ x y h same.
-        let back : HaveOneImage r n (reverse x) (reverse y) = subst (λ (s : LocalRule). HaveOneImage s n (reverse x) (reverse y)) (mirrored-mirrored rule) (HaveOneImage-reverse (IsRule-mirrored rule) h) in
-        ap (slice_index x) (sym (omega arith)) ∙ sym (get_or-reverse x (n - 1) 0 (omega arith))
-        ∙ words.1 (reverse x) (reverse y) back
-        ((reverse-cut (r.width - 1) n x (omega arith)).1 ∙ ap reverse same ∙ sym (reverse-cut (r.width - 1) n y (omega arith)).1)
-        ∙ get_or-reverse y (n - 1) 0 (omega arith) ∙ ap (slice_index y) (omega arith);
-  }),
-)
+Together-same Left {r} rule n u h =
+    let back = LeadTogether-end (LeadTogether-unmirrored rule (BeginTogether-walk (BeginTogether-same (IsRule-mirrored rule) n (mirror_node r u) (mirror_node-below r u h))).2) in
+    let same = mirror_node-mirror_node r u h in
+    subst₂ (λ (s t : ℕ). EndTogether r s t n) same same back

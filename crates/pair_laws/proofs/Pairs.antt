@@ -1,9 +1,10 @@
 -- Pairs of nodes by their numbers: how walks, and so the lengths for which a pair begins and ends together, go along `follow`.
 use Rattle.std.proofs.Common.{◌≡◌, ℕ, ◌+◌, ◌<◌, ◌≤◌, ◌↔◌, Some, None, sym, ap, ap₂, subst, subst₂, ◌∙◌, ⊎_elim, arith, mod-lt, ◌*◌, ◌%◌, ◌==◌, if◌then◌else◌, ◌||◌, not, nat_le, eq-eqb, ne_eqb, div-add-mod'}
-use Rattle.word_image.proofs.Common.{cases_eq, cond-true, cond-false, nat_tests, mul-add-lt, div_below, div-mul-add, mod-mul-add, LocalRule, IsRule, node_count, next, label, follow, pair_of, first_of, second_of, pair_count, LeadsOn, marked, Together, PairGoes, node_count_pos, next-below}
+use Rattle.word_image.proofs.Common.{cases_eq, cond-true, cond-false, nat_tests, mul-add-lt, div_below, div-mul-add, mod-mul-add, LocalRule, IsRule, node_count, next, label, follow, pair_of, first_of, second_of, pair_count, LeadsOn, PairStep, marked, Together, PairGoes, node_count_pos, next-below}
 use Rattle.word_image.specs.declared.side.Side.{Side}
 use Rattle.word_image.specs.declared.side.Side.TheVariants.{Right, Left}
-use Rattle.pair_laws.proofs.Ranks.{Together-below, Together-less, BeginTogether-step, BeginTogether-push, EndTogether-step, EndTogether-push}
+use Rattle.pair_laws.proofs.Walks.{LeadTogether, LeadTogether-join, LeadTogether-cut, LeadTogether-first, LeadTogether-last, LeadTogether-edges, LeadTogether-one}
+use Rattle.pair_laws.proofs.Ranks.{LeadTogether-begin, LeadTogether-end, BeginTogether-walk, EndTogether-walk, Together-less}
 
 -- the first node of the pair of two nodes
 pub first_of-pair_of : (r : LocalRule) (u v : ℕ) → v < node_count r → first_of r (pair_of r u v) ≡ u
@@ -92,42 +93,44 @@ PairGoes-pair_of side r u v n h =
 pub PairGoes-less : (side : Side) {r : LocalRule} → IsRule r → (p i n : ℕ) → i ≤ n → PairGoes side r p n → PairGoes side r p i
 PairGoes-less side {r} rule p i n l h = Together-less side rule (first_of r p) (second_of r p) i n l h
 
+-- two edges with one label are a step from pair to pair
+pub LeadTogether-pairs : {r : LocalRule} {u v s t : ℕ} → IsRule r → LeadTogether r u v 1 s t → PairStep r (pair_of r u v) (pair_of r s t)
+LeadTogether-pairs {r} {u} {v} rule h =
+    let (hu, hv) = LeadTogether-first h in
+    let (a, b, in_a, in_b, one_label, to_s, to_t) = LeadTogether-one rule h in
+    record {
+      a = a;
+      b = b;
+      in_pairs = pair_of-below r u v hu hv;
+      a_letter = in_a;
+      b_letter = in_b;
+      follows = follow-pair_of r u v a b hv one_label ∙ ap₂ (λ (x y : ℕ). Some (pair_of r x y)) to_s to_t;
+    }
+
+-- a step from pair to pair is two edges with one label
+pub PairStep-walk : {r : LocalRule} {p q : ℕ} → IsRule r → PairStep r p q → LeadTogether r (first_of r p) (second_of r p) 1 (first_of r q) (second_of r q)
+PairStep-walk {r} {p} {q} rule s =
+    let (one_label, pair) = follow-some r p s.a s.b q s.follows in
+    let inside = next-below rule (second_of r p) s.b in
+    let edges = LeadTogether-edges rule (first_of r p) (second_of r p) s.a s.b (first_of-below rule p s.in_pairs) (second_of-below rule p) s.a_letter s.b_letter one_label in
+    subst₂ (LeadTogether r (first_of r p) (second_of r p) 1) (sym (first_of-pair_of r _ _ inside) ∙ ap (first_of r) pair) (sym (second_of-pair_of r _ _ inside) ∙ ap (second_of r) pair) edges
+
 -- a pair that goes on for one more leads on to one that goes on
 pub PairGoes-step : (side : Side) {r : LocalRule} → IsRule r → (p j n : ℕ) → j + 1 ≡ n → PairGoes side r p n → (q : ℕ) × LeadsOn side r p q × PairGoes side r q j
 PairGoes-step Right {r} rule p j n e h =
-    let (a, b, in_a, in_b, one_label, rest) = BeginTogether-step {j = j} rule (omega arith) h in
-    let u : ℕ = next r (first_of r p) a in
-    let v : ℕ = next r (second_of r p) b in (
-      pair_of r u v,
-      record { a = a; b = b; in_pairs = pair-below rule p (Together-below Right r _ _ _ h).0; a_letter = in_a; b_letter = in_b; follows = follow-edges r p a b one_label },
-      (PairGoes-pair_of Right r u v j (next-below rule (second_of r p) b)).1 rest,
+    let (s, t, step, rest) = LeadTogether-cut rule 1 j (omega arith) (BeginTogether-walk h).2 in (
+      pair_of r s t,
+      subst (λ q. PairStep r q (pair_of r s t)) (pair_of-first_of r p) (LeadTogether-pairs rule step),
+      (PairGoes-pair_of Right r s t j (LeadTogether-first rest).1).1 (LeadTogether-begin rest),
     )
 PairGoes-step Left {r} rule p j n e h =
-    let (u, v, a, b, in_a, in_b, rest, one_label, at_u, at_v) = EndTogether-step {j = j} rule e h in
-    let nodes = Together-below Left r u v j rest in (
-      pair_of r u v,
-      record {
-        a = a;
-        b = b;
-        in_pairs = pair_of-below r u v nodes.0 nodes.1;
-        a_letter = in_a;
-        b_letter = in_b;
-        follows = follow-pair_of r u v a b nodes.1 one_label ∙ ap₂ (λ (s t : ℕ). Some (pair_of r s t)) at_u at_v ∙ ap (λ s. Some s) (pair_of-first_of r p);
-      },
-      (PairGoes-pair_of Left r u v j nodes.1).1 rest,
+    let (s, t, rest, step) = LeadTogether-cut rule j 1 e (EndTogether-walk h).2 in (
+      pair_of r s t,
+      subst (PairStep r (pair_of r s t)) (pair_of-first_of r p) (LeadTogether-pairs rule step),
+      (PairGoes-pair_of Left r s t j (LeadTogether-last rest).1).1 (LeadTogether-end rest),
     )
 
 -- a pair that leads on to one that goes on does for one more
 pub PairGoes-push : (side : Side) {r : LocalRule} → IsRule r → (p q j n : ℕ) → j + 1 ≡ n → LeadsOn side r p q → PairGoes side r q j → PairGoes side r p n
-PairGoes-push Right {r} rule p q j n e s h =
-    let u : ℕ = next r (first_of r p) s.a in
-    let v : ℕ = next r (second_of r p) s.b in
-    let edges = follow-some r p s.a s.b q s.follows in
-    BeginTogether-push {j = j} rule (omega arith) (first_of r p) (second_of r p) s.a s.b (first_of-below rule p s.in_pairs) (second_of-below rule p) s.a_letter s.b_letter edges.0
-    ((PairGoes-pair_of Right r u v j (next-below rule (second_of r p) s.b)).0 (subst (λ (t : ℕ). PairGoes Right r t j) (sym edges.1) h))
-PairGoes-push Left {r} rule p q j n e s h =
-    let u : ℕ = next r (first_of r q) s.a in
-    let v : ℕ = next r (second_of r q) s.b in
-    let edges = follow-some r q s.a s.b p s.follows in
-    subst (λ (t : ℕ). PairGoes Left r t n) edges.1
-    ((PairGoes-pair_of Left r u v n (next-below rule (second_of r q) s.b)).1 (EndTogether-push {j = j} rule e s.a s.b s.a_letter s.b_letter edges.0 h))
+PairGoes-push Right rule p q j n e s h = LeadTogether-begin (LeadTogether-join {i = 1} {j = j} {n = n} rule (omega arith) (PairStep-walk rule s) (BeginTogether-walk h).2)
+PairGoes-push Left rule p q j n e s h = LeadTogether-end (LeadTogether-join {i = j} {j = 1} {n = n} rule e (EndTogether-walk h).2 (PairStep-walk rule s))

@@ -1,9 +1,9 @@
 -- How far two nodes lead, or have been led, with equal labels: step by step.
-use Rattle.std.proofs.Common.{◌≡◌, ℕ, zero, suc, ◌+◌, ◌-◌, ◌<◌, ◌≤◌, refl, arith}
-use Rattle.word_image.proofs.Common.{LocalRule, IsRule, node_count, next, label, BeginTogether, EndTogether, IsRank, Together, next-below}
+use Rattle.std.proofs.Common.{◌≡◌, ℕ, zero, suc, ◌-◌, ◌<◌, ◌≤◌, refl, arith}
+use Rattle.word_image.proofs.Common.{LocalRule, IsRule, node_count, next, BeginTogether, EndTogether, IsRank, Together, next-below}
 use Rattle.word_image.specs.declared.side.Side.{Side}
 use Rattle.word_image.specs.declared.side.Side.TheVariants.{Right, Left}
-use Rattle.pair_laws.proofs.Walks.{LeadTogether, LeadTogether-join, LeadTogether-cut, LeadTogether-first, LeadTogether-last, LeadTogether-none, LeadTogether-push, LeadTogether-edges, LeadTogether-one}
+use Rattle.pair_laws.proofs.Walks.{LeadTogether, LeadTogether-join, LeadTogether-cut, LeadTogether-first, LeadTogether-last, LeadTogether-none, LeadTogether-edges}
 
 -- two nodes from which a walk of n steps leads begin together for n
 pub LeadTogether-begin : {r : LocalRule} {u v s t n : ℕ} → LeadTogether r u v n s t → BeginTogether r u v n
@@ -40,36 +40,9 @@ Together-less Left rule u v i n l h = LeadTogether-end (LeadTogether-cut rule (n
 pub IsRank-one : (P : ℕ → Type 0) → ((i n : ℕ) → i ≤ n → P n → P i) → (m n : ℕ) → IsRank P m → IsRank P n → m ≡ n
 IsRank-one P less m n first second = grind (arith)
 
--- two nodes that begin together for one more lead along edges with one label to two that begin together
-pub BeginTogether-step : {r : LocalRule} {u v n j : ℕ} → IsRule r → 1 + j ≡ n → BeginTogether r u v n
-    → (a : ℕ) × (b : ℕ) × (a < r.states) × (b < r.states) × (label r u a ≡ label r v b) × BeginTogether r (next r u a) (next r v b) j
-BeginTogether-step {j = j} rule e h =
-    let cut = LeadTogether-cut rule 1 j e (BeginTogether-walk h).2 in
-    let edges = LeadTogether-one rule cut.2 in
-    (edges.0, edges.1, edges.2, edges.3, edges.4, rw (edges.5, edges.6) (LeadTogether-begin cut.3))
-
--- two nodes that lead so begin together for one more
-pub BeginTogether-push : {r : LocalRule} {n j : ℕ} → IsRule r → 1 + j ≡ n → (u v a b : ℕ) → u < node_count r → v < node_count r → a < r.states → b < r.states
-    → label r u a ≡ label r v b → BeginTogether r (next r u a) (next r v b) j → BeginTogether r u v n
-BeginTogether-push rule e u v a b hu hv ha hb l h = LeadTogether-begin (LeadTogether-join rule e (LeadTogether-edges rule u v a b hu hv ha hb l) (BeginTogether-walk h).2)
-
--- two nodes that end together for one more are led to along edges with one label by two that end together
-pub EndTogether-step : {r : LocalRule} {s t n j : ℕ} → IsRule r → j + 1 ≡ n → EndTogether r s t n
-    → (u : ℕ) × (v : ℕ) × (a : ℕ) × (b : ℕ) × (a < r.states) × (b < r.states) × EndTogether r u v j × (label r u a ≡ label r v b) × (next r u a ≡ s) × (next r v b ≡ t)
-EndTogether-step {j = j} rule e h =
-    let cut = LeadTogether-cut rule j 1 e (EndTogether-walk h).2 in
-    let edges = LeadTogether-one rule cut.3 in
-    (cut.0, cut.1, edges.0, edges.1, edges.2, edges.3, LeadTogether-end cut.2, edges.4, edges.5, edges.6)
-
--- two nodes that are led to so end together for one more
-pub EndTogether-push : {r : LocalRule} {u v n j : ℕ} → IsRule r → j + 1 ≡ n → (a b : ℕ) → a < r.states → b < r.states
-    → label r u a ≡ label r v b → EndTogether r u v j → EndTogether r (next r u a) (next r v b) n
-EndTogether-push {u = u} {v = v} rule e a b ha hb l h =
-    LeadTogether-end (LeadTogether-push rule e (EndTogether-walk h).2 a b ha hb l)
-
 -- a node begins together with itself for every n
 pub BeginTogether-same : {r : LocalRule} → IsRule r → (n u : ℕ) → u < node_count r → BeginTogether r u u n
 BeginTogether-same {r} rule zero u h = Together-zero Right r u u h h
 BeginTogether-same {r} rule (suc n) u h =
     let some : 0 < r.states = let least : 2 ≤ r.states = rule.shape.least_states in omega arith in
-    BeginTogether-push rule (omega arith) u u 0 0 h h some some refl (BeginTogether-same rule n (next r u 0) (next-below rule u 0))
+    LeadTogether-begin (LeadTogether-join {i = 1} {j = n} rule (omega arith) (LeadTogether-edges rule u u 0 0 h h some some refl) (BeginTogether-walk (BeginTogether-same rule n (next r u 0) (next-below rule u 0))).2)

@@ -1,6 +1,6 @@
 -- Determined windows by pairs of nodes: no two that differ at a letter end together for what is before it and begin together for what is behind.
 use Rattle.std.proofs.Common.{◌≡◌, ◌≢◌, ℕ, ◌+◌, ◌-◌, ◌<◌, ◌≤◌, ◌↔◌, min, List, ◌++◌, length, take, drop, get_or, slice_index, refl, subst₂, sym, ap, ap₂, ◌∙◌, ⊎_elim, arith, length-drop, length-take-le, get_or-take, get_or-drop}
-use Rattle.word_image.proofs.Common.{cases_eq, All-take, All-drop, LocalRule, IsRule, IsWord, value, word_of, node_count, HaveOneImage, IsDetermined, first_of, second_of, pair_of, pair_count, node_letter, BeginTogether, EndTogether, word_of-value}
+use Rattle.word_image.proofs.Common.{cases_eq, All-take, All-drop, LocalRule, IsRule, IsWord, value, word_of, HaveOneImage, IsDetermined, first_of, second_of, pair_of, pair_count, node_letter, BeginTogether, EndTogether, word_of-value}
 use Rattle.word_image.specs.declared.side.Side.TheVariants.{Right}
 use Rattle.pair_laws.proofs.Joins.{drop-join, same_node, HaveOneImage-drop, HaveOneImage-join}
 use Rattle.pair_laws.proofs.Walks.{HaveOneImage-between}
@@ -63,31 +63,24 @@ IsApart-determined {r} {n} {c} rule h u v different ends begins =
     let second : node_letter r v (c - min c n) ≡ slice_index m.y (min c n + (c - min c n)) = node_letter-at r v (min c n) (c - min c n) m.y m.one_image.second (omega arith) m.second (omega arith) in
     different (first ∙ ap (slice_index m.x) place ∙ h.letter m.x m.y m.one_image ∙ sym (second ∙ ap (slice_index m.y) place))
 
--- where no two nodes do, the window is determined
-pub IsDetermined-apart : {r : LocalRule} {n c : ℕ} → IsRule r → 1 ≤ n → c ≤ n + r.width - 2 → ((u v : ℕ) → u < node_count r → v < node_count r → IsApart r n c u v)
-    → IsDetermined r n c
-IsDetermined-apart {r} {n} {c} rule some inside apart =
-    record {
-      some = some;
-      inside = inside;
-      letter = λ x y h.
-          let place : min c n + (c - min c n) ≡ c = omega arith in
-          let begins = HaveOneImage-begin (min c n) (n - min c n) n (omega arith) h in
-          let nodes = Together-below Right _ _ _ _ begins in
-          let first = node_letter-at r _ (min c n) (c - min c n) x h.first (omega arith) refl (omega arith) in
-          let second = node_letter-at r _ (min c n) (c - min c n) y h.second (omega arith) refl (omega arith) in
-          ⊎_elim (λ same. same)
-          (λ other. absurd (apart _ _ nodes.0 nodes.1
-          (λ same. other (sym (first ∙ ap (slice_index x) place) ∙ same ∙ second ∙ ap (slice_index y) place))
-          (HaveOneImage-end rule (min c n) (n - min c n) n (omega arith) h) begins))
-          (cases_eq (slice_index x c) (slice_index y c));
-    }
-
 -- a window is determined exactly where no pair does
 pub IsDetermined-pairs : {r : LocalRule} → IsRule r → (n c : ℕ)
     → IsDetermined r n c ↔ ((1 ≤ n) × (c ≤ n + r.width - 2) × ((p : ℕ) → p < pair_count r → IsApart r n c (first_of r p) (second_of r p)))
 IsDetermined-pairs {r} rule n c = (
   (λ h. (h.some, h.inside, (λ p l. IsApart-determined rule h (first_of r p) (second_of r p)))),
-  (λ h. IsDetermined-apart rule h.0 h.1 (λ u v hu hv.
-      subst₂ (λ (s t : ℕ). IsApart r n c s t) (first_of-pair_of r u v hv) (second_of-pair_of r u v hv) (h.2 (pair_of r u v) (pair_of-below r u v hu hv)))),
+  (λ (some, inside, apart). record {
+    some = some;
+    inside = inside;
+    letter = λ x y h.
+        let i : ℕ = min c n in
+        let place : i + (c - i) ≡ c = omega arith in
+        let begins = HaveOneImage-begin i (n - i) n (omega arith) h in
+        let (hu, hv) = Together-below Right _ _ _ _ begins in
+        let first = node_letter-at r _ i (c - i) x h.first (omega arith) refl (omega arith) ∙ ap (slice_index x) place in
+        let second = node_letter-at r _ i (c - i) y h.second (omega arith) refl (omega arith) ∙ ap (slice_index y) place in
+        let nodes = subst₂ (λ (s t : ℕ). IsApart r n c s t) (first_of-pair_of r _ _ hv) (second_of-pair_of r _ _ hv) (apart (pair_of r _ _) (pair_of-below r _ _ hu hv)) in
+        ⊎_elim (λ same. same)
+        (λ other. absurd (nodes (λ same. other (sym first ∙ same ∙ second)) (HaveOneImage-end rule i (n - i) n (omega arith) h) begins))
+        (cases_eq (slice_index x c) (slice_index y c));
+  }),
 )

@@ -1,27 +1,21 @@
 -- A finite rank is less than the number of pairs of two different nodes, taken without order: each lesser number is a rank too, two nodes have one rank in either order, and a node is endless with itself.
 use Rattle.std.proofs.Common.{◌≡◌, ℕ, zero, suc, ◌+◌, ◌-◌, ◌*◌, ◌<◌, ◌≤◌, ◌⊎◌, inl, inr, Option, Some, None, List, refl, sym, ap, subst, subst₂, arith, ⊎_elim, MatchOption, IfSome, mul-le-mul_right}
-use Rattle.word_image.proofs.Common.{cases_eq, cases_lt, same_from_place, LocalRule, IsRule, node_count, pair_of, pair_count, IsRank, IsEndless, twice_below, Together, HaveOneImage}
-use Rattle.pair_laws.proofs.Common.{pair_of-below, IsRank-one, Together-below, Together-less}
+use Rattle.word_image.proofs.Common.{cases_eq, cases_lt, same_from_place, LocalRule, IsRule, node_count, first_of, second_of, pair_of, pair_count, PairGoes, IsRank, IsEndless, twice_below, Together, HaveOneImage}
+use Rattle.pair_laws.proofs.Common.{pair_of-below, IsRank-one, PairGoes-pair_of, PairGoes-push, PairGoes-step, Together-below, Together-less}
 use Rattle.word_image.specs.declared.side.Side.{Side}
 use Rattle.word_image.specs.declared.side.Side.TheVariants.{Right, Left}
 use Rattle.pair_laws.proofs.Mirrors.{Together-same}
 use Rattle.pair_rank.specs.Sides.{AreRanks, rank_at, most_rank}
-use Rattle.pair_rank.proofs.Sides.{Together-step}
 
--- there are two nodes of each rank up to that of any two
-lesser_rank : (side : Side) {r : LocalRule} → IsRule r → (n u v : ℕ) → IsRank (Together side r u v) n → (i : ℕ) → i ≤ n
-    → (s : ℕ) × (t : ℕ) × IsRank (Together side r s t) i
-lesser_rank side {r} rule zero u v rank i l = (u, v, let same : 0 ≡ i = omega arith in subst (IsRank (Together side r u v)) same rank)
-lesser_rank side {r} rule (suc n) u v rank i l =
+-- there is a pair of each rank up to that of any pair
+lesser_rank : (side : Side) {r : LocalRule} → IsRule r → (n p : ℕ) → IsRank (PairGoes side r p) n → (i : ℕ) → i ≤ n → (q : ℕ) × IsRank (PairGoes side r q) i
+lesser_rank side {r} rule zero p rank i l = (p, let same : 0 ≡ i = omega arith in subst (IsRank (PairGoes side r p)) same rank)
+lesser_rank side {r} rule (suc n) p rank i l =
     ⊎_elim
-    (λ same. (u, v, subst (IsRank (Together side r u v)) (sym same) rank))
+    (λ same. (p, subst (IsRank (PairGoes side r p)) (sym same) rank))
     (λ other.
-    let on = Together-step side rule u v n (Together-less side rule u v (n + 1) (suc n) (omega arith) rank.holds) in
-    lesser_rank side rule n on.s on.t (record {
-      holds = on.pair;
-      no_more = λ more. rank.no_more (Together-less side rule u v (suc n + 1) (n + 1 + 1) (omega arith)
-          (on.back (n + 1) more));
-    }) i (omega (arith, other)))
+    let (q, step, goes) = PairGoes-step side rule p n (suc n) (omega arith) rank.holds in
+    lesser_rank side rule n q (record { holds = goes; no_more = λ more. rank.no_more (PairGoes-push side rule p q (n + 1) (suc n + 1) (omega arith) step more) }) i (omega (arith, other)))
     (cases_eq i (suc n))
 
 -- two words that have one image have it in the other order too
@@ -55,16 +49,22 @@ ordered side {r} rule u v i rank =
     (cases_eq u v))
     (cases_lt u v)
 
--- two nodes of each rank up to n, the lesser first, then again the lesser last, and then each node with itself
+-- two nodes have number i among those of each rank up to n: first the lesser first, then the lesser last, and then each node with itself
+abbrev Kind : Side → LocalRule → ℕ → ℕ → ℕ → ℕ → Type 0
+Kind side r n u v i =
+    ((i ≤ n) × (u < v) × IsRank (Together side r u v) i)
+    ⊎ (((n < i) × (v < u) × IsRank (Together side r u v) (i - suc n)) ⊎ ((n + suc n < i) × (u ≡ i - (suc n + suc n)) × (v ≡ u)))
+
 record Listed (side : Side) (r : LocalRule) (n i : ℕ) : Type 0 where
   u : ℕ
   v : ℕ
-  kind : ((i ≤ n) × (u < v) × IsRank (Together side r u v) i)
-      ⊎ (((n < i) × (v < u) × IsRank (Together side r u v) (i - suc n)) ⊎ ((n + suc n < i) × (u ≡ i - (suc n + suc n)) × (v ≡ u)))
+  kind : Kind side r n u v i
 
 listed : (side : Side) {r : LocalRule} → IsRule r → (n u v : ℕ) → IsRank (Together side r u v) n → (i : ℕ) → Listed side r n i
 listed side {r} rule n u v rank i =
-    let at : (j : ℕ) → j ≤ n → Ordered side r j = λ j l. let (s, t, of_rank) = lesser_rank side rule n u v rank j l in ordered side rule s t j of_rank in
+    let same = λ (m : ℕ). PairGoes-pair_of side r u v m (Together-below side r u v n rank.holds).1 in
+    let pair : IsRank (PairGoes side r (pair_of r u v)) n = record { holds = (same n).1 rank.holds; no_more = λ more. rank.no_more ((same (n + 1)).0 more) } in
+    let at : (j : ℕ) → j ≤ n → Ordered side r j = λ j l. let (q, of_rank) = lesser_rank side rule n (pair_of r u v) pair j l in ordered side rule (first_of r q) (second_of r q) j of_rank in
     ⊎_elim
     (λ later. ⊎_elim
     (λ last. record { u = i - (suc n + suc n); v = i - (suc n + suc n); kind = inr (inr (last, refl, refl)) })
@@ -82,34 +82,17 @@ listed-below side {r} {n} {i} within l =
     (λ more. ⊎_elim (λ k. Together-below side r l.u l.v (i - suc n) k.2.holds) (λ k. (omega (arith, within, k.0, k.1), omega (arith, within, k.0, k.1, k.2))) more)
     l.kind
 
--- two nodes have one rank
-rank_once : (side : Side) {r : LocalRule} → IsRule r → {u v s t : ℕ} → u ≡ s → v ≡ t → (i j : ℕ) → IsRank (Together side r u v) i → IsRank (Together side r s t) j → i ≡ j
-rank_once side {r} rule {s = s} {t = t} first second i j one other =
-    IsRank-one (Together side r s t) (Together-less side rule s t) i j (subst₂ (λ (x y : ℕ). IsRank (Together side r x y) i) first second one) other
-
--- no two of the listed nodes are listed twice
-listed-apart : (side : Side) {r : LocalRule} {n i j : ℕ} → IsRule r → i < j
-    → (l : Listed side r n i) → (m : Listed side r n j) → l.u ≡ m.u → l.v ≡ m.v → ⊥
-listed-apart side {r} {n} {i} {j} rule less l m first second =
-    ⊎_elim
-    (λ k. ⊎_elim
-    (λ k'. omega (arith, less, rank_once side rule first second i j k.2 k'.2))
-    (λ more. ⊎_elim (λ k'. omega (arith, k.1, k'.1, first, second)) (λ k'. omega (arith, k.1, k'.2, first, second)) more)
-    m.kind)
-    (λ more. ⊎_elim
-    (λ k. ⊎_elim
-    (λ k'. omega (arith, less, k.0, k'.0))
-    (λ more'. ⊎_elim
-    (λ k'. omega (arith, less, k.0, k'.0, rank_once side rule first second (i - suc n) (j - suc n) k.2 k'.2))
-    (λ k'. omega (arith, k.1, k'.2, first, second))
-    more')
-    m.kind)
-    (λ k. ⊎_elim
-    (λ k'. omega (arith, less, k.0, k'.0))
-    (λ more'. ⊎_elim (λ k'. omega (arith, k.2, k'.1, first, second)) (λ k'. omega (arith, less, k.0, k.1, k'.0, k'.1, first)) more')
-    m.kind)
-    more)
-    l.kind
+-- two nodes have one number
+kind_once : (side : Side) {r : LocalRule} → IsRule r → (n u v i j : ℕ) → Kind side r n u v i → Kind side r n u v j → i ≡ j
+kind_once side {r} rule n u v i j (inl k) (inl m) = IsRank-one (Together side r u v) (Together-less side rule u v) i j k.2 m.2
+kind_once side rule n u v i j (inl k) (inr (inl m)) = omega arith
+kind_once side rule n u v i j (inl k) (inr (inr m)) = omega arith
+kind_once side rule n u v i j (inr (inl k)) (inl m) = omega arith
+kind_once side {r} rule n u v i j (inr (inl k)) (inr (inl m)) = omega (arith, IsRank-one (Together side r u v) (Together-less side rule u v) (i - suc n) (j - suc n) k.2 m.2)
+kind_once side rule n u v i j (inr (inl k)) (inr (inr m)) = omega arith
+kind_once side rule n u v i j (inr (inr k)) (inl m) = omega arith
+kind_once side rule n u v i j (inr (inr k)) (inr (inl m)) = omega arith
+kind_once side rule n u v i j (inr (inr k)) (inr (inr m)) = omega arith
 
 -- there are more ordered pairs of different nodes than twice as many as a rank says
 pub IsRank-apart : (side : Side) {r : LocalRule} → IsRule r → (u v n : ℕ) → IsRank (Together side r u v) n → 2 * (n + 1) + node_count r ≤ pair_count r
@@ -125,7 +108,8 @@ IsRank-apart side {r} rule u v n rank =
     let less : i < j = twice.2 in
     let within : j ≤ pair_count r = twice.3 in
     let same = same_from_place (at i).u (at i).v (at j).u (at j).v (node_count r) (nodes i (omega (arith, less, within))).1 (nodes j within).1 twice.4 in
-    absurd (listed-apart side rule less (at i) (at j) same.0 same.1))
+    let one = kind_once side rule n (at i).u (at i).v i j (at i).kind (subst₂ (λ (x y : ℕ). Kind side r n x y j) (sym same.0) (sym same.1) (at j).kind) in
+    absurd (omega (arith, one, less)))
     (λ few. omega (arith, few))
     (cases_lt (pair_count r) (2 * (n + 1) + node_count r))
 

@@ -1,12 +1,11 @@
 -- What walks by fixed letters show of each rule that has these letters.
-use Rattle.std.proofs.Common.{◌≡◌, ◌≢◌, ℕ, zero, suc, ◌+◌, ◌*◌, ◌/◌, ◌%◌, ◌<◌, ◌^◌, List, slice_index, refl, sym, ap, ap₂, ◌∙◌, subst, arith, mul_comm}
-use Rattle.std.proofs.lemmas.Nat.{div-add-mod'}
-use Rattle.word_image.proofs.Common.{div-mul-add, div_below, LocalRule, IsRule, node_count, window_with, next, pair_of, first_of, second_of, pair_count, PairStep, LeadsOn, PairGoes, IsFirstOfLeft, IsFirstOf, window_with-within, windows-nodes, next-below, node_count_pos}
+use Rattle.std.proofs.Common.{◌≡◌, ◌≢◌, ℕ, zero, suc, ◌+◌, ◌<◌, List, refl, subst, arith}
+use Rattle.word_image.proofs.Common.{LocalRule, IsRule, first_of, second_of, pair_count, PairStep, LeadsOn, PairGoes, IsFirstOf}
 use Rattle.word_image.specs.Sides.{other}
 use Rattle.word_image.specs.Ranks.{IsEndless}
 use Rattle.word_image.specs.declared.side.Side.{Side}
 use Rattle.word_image.specs.declared.side.Side.TheVariants.{Right, Left}
-use Rattle.pair_laws.proofs.Common.{first_of-below, second_of-below, first_of-pair_of, second_of-pair_of, pair_of-first_of, follow-some, with_end, IsFirst-ends, PairGoes-push, PairGoes-less, Together-zero}
+use Rattle.pair_laws.proofs.Common.{first_of-below, second_of-below, IsFirstOf-step, PairGoes-push, PairGoes-less, Together-zero}
 use Rattle.garden_laws.specs.ReachedPairs.{IsReached}
 use Rattle.tail_laws.proofs.Common.{IsClosing, not_closing}
 use Rattle.rule_lists.specs.EndlessPairs.{FixedLeadsOn}
@@ -59,53 +58,13 @@ IsFixedRound-closed side r letters p q rule inside walk step s h =
     each P Left here there Left = here
     each P Left here there Right = there
 
--- the pair of two different nodes to which a step leads from a pair of two equal nodes is a first one
-IsFirstOf-step : (side : Side) (s : LocalRule) (p q : ℕ) → IsRule s → p < pair_count s → q < pair_count s → first_of s p ≡ second_of s p → first_of s q ≢ second_of s q → LeadsOn side s p q → IsFirstOf side s q
-IsFirstOf-step Right s p q rule inside there one different step =
-    let u : ℕ = first_of s p in
-    let edges = rw (← one) at (follow-some s p step.a step.b q step.follows) in
-    let below : next s u step.b < node_count s = next-below rule u step.b in
-    let first : first_of s q ≡ next s u step.a = ap (first_of s) (sym edges.1) ∙ first_of-pair_of s (next s u step.a) (next s u step.b) below in
-    let second : second_of s q ≡ next s u step.b = ap (second_of s) (sym edges.1) ∙ second_of-pair_of s (next s u step.a) (next s u step.b) below in
-    record {
-      node = u;
-      a = step.a;
-      b = step.b;
-      in_nodes = first_of-below rule p inside;
-      a_letter = step.a_letter;
-      b_letter = step.b_letter;
-      different = λ e. different (first ∙ ap (next s u) e ∙ sym second);
-      one_label = edges.0;
-      pair = sym edges.1;
-    }
-IsFirstOf-step Left s p q rule inside there one different step =
-    let k : ℕ = s.states in
-    let n : ℕ = node_count s in
-    let x : ℕ = first_of s q in
-    let y : ℕ = second_of s q in
-    let w : ℕ = window_with Right s x step.a in
-    let z : ℕ = window_with Right s y step.b in
-    let edges = follow-some s q step.a step.b p step.follows in
-    let hz : z < k ^ s.width = window_with-within Right rule y step.b (second_of-below rule q) step.b_letter in
-    let first : first_of s p ≡ w % n = ap (first_of s) (sym edges.1) ∙ first_of-pair_of s (w % n) (z % n) (next-below rule y step.b) in
-    let second : second_of s p ≡ z % n = ap (second_of s) (sym edges.1) ∙ second_of-pair_of s (w % n) (z % n) (next-below rule y step.b) in
-    let same : with_end Left s w (z / n) ≡ z = ap (λ e. z / n * n + e) (sym first ∙ one ∙ second) ∙ div-add-mod' z n in
-    let left : w / k ≡ x = div-mul-add x k step.a step.a_letter in
-    let right : with_end Left s w (z / n) / k ≡ y = ap (λ v. v / k) same ∙ div-mul-add y k step.b step.b_letter in
-    subst (IsFirstOfLeft s) (ap₂ (pair_of s) left right ∙ pair_of-first_of s q) (IsFirst-ends Left rule w (z / n) (record {
-      window = window_with-within Right rule x step.a (first_of-below rule q there) step.a_letter;
-      letter = div_below z n k (node_count_pos rule) (omega (arith, hz, windows-nodes rule, mul_comm k n));
-      different = λ e. different (sym left ∙ ap (λ v. v / k) e ∙ right);
-      one_label = edges.0 ∙ ap (slice_index s.table) (sym same);
-    }))
-
 -- a walk that begins with a step from a pair of two equal nodes to two different ones shows a first pair
-pub IsFixedTail-step : (side : Side) (r : LocalRule) (letters : List ℕ) (p q z : ℕ) → IsRule r → p < pair_count r → q < pair_count r → first_of r p ≡ second_of r p → first_of r q ≢ second_of r q
+pub IsFixedTail-step : (side : Side) (r : LocalRule) (letters : List ℕ) (p q z : ℕ) → IsRule r → first_of r p ≡ second_of r p → first_of r q ≢ second_of r q
     → FixedLeadsOn side r letters p q → IsFixedWalk side r letters q z → IsFixedTail side r letters z
-IsFixedTail-step side r letters p q z rule inside there one different step walk s h =
+IsFixedTail-step side r letters p q z rule one different step walk s h =
     let same = is_shaped r s letters h in
-    let first = subst (λ x. (p < pair_count x) × (q < pair_count x) × (first_of x p ≡ second_of x p) × (first_of x q ≢ second_of x q)) same (inside, there, one, different) in
-    (q, IsFirstOf-step side s p q h.rule first.0 first.1 first.2 first.3 (LeadsOn-fixed side r s letters rule h p q step), walk s h)
+    let nodes = subst (λ x. (first_of x p ≡ second_of x p) × (first_of x q ≢ second_of x q)) same (one, different) in
+    (q, IsFirstOf-step side h.rule p q nodes.0 nodes.1 (LeadsOn-fixed side r s letters rule h p q step), walk s h)
 
 -- a pair that comes after a first one and goes on for ever bars that the rule closes
 pub IsClosing-tail : (side : Side) {s : LocalRule} (p q : ℕ) → IsRule s → IsFirstOf side s q → IsBefore side s q p → IsEndless (PairGoes side s p) → ¬ IsClosing side s

@@ -1,5 +1,6 @@
 pub mod Walks
 pub mod WordOrder
+pub mod SortedLists
 pub mod QueueSteps
 pub mod QueueStates
 pub mod SpelledWords

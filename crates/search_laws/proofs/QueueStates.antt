@@ -43,24 +43,23 @@ state-all {tree = tree} q P first steps i x at =
     (λ some. let b = q.branches i x (omega (arith, some)) at in steps b.parent.state x.letter x.state b.step)
     (cases_eq i 0)
 
--- each state is below n if the start is, and each step leads below n
-pub state-below : {Step : ℕ → ℕ → ℕ → Type 0} {k start : ℕ} {tree : List (Place ℕ)} {e : ℕ} → IsQueue Step k start tree e
-    → (n : ℕ) → start < n → ((s a t : ℕ) → Step s a t → t < n) → (i : ℕ) (x : Place ℕ) → slice_get tree i ≡ Some x → x.state < n
-state-below q n first steps = state-all q.fills (λ s. s < n) first steps
+module _ {Step : ℕ → ℕ → ℕ → Type 0} {k start : ℕ} {tree : List (Place ℕ)} {e : ℕ} (q : IsQueue Step k start tree e) where
+  -- each state is below n if the start is, and each step leads below n
+  pub state-below : (n : ℕ) → start < n → ((s a t : ℕ) → Step s a t → t < n) → (i : ℕ) (x : Place ℕ) → slice_get tree i ≡ Some x → x.state < n
+  state-below n first steps = state-all q.fills (λ s. s < n) first steps
 
--- no state is listed twice
-pub states-apart : {Step : ℕ → ℕ → ℕ → Type 0} {k start : ℕ} {tree : List (Place ℕ)} {e : ℕ} → IsQueue Step k start tree e → AllPairs (λ s t. s ≢ t) (states_of tree)
-states-apart {tree = tree} q i j d less within same =
-    let first = unmapped_at (λ x. x.state) tree i _ (slice_get-get_or (states_of tree) i d (omega arith)) in
-    let second = unmapped_at (λ x. x.state) tree j _ (slice_get-get_or (states_of tree) j d within) in
-    let one = q.apart i j first.0 second.0 first.1 second.1 (first.2 ∙ same ∙ sym second.2) in
-    omega (arith, one)
+  -- no state is listed twice
+  pub states-apart : AllPairs (λ s t. s ≢ t) (states_of tree)
+  states-apart i j d less within same =
+      let first = unmapped_at (λ x. x.state) tree i _ (slice_get-get_or (states_of tree) i d (omega arith)) in
+      let second = unmapped_at (λ x. x.state) tree j _ (slice_get-get_or (states_of tree) j d within) in
+      let one = q.apart i j first.0 second.0 first.1 second.1 (first.2 ∙ same ∙ sym second.2) in
+      omega (arith, one)
 
--- a queue has no more places than there are states
-pub length-queue-le : {Step : ℕ → ℕ → ℕ → Type 0} {k start : ℕ} {tree : List (Place ℕ)} {e : ℕ} → IsQueue Step k start tree e
-    → (n : ℕ) → start < n → ((s a t : ℕ) → Step s a t → t < n) → length tree ≤ n
-length-queue-le {tree = tree} q n first steps =
-    let few = length-le_from_distinct_below (states_of tree) n (IsDistinct-from_AllPairs Decides-eqb (states_of tree) (states-apart q)) (λ s any.
-    let found = place_of_listed tree s (Contains-from_any (λ x y same. (Decides-eqb x y).0 same) s (states_of tree) any) in
-    subst (λ z. z < n) found.3 (state-below q n first steps found.0 found.1 found.2)) in
-    omega (arith, few, length-map tree (λ x. x.state))
+  -- a queue has no more places than there are states
+  pub length-queue-le : (n : ℕ) → start < n → ((s a t : ℕ) → Step s a t → t < n) → length tree ≤ n
+  length-queue-le n first steps =
+      let few = length-le_from_distinct_below (states_of tree) n (IsDistinct-from_AllPairs Decides-eqb (states_of tree) states-apart) (λ s any.
+      let found = place_of_listed tree s (Contains-from_any (λ x y same. (Decides-eqb x y).0 same) s (states_of tree) any) in
+      subst (λ z. z < n) found.3 (state-below n first steps found.0 found.1 found.2)) in
+      omega (arith, few, length-map tree (λ x. x.state))

@@ -1,6 +1,6 @@
 -- The words that are spelled to the places of a breadth first queue: one to each, in ascending order.
 use Rattle.std.proofs.Common.{◌≡◌, ℕ, zero, suc, ◌+◌, ◌*◌, ◌<◌, ◌≤◌, ◌⊎◌, inl, inr, List, [], ◌∷◌, ◌++◌, length, reverse, Some, refl, sym, ap, ap₂, ◌∙◌, subst, arith, append_assoc, ⊎_elim, slice_get, mul-le-mul_right, suc-mul, Less}
-use Rattle.word_image.proofs.Common.{cases_eq, cases_lt, same_from_place, length_push, reverse-append, word_cmp}
+use Rattle.word_image.proofs.Common.{cases_eq, cases_lt, length_push, reverse-append, word_cmp}
 use Rattle.search_laws.specs.SearchQueues.{Place, TreeSpells, IsFilled, filled}
 use Rattle.search_laws.specs.SearchQueues.TreeSpells.{Root, Branch}
 use Rattle.search_laws.specs.Walks.{Leads}
@@ -39,39 +39,6 @@ TreeSpells-unique {tree = tree} (Branch i x v positive at before) s =
     ap₂ (λ (u : List ℕ) (z : Place _). u ++ z.letter ∷ []) fronts (sym alike) ∙ sym longer.splits)
     (TreeSpells-cases s)
 
--- `TreeSpells-some` at the first n places
-spelled_below : {S : Type 0} {Step : S → ℕ → S → Type 0} {Met : S → ℕ → Type 0} {k : ℕ} {start : S} {tree : List (Place S)} {e : ℕ} → IsFilled Step Met k start tree e
-    → (n i : ℕ) → i < n → (x : Place S) → slice_get tree i ≡ Some x → (w : List ℕ) × TreeSpells tree i w
-spelled_below q zero i less x at = absurd (omega arith)
-spelled_below {tree = tree} q (suc n) zero less x at = ([], Root)
-spelled_below {tree = tree} q (suc n) (suc i) less x at =
-    let b = q.branches (suc i) x (omega arith) at in
-    let front = spelled_below q n x.parent (omega (arith, b.earlier)) b.parent b.stands in
-    (front.0 ++ x.letter ∷ [], Branch (suc i) x front.0 (omega arith) at front.1)
-
--- to each place a word is spelled
-pub TreeSpells-some : {S : Type 0} {Step : S → ℕ → S → Type 0} {Met : S → ℕ → Type 0} {k : ℕ} {start : S} {tree : List (Place S)} {e : ℕ} → IsFilled Step Met k start tree e
-    → (i : ℕ) (x : Place S) → slice_get tree i ≡ Some x → (w : List ℕ) × TreeSpells tree i w
-TreeSpells-some q i x at = spelled_below q (i + 1) i (omega arith) x at
-
--- the word that is spelled to a place leads to its state
-pub Leads-spelled : {S : Type 0} {Step : S → ℕ → S → Type 0} {Met : S → ℕ → Type 0} {k : ℕ} {start : S} {tree : List (Place S)} {e i : ℕ} {w : List ℕ} → IsFilled Step Met k start tree e
-    → TreeSpells tree i w → (x : Place S) → slice_get tree i ≡ Some x → Leads Step k start w x.state
-Leads-spelled {Step = Step} {k = k} {start = start} q Root x at =
-    let first : start ≡ x.state = let also = q.root in let starts = q.starts in cc in
-    subst (Leads Step k start []) first Leads-none
-Leads-spelled {Step = Step} {k = k} {start = start} q (Branch i y w positive here before) x at =
-    let b = q.branches i y positive here in
-    let alike : y ≡ x = cc in
-    subst (λ z. Leads Step k start (w ++ y.letter ∷ []) z.state) alike (Leads-push (Leads-spelled q before b.parent b.stands) b.letter b.step)
-
--- a word has no more letters than there are places before its own
-pub length-spelled-le : {S : Type 0} {Step : S → ℕ → S → Type 0} {Met : S → ℕ → Type 0} {k : ℕ} {start : S} {tree : List (Place S)} {e i : ℕ} {w : List ℕ} → IsFilled Step Met k start tree e → TreeSpells tree i w → length w ≤ i
-length-spelled-le q Root = omega arith
-length-spelled-le q (Branch i x w positive at before) =
-    let b = q.branches i x positive at in
-    omega (arith, length-spelled-le q before, length_push w x.letter, b.earlier)
-
 -- where f ascends, two numbers in base k stay in order as their first digits p and q become f and g
 digits-ascend : (p q l m k f g : ℕ) → m < k → p * k + l ≤ q * k + m → (p < q → f < g) → (p ≡ q → f ≡ g) → l ≤ k → f * k + l ≤ g * k + m
 digits-ascend p q l m k f g small most ascends same first =
@@ -90,77 +57,80 @@ digits-ascend p q l m k f g small most ascends same first =
     (cases_eq p q))
     (cases_lt p q)
 
--- `spelled-before`, where the words of the places before i are known to be less
-before_edge : {S : Type 0} {Step : S → ℕ → S → Type 0} {Met : S → ℕ → Type 0} {k : ℕ} {start : S} {tree : List (Place S)} {e i : ℕ} {w : List ℕ} → IsFilled Step Met k start tree e → TreeSpells tree i w
-    → ((p : ℕ) (z : Place S) (u : List ℕ) → slice_get tree p ≡ Some z → TreeSpells tree p u → p < i → word_number k u < word_number k w)
-    → (a : ℕ) → a < k → (j : ℕ) (y : Place S) (v : List ℕ) → slice_get tree j ≡ Some y → TreeSpells tree j v → filled k j y < i * k + a + 1
-    → word_number k v < word_number k w * k + a + 1
-before_edge {k = k} {tree = tree} {i = i} {w = w} q s lesser a letter j y v at spells less =
-    ⊎_elim
-    (λ none. let zeroth : word_number k v ≡ 0 = ap (word_number k) none.1 in omega (arith, zeroth))
-    (λ longer.
-    let b = q.branches j y longer.positive at in
-    let alike : longer.place ≡ y = let there = longer.stands in cc in
-    let front : TreeSpells tree y.parent longer.front = subst (λ z. TreeSpells tree z.parent longer.front) alike longer.before in
-    let splits = ap (word_number k) (longer.splits ∙ ap (λ z. longer.front ++ z.letter ∷ []) alike) ∙ word_number-snoc k longer.front y.letter in
-    let earlier : y.parent * k + (y.letter + 1) ≤ i * k + a = omega (arith, filled-later k j y longer.positive) in
-    let step = digits-ascend y.parent i (y.letter + 1) a k (word_number k longer.front) (word_number k w) letter earlier
-    (lesser y.parent b.parent longer.front b.stands front)
-    (λ same. ap (word_number k) (TreeSpells-unique (subst (λ n. TreeSpells tree n longer.front) same front) s))
-    (omega (arith, b.letter)) in
-    omega (arith, splits, step))
-    (TreeSpells-cases spells)
+module _ {S : Type 0} {Step : S → ℕ → S → Type 0} {Met : S → ℕ → Type 0} {k : ℕ} {start : S} {tree : List (Place S)} {e : ℕ} (q : IsFilled Step Met k start tree e) where
+  -- `TreeSpells-some` at the first n places
+  spelled_below : (n i : ℕ) → i < n → (x : Place S) → slice_get tree i ≡ Some x → (w : List ℕ) × TreeSpells tree i w
+  spelled_below zero i less x at = absurd (omega arith)
+  spelled_below (suc n) zero less x at = ([], Root)
+  spelled_below (suc n) (suc i) less x at =
+      let b = q.branches (suc i) x (omega arith) at in
+      let front = spelled_below n x.parent (omega (arith, b.earlier)) b.parent b.stands in
+      (front.0 ++ x.letter ∷ [], Branch (suc i) x front.0 (omega arith) at front.1)
 
--- a place that was filled before letter a from place i was followed has a lesser word than that edge
-pub spelled-before : {S : Type 0} {Step : S → ℕ → S → Type 0} {Met : S → ℕ → Type 0} {k : ℕ} {start : S} {tree : List (Place S)} {e i : ℕ} {w : List ℕ} → IsFilled Step Met k start tree e → TreeSpells tree i w
-    → (a : ℕ) → a < k → (j : ℕ) (y : Place S) (v : List ℕ) → slice_get tree j ≡ Some y → TreeSpells tree j v → filled k j y < i * k + a + 1
-    → word_number k v < word_number k w * k + a + 1
-spelled-before q Root = before_edge q Root (λ p z u at spells l. absurd (omega arith))
-spelled-before {k = k} q (Branch i x w positive here before) = before_edge q (Branch i x w positive here before) (λ p z u at spells l.
-    let b = q.branches i x positive here in
-    let earlier : filled k p z < x.parent * k + x.letter + 1 = omega (arith, q.ascending p i z x l at here, filled-later k i x positive) in
-    omega (arith, spelled-before q before x.letter b.letter p z u at spells earlier, word_number-snoc k w x.letter))
+  -- to each place a word is spelled
+  pub TreeSpells-some : (i : ℕ) (x : Place S) → slice_get tree i ≡ Some x → (w : List ℕ) × TreeSpells tree i w
+  TreeSpells-some i x at = spelled_below (i + 1) i (omega arith) x at
 
--- a place that was filled by then has a word that isn't greater than that edge's
-pub spelled-within : {S : Type 0} {Step : S → ℕ → S → Type 0} {Met : S → ℕ → Type 0} {k : ℕ} {start : S} {tree : List (Place S)} {e i : ℕ} {w : List ℕ} → IsFilled Step Met k start tree e → TreeSpells tree i w
-    → (a : ℕ) → a < k → (j : ℕ) (y : Place S) (v : List ℕ) → slice_get tree j ≡ Some y → TreeSpells tree j v → filled k j y ≤ i * k + a + 1
-    → word_number k v ≤ word_number k w * k + a + 1
-spelled-within {k = k} {tree = tree} {i = i} {w = w} q s a letter j y v at spells most =
-    ⊎_elim
-    (λ same. ⊎_elim
-    (λ none. let zeroth : word_number k v ≡ 0 = ap (word_number k) none.1 in omega (arith, zeroth))
-    (λ longer.
-    let b = q.branches j y longer.positive at in
-    let alike : longer.place ≡ y = let there = longer.stands in cc in
-    let parts : (y.parent ≡ i) × (y.letter ≡ a) = same_from_place y.parent y.letter i a k b.letter letter (omega (arith, filled-later k j y longer.positive)) in
-    let front : TreeSpells tree i longer.front = subst (λ n. TreeSpells tree n longer.front) parts.0 (subst (λ z. TreeSpells tree z.parent longer.front) alike longer.before) in
-    let splits : v ≡ w ++ a ∷ [] =
-    longer.splits ∙ ap (λ z. longer.front ++ z.letter ∷ []) alike ∙ ap₂ (λ (u : List ℕ) (c : ℕ). u ++ c ∷ []) (TreeSpells-unique front s) parts.1 in
-    let number : word_number k v ≡ word_number k w * k + a + 1 = ap (word_number k) splits ∙ word_number-snoc k w a in
-    omega arith)
-    (TreeSpells-cases spells))
-    (λ other. omega (arith, spelled-before q s a letter j y v at spells (omega (arith, other))))
-    (cases_eq (filled k j y) (i * k + a + 1))
+  -- the word that is spelled to a place leads to its state
+  pub Leads-spelled : {i : ℕ} {w : List ℕ} → TreeSpells tree i w → (x : Place S) → slice_get tree i ≡ Some x → Leads Step k start w x.state
+  Leads-spelled Root x at =
+      let first : start ≡ x.state = let also = q.root in let starts = q.starts in cc in
+      subst (Leads Step k start []) first Leads-none
+  Leads-spelled (Branch i y w positive here before) x at =
+      let b = q.branches i y positive here in
+      let alike : y ≡ x = cc in
+      subst (λ z. Leads Step k start (w ++ y.letter ∷ []) z.state) alike (Leads-push (Leads-spelled before b.parent b.stands) b.letter b.step)
 
--- a later place has a greater word
-pub spelled-ascending : {S : Type 0} {Step : S → ℕ → S → Type 0} {Met : S → ℕ → Type 0} {k : ℕ} {start : S} {tree : List (Place S)} {e i j : ℕ} {v w : List ℕ} → IsFilled Step Met k start tree e
-    → i < j → TreeSpells tree i v → TreeSpells tree j w → (x : Place S) → slice_get tree i ≡ Some x → word_number k v < word_number k w
-spelled-ascending q less first Root x at = absurd (omega arith)
-spelled-ascending {k = k} {i = i} {v = v} q less first (Branch j z w positive here before) x at =
-    let b = q.branches j z positive here in
-    let earlier : filled k i x < z.parent * k + z.letter + 1 = omega (arith, q.ascending i j x z less at here, filled-later k j z positive) in
-    omega (arith, spelled-before q before z.letter b.letter i x v at first earlier, word_number-snoc k w z.letter)
+  -- a word has no more letters than there are places before its own
+  pub length-spelled-le : {i : ℕ} {w : List ℕ} → TreeSpells tree i w → length w ≤ i
+  length-spelled-le Root = omega arith
+  length-spelled-le (Branch i x w positive at before) = omega (arith, length-spelled-le before, length_push w x.letter, (q.branches i x positive at).earlier)
 
--- the words of the places ascend
-pub TreeSpells-ascending : {S : Type 0} {Step : S → ℕ → S → Type 0} {Met : S → ℕ → Type 0} {k : ℕ} {start : S} {tree : List (Place S)} {e i j : ℕ} {v w : List ℕ} → IsFilled Step Met k start tree e
-    → i < j → TreeSpells tree i v → TreeSpells tree j w → (x y : Place S) → slice_get tree i ≡ Some x → slice_get tree j ≡ Some y → word_cmp v w ≡ Less
-TreeSpells-ascending {k = k} {v = v} {w = w} q less first second x y at_i at_j =
-    word_cmp-less k v w (Leads-spelled q first x at_i).word (Leads-spelled q second y at_j).word (spelled-ascending q less first second x at_i)
+  -- a later place has a greater word
+  spelled-ascending : {j : ℕ} {w : List ℕ} → TreeSpells tree j w → (i : ℕ) (v : List ℕ) → i < j → TreeSpells tree i v → word_number k v < word_number k w
+  spelled-ascending Root i v less first = absurd (omega arith)
+  spelled-ascending (Branch j z w positive here before) i v less Root = omega (arith, word_number-snoc k w z.letter)
+  spelled-ascending (Branch j z w positive here before) _ _ less (Branch i y v some there front) =
+      let b = q.branches j z positive here in
+      let c = q.branches i y some there in
+      let step = digits-ascend y.parent z.parent (y.letter + 1) z.letter k (word_number k v) (word_number k w) b.letter
+      (omega (arith, q.ascending i j y z less there here, filled-later k i y some, filled-later k j z positive))
+      (λ l. spelled-ascending before y.parent v l front) (λ same. ap (word_number k) (TreeSpells-unique (subst (λ n. TreeSpells tree n v) same front) before)) (omega (arith, c.letter)) in
+      omega (arith, word_number-snoc k v y.letter, word_number-snoc k w z.letter, step)
 
--- of two edges the earlier one has the lesser word
-pub edges-ascending : {S : Type 0} {Step : S → ℕ → S → Type 0} {Met : S → ℕ → Type 0} {k : ℕ} {start : S} {tree : List (Place S)} {e i j : ℕ} {v w : List ℕ} → IsFilled Step Met k start tree e
-    → TreeSpells tree i v → TreeSpells tree j w → (x : Place S) → slice_get tree i ≡ Some x → (a b : ℕ) → a < k → b < k → i * k + a ≤ j * k + b
-    → word_number k v * k + a ≤ word_number k w * k + b
-edges-ascending {k = k} {tree = tree} {i = i} {j} {v} {w} q first second x at a b letter_a letter_b most =
-    digits-ascend i j a b k (word_number k v) (word_number k w) letter_b most (λ less. spelled-ascending q less first second x at)
-    (λ same. ap (word_number k) (TreeSpells-unique first (subst (λ n. TreeSpells tree n w) (sym same) second))) (omega arith)
+  -- the words of the places ascend
+  pub TreeSpells-ascending : {i j : ℕ} {v w : List ℕ} → i < j → TreeSpells tree i v → TreeSpells tree j w → (x y : Place S) → slice_get tree i ≡ Some x
+      → slice_get tree j ≡ Some y → word_cmp v w ≡ Less
+  TreeSpells-ascending {v = v} {w} less first second x y at_i at_j =
+      word_cmp-less k v w (Leads-spelled first x at_i).word (Leads-spelled second y at_j).word (spelled-ascending second _ v less first)
+
+  -- of two edges, or of an edge and what follows one, the earlier one has the lesser word
+  edges_ascend : {i j : ℕ} {v w : List ℕ} → TreeSpells tree i v → TreeSpells tree j w → (a b : ℕ) → a ≤ k → b < k → i * k + a ≤ j * k + b
+      → word_number k v * k + a ≤ word_number k w * k + b
+  edges_ascend {i} {j} {v} {w} first second a b letter_a letter_b most =
+      digits-ascend i j a b k (word_number k v) (word_number k w) letter_b most (λ less. spelled-ascending second i v less first)
+      (λ same. ap (word_number k) (TreeSpells-unique (subst (λ n. TreeSpells tree n v) same first) second)) letter_a
+
+  pub edges-ascending : {i j : ℕ} {v w : List ℕ} → TreeSpells tree i v → TreeSpells tree j w → (x : Place S) → slice_get tree i ≡ Some x → (a b : ℕ) → a < k → b < k → i * k + a ≤ j * k + b
+      → word_number k v * k + a ≤ word_number k w * k + b
+  edges-ascending first second x at a b letter_a letter_b most = edges_ascend first second a b (omega arith) letter_b most
+
+  -- a place that was filled n edges before an edge, or more, has a word that many before that edge's, for n up to 1
+  spelled-edge : {i j : ℕ} {v w : List ℕ} → TreeSpells tree i w → (a : ℕ) → a < k → (y : Place S) → slice_get tree j ≡ Some y → TreeSpells tree j v → (n : ℕ) → n ≤ 1 → filled k j y + n ≤ i * k + a + 1
+      → word_number k v + n ≤ word_number k w * k + a + 1
+  spelled-edge s a letter y at Root n small most = omega arith
+  spelled-edge s a letter y at (Branch j z u positive here before) n small most =
+      let alike : z ≡ y = cc in
+      let same = sym (filled-later k j z positive) ∙ ap (filled k j) alike in
+      let b = q.branches j z positive here in
+      omega (arith, word_number-snoc k u z.letter, edges_ascend before s (z.letter + n) a (omega (arith, b.letter)) letter (omega (arith, same)))
+
+  -- a place that was filled before letter a from place i was followed has a lesser word than that edge
+  pub spelled-before : {i : ℕ} {w : List ℕ} → TreeSpells tree i w → (a : ℕ) → a < k → (j : ℕ) (y : Place S) (v : List ℕ) → slice_get tree j ≡ Some y → TreeSpells tree j v → filled k j y < i * k + a + 1
+      → word_number k v < word_number k w * k + a + 1
+  spelled-before s a letter j y v at spells less = omega (arith, spelled-edge s a letter y at spells 1 (omega arith) (omega arith))
+
+  -- a place that was filled by then has a word that isn't greater than that edge's
+  pub spelled-within : {i : ℕ} {w : List ℕ} → TreeSpells tree i w → (a : ℕ) → a < k → (j : ℕ) (y : Place S) (v : List ℕ) → slice_get tree j ≡ Some y → TreeSpells tree j v → filled k j y ≤ i * k + a + 1
+      → word_number k v ≤ word_number k w * k + a + 1
+  spelled-within s a letter j y v at spells most = omega (arith, spelled-edge s a letter y at spells 0 (omega arith) (omega arith))

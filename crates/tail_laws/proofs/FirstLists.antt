@@ -1,8 +1,8 @@
 -- The first list of letter pairs that the numbers below n have, number by number, and in bytes: a letter pair (a, b) is the byte 16 a + b.
-use Rattle.std.proofs.Common.{◌≡◌, ◌≢◌, ℕ, ◌+◌, ◌/◌, ◌%◌, ◌<◌, ◌≤◌, List, map, Option, Some, None, if◌then◌else◌, sym, ap, ap₂, ◌∙◌, subst, subst₂, ⊎_elim, arith, MatchOption, is_lt, Ordering, Less, Equal, Greater}
+use Rattle.std.proofs.Common.{◌≡◌, ◌≢◌, ℕ, ◌+◌, ◌/◌, ◌%◌, ◌<◌, List, map, Option, Some, None, if◌then◌else◌, sym, ap, ◌∙◌, subst, subst₂, ⊎_elim, arith, MatchOption, is_lt, Ordering, Less, Equal, Greater}
 use Rattle.std.proofs.lemmas.Simd.{map-map}
 use Rattle.word_image.proofs.Common.{cases_eq, word_cmp, pairs_cmp, no_later, not_before, pairs_cmp_total}
-use Rattle.search_laws.proofs.Common.{ArePairs, uncode, pairs_cmp-codes, codes-uncode}
+use Rattle.search_laws.proofs.Common.{pairs_cmp-uncode, uncode}
 use Rattle.tail_laws.specs.FirstLists.{IsLeastOf, NoneBelow, IsFirstBelow, IsFirstFound}
 
 -- where no number below n has a list, and n has none, no number up to n has one
@@ -38,20 +38,15 @@ IsFirstBelow-earlier old other best least Less is = IsFirstBelow-new least (λ p
 IsFirstBelow-earlier old other best least Equal is = IsFirstBelow-after best least (λ less. cc)
 IsFirstBelow-earlier old other best least Greater is = IsFirstBelow-after best least (λ less. cc)
 
--- letter pairs are ordered as their bytes are
-pairs_cmp-bytes : (v w : List ℕ) → ArePairs 16 (map (uncode 16) v) → ArePairs 16 (map (uncode 16) w) → pairs_cmp (map (uncode 16) v) (map (uncode 16) w) ≡ word_cmp v w
-pairs_cmp-bytes v w small_v small_w = pairs_cmp-codes 16 (map (uncode 16) v) (map (uncode 16) w) small_v small_w ∙ ap₂ word_cmp (codes-uncode 16 v) (codes-uncode 16 w)
-
 -- the first list found up to n, where the number n has some list
-pub IsFirstFound-next : {Has : ℕ → List (ℕ × ℕ) → Type 0} {n : ℕ} → ((p : ℕ) (abs : List (ℕ × ℕ)) → p ≤ n → Has p abs → ArePairs 16 abs) → (found : Option (List ℕ)) (other steps : List ℕ)
+pub IsFirstFound-next : {Has : ℕ → List (ℕ × ℕ) → Type 0} {n : ℕ} (found : Option (List ℕ)) (other steps : List ℕ)
     → MatchOption found (steps ≡ other) (λ old. steps ≡ (if is_lt (word_cmp other old) then other else old))
     → IsFirstFound Has n found → IsLeastOf Has n (map (uncode 16) other) → IsFirstBelow Has (n + 1) (map (uncode 16) steps)
-IsFirstFound-next {Has} {n} small None other steps is none least =
+IsFirstFound-next {Has} {n} None other steps is none least =
     subst (λ s. IsFirstBelow Has (n + 1) (map (uncode 16) s)) (sym is) (IsFirstBelow-new least (λ p v l has. absurd (none p v l has)))
-IsFirstFound-next {Has} {n} small (Some old) other steps is best least =
+IsFirstFound-next {Has} {n} (Some old) other steps is best least =
     subst (λ s. IsFirstBelow Has (n + 1) (map (uncode 16) s)) (sym is)
-    (IsFirstBelow-earlier old other best least (word_cmp other old)
-    (pairs_cmp-bytes other old (small n (map (uncode 16) other) (omega arith) least.has) (small best.number (map (uncode 16) old) (omega (arith, best.below)) best.has)))
+    (IsFirstBelow-earlier old other best least (word_cmp other old) (pairs_cmp-uncode 16 (omega arith) other old))
 
 -- the first list found so far stays so, where the number n has none
 pub IsFirstFound-none : (Has : ℕ → List (ℕ × ℕ) → Type 0) {n : ℕ} → (found : Option (List ℕ)) → IsFirstFound Has n found → ((abs : List (ℕ × ℕ)) → ¬ Has n abs) → IsFirstFound Has (n + 1) found

@@ -1,8 +1,8 @@
 -- The least normal right split: the least of at most one candidate for each state of the marked graph, made of two least walks.
-use Rattle.std.proofs.Common.{◌≡◌, ◌≢◌, ℕ, ◌+◌, ◌≤◌, List, [], ◌∷◌, length, sym, ap, ap₂, ◌∙◌, subst, ⊎_elim, arith, zip, nat_cmp, Ordering, Equal, Greater}
+use Rattle.std.proofs.Common.{◌≡◌, ◌≢◌, ℕ, ◌+◌, List, [], ◌∷◌, length, sym, ap, ap₂, ◌∙◌, subst, arith, zip, nat_cmp, Ordering, Greater}
 use Rattle.std.proofs.lemmas.Cmp.{then_total, on_total, lists_total, nat_cmp_total}
 use Rattle.std.proofs.lemmas.Slice.Zip.{firsts-zip, seconds-zip}
-use Rattle.word_image.proofs.Common.{ordering_then, IsTotalOrder, nat_cmp_is, slice_cmp, cases_lt, length-map, LocalRule, IsRule, pair_count, marked, pair_cmp, pairs_cmp, then_not_greater, nat_cmp-le, nat_cmp-equal, no_later, pair_cmp_total}
+use Rattle.word_image.proofs.Common.{ordering_then, IsTotalOrder, slice_cmp, length-map, LocalRule, IsRule, pair_count, marked, pair_cmp, pairs_cmp, key_not_greater, then_not_greater, no_later, pair_cmp_total}
 use Rattle.search_laws.proofs.Common.{IsLeastWalk, IsLeastWalkTo}
 use Rattle.tail_config.proofs.Common.{TailConfig, IsNormalRightSplit, IsLeastRightSplit, splits_cmp}
 use Rattle.tail_laws.specs.SplitWalks.{IsSplitAt, IsNoSplitBelow, IsLeastSplitAt, IsLeastBelow, with_mark, first_tail, second_tail, split_of}
@@ -28,17 +28,13 @@ walks_cmp w v w' v' =
 pub splits_cmp-walks : (w v w' v' : List (ℕ × ℕ)) → splits_cmp (split_of w v) (split_of w' v') ≡ walks_cmp w v w' v'
 splits_cmp-walks w v w' v' = grind (arith, length-map, zip-sides)
 
--- letter pairs that come no later than others are no more, and where they are as many come no later in dictionary order
-pairs_cmp-parts : (w v : List (ℕ × ℕ)) → pairs_cmp w v ≢ Greater → (length w ≤ length v) × (length w ≡ length v → slice_cmp pair_cmp w v ≢ Greater)
-pairs_cmp-parts w v h =
-    let after = λ (o : Ordering). ordering_then o (slice_cmp pair_cmp w v) in (
-      ⊎_elim (λ above. absurd (h (ap after (sym (nat_cmp_is (length w) (length v) Greater above))))) (λ l. l) (cases_lt (length v) (length w)),
-      λ e greater. h (ap after (sym (nat_cmp_is (length w) (length v) Equal e)) ∙ greater),
-    )
-
 -- walks of which neither comes later make a split that comes no later
 walks_cmp-not_greater : (w v w' v' : List (ℕ × ℕ)) → pairs_cmp w w' ≢ Greater → pairs_cmp v v' ≢ Greater → walks_cmp w v w' v' ≢ Greater
-walks_cmp-not_greater w v w' v' h g = grind (arith, pairs_cmp-parts, then_not_greater, nat_cmp-le, nat_cmp-equal)
+walks_cmp-not_greater w v w' v' h g =
+    let (few, first) = (key_not_greater (length w) (length w') (slice_cmp pair_cmp w w')).0 h in
+    let (also, second) = (key_not_greater (length v) (length v') (slice_cmp pair_cmp v v')).0 g in
+    (key_not_greater (length w + length v) (length w' + length v') _).1
+    (omega arith, λ all. (key_not_greater (length w) (length w') _).1 (few, λ same. then_not_greater (slice_cmp pair_cmp w w') (slice_cmp pair_cmp v v') (first same) (λ _. second (omega arith))))
 
 -- Candidates
 

@@ -38,12 +38,12 @@ pub use Rattle.word_image.specs.Weights.{AreWeights, own_weights}
 pub use Rattle.word_image.specs.Windows.{HaveOneImage, IsDetermined, IsLeastDetermined, IsLeastRightAhead, IsRightAhead, WindowBefore}
 pub use Rattle.word_image.specs.Words.{IsLeastOrphan, IsOrphan, IsPreimage, IsSurjective, image, word_cmp}
 pub use Rattle.word_image.proofs.laws.Bits.{IsBitSet-decide, IsBitSet-or, IsBitSet-pow, IsBitSet-some, IsBitSet-zero, bit_at-IsBitSet}
-pub use Rattle.word_image.proofs.laws.Comparisons.{nat_cmp-equal, nat_cmp-le, no_later, not_before, pair_cmp_total, pairs_cmp_total, slice_cmp-same, then_not_greater}
+pub use Rattle.word_image.proofs.laws.Comparisons.{key_not_greater, key_number, nat_cmp-equal, nat_cmp-le, no_later, not_before, pair_cmp_total, pairs_cmp_total, slice_cmp-append, slice_cmp-map, slice_cmp-same, then_assoc, then_not_greater, tied, word_cmp_total}
 pub use Rattle.word_image.proofs.laws.Graphs.{local_map-label, next-below, node_count_pos, pair_count-le, pair_count_pos, value-front, value-next, value-node, value-tail}
 pub use Rattle.word_image.proofs.laws.Images.{IsRule-mirrored, IsWord-reverse, image-drop, image-mirrored, local_map-mirrored, mirrored-mirrored}
 pub use Rattle.word_image.proofs.laws.LastSets.{IsBitSet-full, IsLastSet-full, IsLastSet-step, IsOrphan-empty_set, IsOrphan-not_surjective, IsPreimage-nonempty_set}
 pub use Rattle.word_image.proofs.laws.Lists.{AllZip-places, Contains-range, filled_more, letters_more, paired_at, paired_length, range-more, reverse-cut, slice_index-zeros}
-pub use Rattle.word_image.proofs.laws.Orders.{digits-lt, nat_cmp-add, slice_cmp-value, then_equal}
+pub use Rattle.word_image.proofs.laws.Orders.{digits-lt, nat_cmp-add, nat_cmp-digits, slice_cmp-value, then_equal}
 pub use Rattle.word_image.proofs.laws.Places.{Contains-slice_get, at-set, each-set, only_place, set_more, slice_get-Contains, slice_get-append, slice_get-cut, slice_get-push, slice_get-push_cases, slice_get-unique}
 pub use Rattle.word_image.proofs.laws.Prefixes.{Begins-prefix, IsFormFault-next, IsFormFault-rest, IsFormFault-stuck, IsFormFault-unique}
 pub use Rattle.word_image.proofs.laws.Results.{handed_on}

@@ -1,89 +1,22 @@
 -- A rule has one list of classes, so it has one least automaton. It has no more classes than sets of nodes.
-use Rattle.image_minimal.proofs.Common.{◌≡◌, ℕ, zero, suc, ◌+◌, ◌*◌, ◌/◌, ◌%◌, ◌^◌, ◌<◌, ◌≤◌, ⊎_elim, cases_lt, twice_below, pow-le-pow_right, get_or, slice_get-get_or, iff_then, iff_sym, full_set, IsLastSet, IsLastSet-full, List, [], ◌∷◌, ◌++◌, length, slice_index, Option, Some, None, refl, sym, ap, ap₂, ◌∙◌, subst, arith, slice_get, nat_cmp, Equal, ext_get_or, div-lt_iff_lt-mul, mod-lt, mul-zero, mul_comm, slice_cmp, nat_cmp_is, none-some, div-add-mod, LocalRule, IsRule, IsWord, IsOrphan, IsAscending, slice_get-unique, then_equal, exact_bytes, word_number, word_number-le, word_number-less, word_cmp-number, Alike, IsLeastAlike, IsClassList, IsNextClass, IsDeadClass, Automaton, IsLeastAutomaton, node_count, pow_pos, IsBitSet-zero, IsLastSet-orphan}
+use Rattle.image_minimal.proofs.Common.{◌≡◌, ℕ, zero, suc, ◌+◌, ◌*◌, ◌/◌, ◌%◌, ◌^◌, ◌<◌, ◌≤◌, ⊎_elim, cases_lt, twice_below, pow-le-pow_right, get_or, slice_get-get_or, iff_then, iff_sym, full_set, IsLastSet, IsLastSet-full, List, [], ◌∷◌, ◌++◌, length, slice_index, Option, Some, None, refl, sym, ap, ap₂, ◌∙◌, subst, arith, slice_get, ext_get_or, div-lt_iff_lt-mul, mod-lt, mul-zero, mul_comm, div-add-mod, LocalRule, IsRule, IsWord, IsOrphan, slice_get-unique, Alike, IsLeastAlike, IsClassList, IsNextClass, IsDeadClass, Automaton, IsLeastAutomaton, node_count, pow_pos, IsBitSet-zero, IsLastSet-orphan, Contains, Contains-slice_get, slice_get-Contains, IsAscending-sorted, one_place, one_word, same_members, word_cmp_total}
 use Rattle.image_minimal.proofs.laws.Unread.{end_set, IsLastSet-end, IsUnread-some, is_dead-unread, IsOrphan-is_dead}
-
--- words of one number are one
-one_number : (k : ℕ) (v w : List ℕ) → IsWord k v → IsWord k w → word_number k v ≡ word_number k w → v ≡ w
-one_number k v w first second same =
-    exact_bytes v w (then_equal (nat_cmp (length v) (length w)) (slice_cmp nat_cmp v w)
-    (word_cmp-number k v w first second ∙ sym (nat_cmp_is (word_number k v) (word_number k w) Equal same))).1
 
 -- alike words before which no alike word comes are one
 IsLeastAlike-one : {r : LocalRule} {v w : List ℕ} → IsLeastAlike r v → IsLeastAlike r w → Alike r v w → v ≡ w
-IsLeastAlike-one {r} {v} {w} first second alike =
-    let below = word_number-le r.states w v second.word first.word (second.least v first.word alike) in
-    let above = word_number-le r.states v w first.word second.word (first.least w second.word (λ z word. ((alike z word).1, (alike z word).0))) in
-    one_number r.states v w first.word second.word (omega (arith, below, above))
-
--- words over k letters, in their order
-record AreAscending (k : ℕ) (x : List (List ℕ)) : Type 0 where
-  word : (i : ℕ) (w : List ℕ) → slice_get x i ≡ Some w → IsWord k w
-  ascending : IsAscending x
-
-tail : {k : ℕ} {v : List ℕ} {x : List (List ℕ)} → AreAscending k (v ∷ x) → AreAscending k x
-tail {v = v} {x} a = record {
-  word = λ i. a.word (suc i);
-  ascending = λ i u w at also. let next : suc (i + 1) ≡ suc i + 1 = omega arith in a.ascending (suc i) u w at (subst (λ j. slice_get (v ∷ x) j ≡ Some w) next also);
-}
-
--- the first of them has the least number
-first_less : {k : ℕ} {v : List ℕ} {x : List (List ℕ)} → AreAscending k (v ∷ x) → (i : ℕ) (w : List ℕ) → slice_get x i ≡ Some w → word_number k v < word_number k w
-first_less {x = []} a i w at = absurd (none-some w at)
-first_less {k} {v} {x = u ∷ x} a zero w at = word_number-less k v w (a.word 0 v refl) (a.word 1 w at) (a.ascending 0 v w refl at)
-first_less {k} {v} {x = u ∷ x} a (suc i) w at = omega (arith, word_number-less k v u (a.word 0 v refl) (a.word 1 u refl) (a.ascending 0 v u refl refl), first_less (tail a) i w at)
-
--- each stands at one place
-one_place : {k : ℕ} {x : List (List ℕ)} → AreAscending k x → (i j : ℕ) (w : List ℕ) → slice_get x i ≡ Some w → slice_get x j ≡ Some w → i ≡ j
-one_place {x = []} a i j w at also = absurd (none-some w at)
-one_place {x = v ∷ x} a zero zero w at also = refl
-one_place {k} {x = v ∷ x} a zero (suc j) w at also = let same : v ≡ w = cc in absurd (omega (arith, first_less a j w also, ap (word_number k) same))
-one_place {k} {x = v ∷ x} a (suc i) zero w at also = let same : v ≡ w = cc in absurd (omega (arith, first_less a i w at, ap (word_number k) same))
-one_place {x = v ∷ x} a (suc i) (suc j) w at also = ap suc (one_place (tail a) i j w at also)
-
--- the words of one list stand in another
-abbrev AreIn : List (List ℕ) → List (List ℕ) → Type 0
-AreIn x y = (i : ℕ) (w : List ℕ) → slice_get x i ≡ Some w → (j : ℕ) × (slice_get y j ≡ Some w)
-
--- a word behind the first of one list is behind it in another
-behind : {k : ℕ} {v : List ℕ} {x : List (List ℕ)} → AreAscending k (v ∷ x) → (y : List (List ℕ)) (i j : ℕ) (w : List ℕ) → slice_get x i ≡ Some w → slice_get (v ∷ y) j ≡ Some w → (j : ℕ) × (slice_get y j ≡ Some w)
-behind {k} {v} a y i zero w at also = let same : v ≡ w = cc in absurd (omega (arith, first_less a i w at, ap (word_number k) same))
-behind a y i (suc j) w at also = (j, also)
-
--- the first words of lists with the same words are one
-one_first : {k : ℕ} {v w : List ℕ} {x y : List (List ℕ)} → AreAscending k (v ∷ x) → AreAscending k (w ∷ y) → (i j : ℕ) → slice_get (v ∷ x) i ≡ Some w → slice_get (w ∷ y) j ≡ Some v → v ≡ w
-one_first a b zero j at also = cc
-one_first a b (suc i) zero at also = cc
-one_first {v = v} {w} a b (suc i) (suc j) at also = absurd (omega (arith, first_less a i w at, first_less b j v also))
-
--- ascending lists with the same words are one
-one_list : {k : ℕ} (x y : List (List ℕ)) → AreAscending k x → AreAscending k y → AreIn x y → AreIn y x → x ≡ y
-one_list [] [] a b into back = refl
-one_list [] (w ∷ y) a b into back = absurd (none-some w (back 0 w refl).1)
-one_list (v ∷ x) [] a b into back = absurd (none-some v (into 0 v refl).1)
-one_list {k} (v ∷ x) (w ∷ y) a b into back =
-    let (j, also) = into 0 v refl in
-    let (i, at) = back 0 w refl in
-    let same = one_first a b i j at also in
-    let there = subst (λ u. AreIn (v ∷ x) (u ∷ y)) (sym same) into in
-    let here = subst (λ u. AreIn (w ∷ y) (u ∷ x)) same back in
-    ap₂ (λ (u : List ℕ) (z : List (List ℕ)). u ∷ z) same (one_list x y (tail a) (tail b)
-    (λ i u at. let (j, also) = there (suc i) u at in behind a y i j u at also)
-    (λ i u at. let (j, also) = here (suc i) u at in behind b x i j u at also))
-
--- the classes of a rule are ascending words
-IsClassList-ascending : {r : LocalRule} {x : List (List ℕ)} → IsClassList r x → AreAscending r.states x
-IsClassList-ascending h = record { word = λ i w at. (h.least i w at).word; ascending = h.ascending }
+IsLeastAlike-one {v = v} {w} first second alike = one_word v w (first.least w second.word (λ z word. iff_sym (alike z word))) (second.least v first.word alike)
 
 -- each class of a list is one of any other
-listed_also : {r : LocalRule} {x y : List (List ℕ)} → IsClassList r x → IsClassList r y → AreIn x y
-listed_also {y = y} a b i w at =
+listed_also : {r : LocalRule} {x y : List (List ℕ)} → IsClassList r x → IsClassList r y → (w : List ℕ) → Contains x w → Contains y w
+listed_also {x = x} {y} a b w within =
+    let (i, at) = slice_get-Contains x w within in
     let least = a.least i w at in
     let (j, v, stands, alike) = b.all w least.word in
-    (j, subst (λ u. slice_get y j ≡ Some u) (sym (IsLeastAlike-one least (b.least j v stands) alike)) stands)
+    subst (Contains y) (sym (IsLeastAlike-one least (b.least j v stands) alike)) (Contains-slice_get y j v stands)
 
 -- alike words of a list have one place
 alike_place : {r : LocalRule} {x : List (List ℕ)} → IsClassList r x → (i j : ℕ) (v w : List ℕ) → slice_get x i ≡ Some v → slice_get x j ≡ Some w → Alike r v w → i ≡ j
-alike_place {x = x} a i j v w at also alike = one_place (IsClassList-ascending a) i j w (subst (λ u. slice_get x i ≡ Some u) (IsLeastAlike-one (a.least i v at) (a.least j w also) alike) at) also
+alike_place {x = x} a i j v w at also alike = one_place word_cmp_total x (IsAscending-sorted x a.ascending) i j w (subst (λ u. slice_get x i ≡ Some u) (IsLeastAlike-one (a.least i v at) (a.least j w also) alike) at) also
 
 -- one class comes after a class on a letter
 IsNextClass-unique : {r : LocalRule} {x : List (List ℕ)} {i a g h : ℕ} → IsClassList r x → IsNextClass r x i a g → IsNextClass r x i a h → g ≡ h
@@ -114,7 +47,8 @@ table_place n (suc k) e l =
 -- a rule has at most one least automaton
 pub IsLeastAutomaton-unique : {r : LocalRule} {a b : Automaton} → IsRule r → IsLeastAutomaton r a → IsLeastAutomaton r b → a ≡ b
 IsLeastAutomaton-unique {r} {a} {b} rule x y =
-    let words : x.words ≡ y.words = one_list x.words y.words (IsClassList-ascending x.list) (IsClassList-ascending y.list) (listed_also x.list y.list) (listed_also y.list x.list) in
+    let words : x.words ≡ y.words =
+    same_members word_cmp_total x.words y.words (IsAscending-sorted x.words (x.list).ascending) (IsAscending-sorted y.words (y.list).ascending) (λ w. (listed_also x.list y.list w, listed_also y.list x.list w)) in
     let states : a.states ≡ b.states = x.states ∙ sym y.states in
     let classes : a.classes ≡ b.classes = x.classes ∙ ap length words ∙ sym y.classes in
     let dead : a.dead ≡ b.dead = IsDeadClass-unique rule x.list a.dead b.dead x.dead (subst (λ l. IsDeadClass r l b.dead) (sym words) y.dead) in

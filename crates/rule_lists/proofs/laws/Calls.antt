@@ -1,6 +1,6 @@
 -- Calls one after another give each listed rule once.
 use Rattle.std.proofs.Common.{◌≡◌, ℕ, zero, suc, ◌^◌, ◌<◌, ◌≤◌, List, [], ◌∷◌, ◌++◌, ◌⊎◌, inl, inr, Option, Some, None, refl, sym, subst, arith, ⊎_elim, Contains, slice_index}
-use Rattle.word_image.proofs.Common.{cases_lt, LocalRule}
+use Rattle.word_image.proofs.Common.{cases_lt, Contains-append_right, LocalRule}
 use Rattle.rule_lists.specs.Ranks.{IsOrder, rank, rank_of_first}
 use Rattle.rule_lists.specs.Listed.{IsOfShape, IsListed, IsFirst, NoneIs}
 use Rattle.rule_lists.specs.Calls.{IsAfter, AreAll, AreSoFar, AreAscending, AreListed}
@@ -21,13 +21,7 @@ IsAfter-more : (k : ℕ) (order : List ℕ) (last : Option LocalRule) (r q : Loc
 IsAfter-more k order None r q h l = tt
 IsAfter-more k order (Some p) r q h l = omega (arith, h, l)
 
--- the first element, and those behind it
-Contains-first : (rs : List LocalRule) (r : LocalRule) → Contains (r ∷ rs) r
-Contains-first rs r = (0, omega arith, refl)
-
-Contains-behind : (rs : List LocalRule) (r q : LocalRule) → Contains rs q → Contains (r ∷ rs) q
-Contains-behind rs r q (i, l, e) = (suc i, omega arith, e)
-
+-- what is in a list is its first element, or one behind it
 Contains-cases : (rs : List LocalRule) (r q : LocalRule) → Contains (r ∷ rs) q → (r ≡ q) ⊎ Contains rs q
 Contains-cases rs r q (zero, l, e) = inl e
 Contains-cases rs r q (suc i, l, e) = inr (i, omega arith, e)
@@ -46,11 +40,11 @@ complete : (property : Property) (k m : ℕ) (begin order : List ℕ) (last : Op
 complete property k m begin order last [] h all q listed after = absurd (all q listed after)
 complete property k m begin order last (r ∷ rs) h all q listed after =
     ⊎_elim
-    (λ l. Contains-behind rs r q (complete property k m begin order (Some r) rs h all.1 q listed l))
+    (λ l. Contains-append_right (r ∷ []) rs q (complete property k m begin order (Some r) rs h all.1 q listed l))
     (λ most.
     let least : rank k order r.table ≤ rank k order q.table = all.0.least q listed after in
     let same : r ≡ q = one_rule k m order r q h all.0.listed.shape listed.shape (omega arith) in
-    subst (λ p. Contains (r ∷ rs) p) same (Contains-first rs r))
+    subst (Contains (r ∷ rs)) same (0, omega arith, refl))
     (cases_lt (rank k order r.table) (rank k order q.table))
 
 -- all listed rules after the last one ascend

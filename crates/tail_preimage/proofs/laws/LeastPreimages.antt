@@ -1,7 +1,8 @@
 -- Of the first shape the first loop walks are the least preimage: the least node with a loop, and first walks for each of the three parts. There is one least preimage.
-use Rattle.std.proofs.Common.{◌≡◌, ◌≢◌, ℕ, ◌+◌, ◌-◌, List, ◌++◌, length, take, drop, ℤ, refl, sym, ap, ap₂, ◌∙◌, subst, arith, length-append, length-drop, append_assoc, nat_cmp, Equal, Greater, take-append-drop, take_at, drop_at}
+use Rattle.std.proofs.Common.{◌≡◌, ◌≢◌, ℕ, ◌+◌, ◌-◌, List, ◌++◌, length, take, drop, ℤ, refl, sym, ap, ap₂, ◌∙◌, subst, arith, length-append, length-drop, append_assoc, nat_cmp, Ordering, Equal, Greater, take-append-drop, take_at, drop_at}
 use Rattle.std.proofs.lemmas.Cmp.{nat_cmp_total, nat_list_cmp_total, on_total, then_total}
-use Rattle.word_image.proofs.Common.{repeat, ordering_then, IsTotalOrder, nat_cmp_is, slice_cmp, drop-append-le, LocalRule, IsRule, IsBitSet-pow, then_equal, then_not_greater, nat_cmp-equal}
+use Rattle.std.proofs.lemmas.Map.Lookups.{exact_bytes}
+use Rattle.word_image.proofs.Common.{repeat, ordering_then, IsTotalOrder, nat_cmp_is, slice_cmp, drop-append-le, LocalRule, IsRule, IsBitSet-pow, then_equal, then_not_greater, nat_cmp-equal, slice_cmp-append, tied}
 use Rattle.tail_config.proofs.Common.{TailConfig, IsTail, config_of}
 use Rattle.tail_preimage.specs.Walks.{IsWalk, before_last}
 use Rattle.tail_preimage.specs.Preimages.{PlacedConfig, Shape, HasShape, IsShapedPreimage, IsLeastPreimage, shape_cmp, letters, stretch, IsSmall, IsFrom}
@@ -10,12 +11,16 @@ use Rattle.tail_preimage.proofs.laws.Walks.{IsWalk-last, IsWalk-then, join-befor
 use Rattle.tail_preimage.proofs.laws.LeastWalks.{cmp-first, least-not_greater}
 use Rattle.tail_preimage.proofs.laws.Placements.{IsShapedPreimage-placed_of}
 use Rattle.tail_preimage.proofs.laws.PlacedWalks.{HasLoopWalks-shape}
-use Rattle.tail_preimage.proofs.laws.Orders.{slice_cmp-append, slice_cmp-equal, first_not_greater, tied}
+
+-- the first isn't greater if both together aren't
+first_not_greater : (a b : Ordering) → ordering_then a b ≢ Greater → a ≢ Greater
+first_not_greater Greater b h e = h refl
+first_not_greater _ b h e = cc
 
 -- where the beginnings aren't greater, and with equal beginnings the rest isn't, the whole isn't greater
 append-not_greater : (a b c d : List ℕ) → length a ≡ length c → slice_cmp nat_cmp a c ≢ Greater → (slice_cmp nat_cmp a c ≡ Equal → slice_cmp nat_cmp b d ≢ Greater)
     → slice_cmp nat_cmp (a ++ b) (c ++ d) ≢ Greater
-append-not_greater a b c d long first rest e = then_not_greater (slice_cmp nat_cmp a c) (slice_cmp nat_cmp b d) first rest (sym (slice_cmp-append a b c d long) ∙ e)
+append-not_greater a b c d long first rest e = then_not_greater (slice_cmp nat_cmp a c) (slice_cmp nat_cmp b d) first rest (sym (slice_cmp-append nat_cmp a b c d long) ∙ e)
 
 -- two walks of one length from one node are compared by the letters behind it
 cmp-behind : {r : LocalRule} {w z x y : List ℕ} {u v s : ℕ} → IsWalk r w u v x → IsWalk r z u s y → length w ≡ length z
@@ -48,14 +53,14 @@ whole-not_greater {r} {t} {s} {v} {w} {v'} {w'} {x} {y} {z} {x'} {y'} {z'} rule 
     append-not_greater x (drop d y ++ drop d z) x' (drop d y' ++ drop d z') (h.left.walk.preimage.long ∙ sym g.left.preimage.long)
     (least-not_greater h.left g.left (h.start v' w' x' y' z' g) (IsBitSet-pow v v').1)
     (λ e.
-    let same_x : x ≡ x' = slice_cmp-equal x x' e in
+    let same_x : x ≡ x' = exact_bytes x x' e in
     let same : v' ≡ v = cc (g.left.first, h.left.walk.first) in
     let middle : IsWalk r (stretch t s.before s.after) v w' y' = subst (λ n. IsWalk r (stretch t s.before s.after) n w' y') same g.middle in
     let second = cmp-behind h.middle.walk middle refl in
     append-not_greater (drop d y) (drop d z) (drop d y') (drop d z') (omega (arith, length-drop d y, length-drop d y'))
     (λ q. h.middle.least w' y' ((h.turning.nodes w' (IsWalk-last g.middle)).1 (z', g.right)) middle (second ∙ q))
     (λ f.
-    let same_y : y ≡ y' = slice_cmp-equal y y' (second ∙ f) in
+    let same_y : y ≡ y' = exact_bytes y y' (second ∙ f) in
     let end : w' ≡ w = cc (g.middle.last, h.middle.walk.last) in
     let turn : IsWalk r (repeat s.on t.right) w w z' = subst (λ n. IsWalk r (repeat s.on t.right) n n z') end g.right in
     λ q. h.right.least w z' ((IsBitSet-pow w w).1 refl) turn (cmp-behind h.right.walk turn refl ∙ q)))
@@ -90,7 +95,7 @@ first-letters {r} {t} {s} {x = x} {y = y} {z = z} {q = q} rule ht h other =
     let i : List ℕ = drop (length z - d) z in
     let j : List ℕ = drop (length g.z - d) g.z in
     let all : slice_cmp nat_cmp (whole r x y z) (whole r g.x g.y g.z) ≡ ordering_then (slice_cmp nat_cmp a b) (slice_cmp nat_cmp i j) =
-    ap₂ (slice_cmp nat_cmp) (whole-letters rule mine) (whole-letters rule g.walks) ∙ slice_cmp-append a i b j (length-letters (IsShapedPreimage-placed_of rule ht mine).shape (IsShapedPreimage-placed_of rule ht g.walks).shape) in
+    ap₂ (slice_cmp nat_cmp) (whole-letters rule mine) (whole-letters rule g.walks) ∙ slice_cmp-append nat_cmp a i b j (length-letters (IsShapedPreimage-placed_of rule ht mine).shape (IsShapedPreimage-placed_of rule ht g.walks).shape) in
     subst (λ p. slice_cmp nat_cmp a (letters p) ≢ Greater) g.placed (first_not_greater (slice_cmp nat_cmp a b) (slice_cmp nat_cmp i j) (λ e. whole-not_greater rule h g.walks (all ∙ e)))
 
 -- the first walks of a shape that is no greater than that of any other walks are the least preimage
@@ -135,4 +140,4 @@ IsLeastPreimage-unique {r} {t} {p} {q} h g =
     then_total (on_total (λ (a : Shape × PlacedConfig). a.0) keys) (on_total (λ (a : Shape × PlacedConfig). letters a.1) nat_list_cmp_total) in
     let (shapes, words) = then_equal (shape_cmp h.shape g.shape) (slice_cmp nat_cmp (letters p) (letters q))
     (tied order (h.shape, p) (g.shape, q) (h.least g.shape q g.preimage) (g.least h.shape p h.preimage)) in
-    same_placed h.preimage.shape (subst (λ s. HasShape r t s q) (sym (shape_cmp-equal h.shape g.shape shapes)) g.preimage.shape) (slice_cmp-equal (letters p) (letters q) words)
+    same_placed h.preimage.shape (subst (λ s. HasShape r t s q) (sym (shape_cmp-equal h.shape g.shape shapes)) g.preimage.shape) (exact_bytes (letters p) (letters q) words)

@@ -1,13 +1,12 @@
 -- The first walk of a word from a node into a set of nodes is found edge by edge: at each place the edge to the least node from which the set can still be reached.
 use Rattle.std.proofs.Common.{◌≡◌, ◌≢◌, ◌↔◌, ℕ, ◌+◌, ◌-◌, ◌<◌, ◌≤◌, List, [], ◌∷◌, ◌++◌, length, take, drop, get_or, slice_index, IsBitSet, bit_and, refl, sym, ap, ap₂, ◌∙◌, subst, arith, length-drop, append_assoc, ⊎_elim, nat_cmp, Less, Equal, Greater, take-append-drop, take_all, get_or-drop, length-take-le}
-use Rattle.word_image.proofs.Common.{slice_cmp, ordering_then, nat_cmp_is, cases_lt, get_or_push, length_push, nil_from_length, All-take, All-drop, LocalRule, IsRule, word_of, node_count, node_letter, IsNodeSet, IsEnds, IsEdge, length-word_of, word_of-value, slice_cmp-same, slice_cmp-value}
+use Rattle.word_image.proofs.Common.{slice_cmp, ordering_then, nat_cmp_is, cases_lt, get_or_push, length_push, nil_from_length, All-take, All-drop, LocalRule, IsRule, word_of, node_count, node_letter, IsNodeSet, IsEnds, IsEdge, length-word_of, word_of-value, slice_cmp-same, slice_cmp-value, key_not_greater, slice_cmp-append}
 use Rattle.word_image.specs.declared.side.Side.TheVariants.{Right}
 use Rattle.pair_laws.proofs.Common.{IsBitSet-below, IsBitSet-and}
 use Rattle.tail_preimage.specs.Walks.{IsWalk, Reaches, IsLeastWalkInto}
 use Rattle.tail_preimage.specs.Relations.{IsFirst}
 use Rattle.tail_preimage.proofs.laws.Stretches.{drop-first}
 use Rattle.tail_preimage.proofs.laws.Walks.{IsWalk-none, IsWalk-stays, IsWalk-push, IsWalk-letter, IsWalk-cons, IsWalk-uncons, HasWalk-cons, same_first}
-use Rattle.tail_preimage.proofs.laws.Orders.{slice_cmp-append, key_not_greater}
 
 -- at the end of the word the set is reached from its nodes
 pub Reaches-none : {r : LocalRule} → (goal u : ℕ) → u < node_count r → Reaches r [] goal u ↔ IsBitSet goal u
@@ -28,7 +27,7 @@ cmp-first {r} {x = x} {y = y} h g e =
     let d : ℕ = r.width - 1 in
     let long : length (take d x) ≡ length (take d y) = length-take-le d x (omega arith) ∙ sym (length-take-le d y (omega arith)) in
     ap₂ (slice_cmp nat_cmp) (sym (take-append-drop d x)) (sym (take-append-drop d y))
-    ∙ slice_cmp-append (take d x) (drop d x) (take d y) (drop d y) long
+    ∙ slice_cmp-append nat_cmp (take d x) (drop d x) (take d y) (drop d y) long
     ∙ ap (λ o. ordering_then o (slice_cmp nat_cmp (drop d x) (drop d y)))
     (slice_cmp-value r.states (take d x) (take d y) (All-take (λ a. a < r.states) d x h.preimage.word) (All-take (λ a. a < r.states) d y g.preimage.word) long ∙ ap₂ nat_cmp h.first g.first)
 
@@ -64,7 +63,7 @@ IsLeastWalkInto-cons {r} {w} {z} {a} {v = v} {node = node} rule l edge none h = 
       let (m, on, rest) = IsWalk-uncons rule a w other in
       let least : node ≤ m = ⊎_elim (λ less. absurd (none m less on (t, at, (drop 1 y, rest)))) (λ most. most) (cases_lt m node) in
       subst (λ x. slice_cmp nat_cmp (node_letter r v 0 ∷ z) x ≢ Greater) (sym (IsWalk-letter rule other))
-      (key_not_greater (node_letter r v 0) (node_letter r v 0) (slice_cmp nat_cmp z (drop 1 y)) (omega arith) (λ _. least-not_greater h rest least (λ _. at)));
+      ((key_not_greater (node_letter r v 0) (node_letter r v 0) (slice_cmp nat_cmp z (drop 1 y))).1 (omega arith, λ _. least-not_greater h rest least (λ _. at)));
 }
 
 -- x is the beginning of the first walk of w into the goal, after n edges: the letters before its last node v, and then those of the first walk along the rest from v, are the first walk of w

@@ -1,13 +1,12 @@
 -- The first possible shape is found key by key, and the first gap side by side.
 use Rattle.std.proofs.Common.{◌≡◌, ◌↔◌, ℕ, ◌+◌, ◌-◌, ◌<◌, ◌≤◌, IsBitSet, refl, sym, arith, ⊎_elim, nat_cmp}
-use Rattle.word_image.proofs.Common.{ordering_then, cases_lt, LocalRule, node_count, IsNodeSet, HasBit, nat_cmp-le}
+use Rattle.word_image.proofs.Common.{ordering_then, cases_lt, LocalRule, node_count, IsNodeSet, HasBit, nat_cmp-le, key_not_greater}
 use Rattle.pair_laws.proofs.Common.{IsBitSet-below}
 use Rattle.tail_config.proofs.Common.{TailConfig}
 use Rattle.tail_preimage.specs.Preimages.{Shape}
 use Rattle.tail_preimage.specs.Relations.{Open, Rounds, SomeRounds, Meets, IsFirst}
 use Rattle.tail_preimage.specs.Parts.{AreTailParts, Through, IsFirstShape}
 use Rattle.tail_preimage.specs.declared.shapes.PartRelations.{PartRelations}
-use Rattle.tail_preimage.proofs.laws.Orders.{key_not_greater}
 use Rattle.tail_preimage.proofs.laws.Steps.{exact_rounds, Open-rounds}
 use Rattle.tail_preimage.proofs.laws.Parts.{ArePeriods-end}
 
@@ -61,13 +60,13 @@ IsFirstShape-keys {r} {t} {parts} h left right before after keys =
           let (turn, (v, v_node, lefts, (w, w_node, row, behind))) = possible.starts in
           let rounds : Rounds A u.before u.back v = (possible.node, lefts, turn) in
           let first = keys.left_least (u.back + u.before) (v, w, v_node, w_node, (u.before, u.back, omega arith, possible.back_some, rounds), row, Open-rounds C u.after u.on w possible.on_some behind 16) in
-          key_not_greater (s.back + s.before) (u.back + u.before) (ordering_then (nat_cmp (s.on + s.after) (u.on + u.after)) (ordering_then (nat_cmp before u.before) (nat_cmp after u.after))) (omega (arith, first)) (λ e.
+          (key_not_greater (s.back + s.before) (u.back + u.before) (ordering_then (nat_cmp (s.on + s.after) (u.on + u.after)) (ordering_then (nat_cmp before u.before) (nat_cmp after u.after)))).1 (omega (arith, first), λ e.
           let left_sum : u.before + u.back ≡ left = omega (arith, e) in
           let second = keys.right_least (u.on + u.after) (v, w, v_node, w_node, (u.before, u.back, left_sum, possible.back_some, rounds), row, (u.after, u.on, omega arith, possible.on_some, behind)) in
-          key_not_greater (s.on + s.after) (u.on + u.after) (ordering_then (nat_cmp before u.before) (nat_cmp after u.after)) (omega (arith, second)) (λ f.
+          (key_not_greater (s.on + s.after) (u.on + u.after) (ordering_then (nat_cmp before u.before) (nat_cmp after u.after))).1 (omega (arith, second), λ f.
           let right_sum : u.after + u.on ≡ right = omega (arith, f) in
-          key_not_greater before u.before (nat_cmp after u.after)
-          (keys.before_least u.before (v, w, v_node, w_node, exact_rounds A u.before u.before u.back left v refl left_sum rounds, row, (u.after, u.on, right_sum, possible.on_some, behind))) (λ g.
+          (key_not_greater before u.before (nat_cmp after u.after)).1 (
+          keys.before_least u.before (v, w, v_node, w_node, exact_rounds A u.before u.before u.back left v refl left_sum rounds, row, (u.after, u.on, right_sum, possible.on_some, behind)), λ g.
           nat_cmp-le after u.after
           (keys.after_least u.after (v, w, v_node, w_node, exact_rounds A u.before before u.back left v (sym g) left_sum rounds, row, exact_rounds C u.after u.after u.on right w refl right_sum behind)))));
     }

@@ -1,13 +1,13 @@
 -- Dictionary order of words of one length is the order of their values.
-use Rattle.std.proofs.Common.{◌≡◌, ℕ, ◌+◌, ◌*◌, ◌^◌, ◌<◌, List, [], ◌∷◌, length, refl, ap, ◌∙◌, arith, mul_comm, nat_cmp, Ordering, Less, Equal, Greater}
+use Rattle.std.proofs.Common.{◌≡◌, ℕ, ◌+◌, ◌*◌, ◌^◌, ◌<◌, List, [], ◌∷◌, length, refl, ap, ◌∙◌, arith, mul_comm, nat_cmp, Ordering, Equal}
 use Rattle.std.proofs.lemmas.Nat.{mul-add-lt}
 use Rattle.std.proofs.lemmas.List.Elements.{All-tail}
 use Rattle.std.specs.Ordering.{ordering_then}
-use Rattle.std.specs.Cmp.{nat_cmp_is}
-use Rattle.std.proofs.lemmas.Cmp.{ranked, by_ranked}
+use Rattle.std.proofs.lemmas.Cmp.{by_ranked}
 use Rattle.std.specs.Cmp.Lexicographic.{slice_cmp}
 use Rattle.word_image.specs.LocalRules.{IsWord, value}
 use Rattle.word_image.proofs.laws.Values.{value-below}
+use Rattle.word_image.proofs.laws.Comparisons.{key_number}
 
 -- of two numbers in base n the one with the lesser first digit is less
 pub digits-lt : (a b u v n : ℕ) → u < n → a < b → a * n + u < b * n + v
@@ -18,13 +18,9 @@ pub nat_cmp-add : (m u v : ℕ) → nat_cmp u v ≡ nat_cmp (m + u) (m + v)
 nat_cmp-add m u v = grind (arith, by_ranked)
 
 -- numbers of two digits in base n are compared by the first digit, then by the second
-nat_cmp-digits : (a b u v n : ℕ) → u < n → v < n → ordering_then (nat_cmp a b) (nat_cmp u v) ≡ nat_cmp (a * n + u) (b * n + v)
+pub nat_cmp-digits : (a b u v n : ℕ) → u < n → v < n → ordering_then (nat_cmp a b) (nat_cmp u v) ≡ nat_cmp (a * n + u) (b * n + v)
 nat_cmp-digits a b u v n h g =
-    let after = λ (o : Ordering). ordering_then o (nat_cmp u v) in
-    by_ranked (a < b) (a ≡ b) (b < a) (nat_cmp a b) (ranked a b (nat_cmp a b) refl)
-    (λ is l. ap after is ∙ nat_cmp_is (a * n + u) (b * n + v) Less (digits-lt a b u v n h l))
-    (λ is e. ap after is ∙ nat_cmp-add (a * n) u v ∙ ap (λ c. nat_cmp (a * n + u) (c * n + v)) e)
-    (λ is l. ap after is ∙ nat_cmp_is (a * n + u) (b * n + v) Greater (digits-lt b a v u n g l))
+    key_number a b (a * n + u) (b * n + v) (nat_cmp u v) (digits-lt a b u v n h) (λ e. nat_cmp-add (a * n) u v ∙ ap (λ c. nat_cmp (a * n + u) (c * n + v)) e) (digits-lt b a v u n g)
 
 -- two orderings are both equal if both together are
 pub then_equal : (a b : Ordering) → ordering_then a b ≡ Equal → (a ≡ Equal) × (b ≡ Equal)

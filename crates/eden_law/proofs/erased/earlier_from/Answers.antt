@@ -6,7 +6,7 @@ use Rattle.pair_laws.proofs.Common.{first_of-pair_of, second_of-pair_of, pair_of
 use Rattle.eden_law.specs.Erasures.{IsErasure}
 use Rattle.tail_laws.proofs.Common.{IsLeastOf, IsFirstFound, IsFirstFound-next}
 use Rattle.eden_law.proofs.LeastErasures.{start_of, goal_of, erasure_letters, IsLeastOf-walk, IsFirstFound-within}
-use Rattle.eden_law.proofs.FoundErasures.{ArePairs-erasure, uncode-node}
+use Rattle.eden_law.proofs.FoundErasures.{uncode-node}
 use Rattle.eden_law.proofs.erased.earlier_from.Goals as goal
 use Rattle.eden_law.proofs.erased.earlier_from.Goals.{in-Some, in_default}
 
@@ -39,7 +39,7 @@ loop-to-preserved c =
           let bytes : map (uncode 16) w.behind_node-steps.result ≡ erasure_letters r p (map (uncode 16) walk) =
           rw (w.behind_node-steps.ensures, w.as_slice.ensures.letters, same, first) (uncode-node rule u c.requires.node walk) in
           subst (IsFirstFound (IsErasure r) (p + 1)) (sym w.first-is)
-          (IsFirstFound-next (λ q abs l e. ArePairs-erasure rule (omega (arith, l, below)) e) c.loop-to.first w.behind_node-steps.result w.earlier.result w.earlier.ensures c.loop-to.invariant
+          (IsFirstFound-next c.loop-to.first w.behind_node-steps.result w.earlier.result w.earlier.ensures c.loop-to.invariant
           (subst (IsLeastOf (IsErasure r) p) (sym bytes) (IsLeastOf-walk least)))
       | in_default w ↦
           let earlier : (q : ℕ) → q < u * node_count r → first_of r q < first_of r p =

@@ -1,6 +1,6 @@
 use Rattle.std.proofs.Common.{◌+◌, map, sym, subst}
 use Rattle.word_image.proofs.Common.{LocalRule}
-use Rattle.search_laws.proofs.Common.{uncode, ArePairs-walk}
+use Rattle.search_laws.proofs.Common.{uncode}
 use Rattle.tail_laws.proofs.Common.{IsLeastOf, IsFirstFound, IsTurn, IsFirstFound-next, IsLeastTurn, IsLeastOf-turn}
 use Rattle.inverse_window.proofs.TurnSteps.{IsFirstFound-later}
 use Rattle.inverse_window.proofs.twin_pairs.first_turn.Goals as goal
@@ -13,7 +13,7 @@ loop-p-preserved c =
       | in-Some w ↦
           let turn : IsLeastTurn r c.loop-p.p (map (uncode 16) w.in-Some.turn.now) = rw c.count-count.ensures.count at w.in-Some.ensures.least in
           subst (IsFirstFound (IsTurn r) (c.loop-p.p + 1)) (sym w.first-is)
-          (IsFirstFound-next (λ q w l e. ArePairs-walk 16 c.count-count.ensures.rule.shape.most_states e) c.loop-p.first w.of.result w.earlier.result w.earlier.ensures c.loop-p.invariant
+          (IsFirstFound-next c.loop-p.first w.of.result w.earlier.result w.earlier.ensures c.loop-p.invariant
           (subst (λ steps. IsLeastOf (IsTurn r) c.loop-p.p (map (uncode 16) steps)) (sym w.of.ensures) (IsLeastOf-turn c.count-count.ensures.rule turn)))
       | in_default w ↦
           let ends = c.count-count.ensures.count in

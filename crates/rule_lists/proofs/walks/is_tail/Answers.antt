@@ -15,5 +15,5 @@ pub returns-then-has_one_node : goal.returns-then-has_one_node
 returns-then-has_one_node c told =
     let leads = c.if-not-leads_on.false in
     let different = λ (e : first_of c.args.shape.now c.loop.at ≡ second_of c.args.shape.now c.loop.at). false≢true (sym (ap not (c.has_one_node-then-has_one_node.ensures.1 e)) ∙ told) in
-    IsFixedTail-step c.args.side c.args.shape.now c.args.letters.now c.from-from.result c.loop.at c.args.pair c.pairs-end.ensures.rule (c.leads_on.ensures.from leads) c.loop.invariant.inside
+    IsFixedTail-step c.args.side c.args.shape.now c.args.letters.now c.from-from.result c.loop.at c.args.pair c.pairs-end.ensures.rule
     (c.has_one_node.ensures.0 c.if-has_one_node.true) different (c.leads_on.ensures.leads leads) c.loop.invariant.walk
