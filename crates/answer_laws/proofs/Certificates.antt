@@ -1,21 +1,18 @@
 -- The certificate that is written for a rule is one: its least evidence, its cover list or reached pairs, and its ranks.
 use Rattle.std.proofs.Common.{◌≡◌, ℕ, ◌+◌, ◌<◌, ◌≤◌, ⊎_elim, List, [], length, get_or, Contains, refl, sym, ap, ◌∙◌, subst, arith, Option, None, Some, MatchOption}
 use Rattle.std.proofs.lemmas.Cmp.{nat_cmp_total}
-use Rattle.std.proofs.lemmas.Map.Keys.{sorted_from_strictly_increasing, sorted_from_all_adjacent}
-use Rattle.std.specs.List.Sorted.{IsStrictlySortedBy}
-use Rattle.word_image.proofs.Common.{same_number_lists, get_or_default, same_lists, none-some, same_Some, slice_get-get_or, LocalRule, IsRule, IsSurjective, word_cmp, first_of, second_of, full_set, IsRank, IsEndless, IsLastSet, IsLeastWordOf, IsFamily, covers_of, IsCoverList, Together, IsOrphan-empty_set, IsOrphan-not_surjective, paired_at, paired_length}
+use Rattle.std.proofs.lemmas.Map.Keys.{sorted_from_strictly_increasing}
+use Rattle.word_image.proofs.Common.{same_number_lists, get_or_default, same_lists, none-some, same_Some, LocalRule, IsRule, IsSurjective, word_cmp_total, first_of, second_of, full_set, IsRank, IsEndless, IsLastSet, IsLeastWordOf, IsFamily, covers_of, IsCoverList, Together, IsOrphan-empty_set, IsOrphan-not_surjective, paired_at, paired_length}
 use Rattle.word_image.specs.declared.side.Side.{Side}
 use Rattle.word_image.specs.declared.side.Side.TheVariants.{Right, Left}
 use Rattle.pair_laws.proofs.Common.{IsRank-one, Together-less}
-use Rattle.search_laws.proofs.Common.{IsLastSet-unique}
+use Rattle.search_laws.proofs.Common.{IsAscending-sorted, IsLastSet-unique, one_word, same_members}
 use Rattle.cert_values.specs.declared.cert_version.CertVersion.{CertVersion}
 use Rattle.cert_values.specs.declared.cert_version.CertVersion.TheVariants.{Two, Three}
 use Rattle.cert_values.proofs.Common.{SurjectiveEvidence, Sets, Pairs, Orphan, Certificate}
 use Rattle.certificate_laws.specs.LeastEvidence.{Evidence, IsOrphanPart}
 use Rattle.certificate_laws.specs.WrittenCertificates.{orphan_of, IsListPart, IsRankRow, IsWritten}
 use Rattle.garden_laws.specs.ReachedPairs.{AreReached}
-use Rattle.answer_laws.proofs.Orders.{word_cmp_total, one_word}
-use Rattle.answer_laws.proofs.Lists.{same_members}
 use Rattle.answer_laws.proofs.Evidence.{IsLeastEvidence-unique}
 
 -- what holds for each lesser length has one rank, or none
@@ -45,13 +42,6 @@ AreReached-unique {r} {pairs} {others} here there =
 IsLeastWordOf-unique : {r : LocalRule} {set : ℕ} {v w : List ℕ} → IsLeastWordOf r set v → IsLeastWordOf r set w → v ≡ w
 IsLeastWordOf-unique {v = v} {w = w} h g = one_word v w (h.least w g.set_of) (g.least v h.set_of)
 
--- the words of a family ascend
-words-sorted : {r : LocalRule} {sets : List ℕ} → (family : IsFamily r sets) → IsStrictlySortedBy word_cmp family.words
-words-sorted family =
-    let ws = family.words in
-    sorted_from_all_adjacent word_cmp_total ws [] (λ k within.
-    family.ascending k (get_or ws k []) (get_or ws (k + 1) []) (slice_get-get_or ws k [] (omega (arith, within))) (slice_get-get_or ws (k + 1) [] within))
-
 -- the families of a surjective rule have the same words
 words_within : {r : LocalRule} {sets others : List ℕ} → IsSurjective r → (here : IsFamily r sets) (there : IsFamily r others) (w : List ℕ) → Contains here.words w → Contains there.words w
 words_within {r} {sets} {others} every here there w (k, within, at) =
@@ -68,7 +58,7 @@ words_within {r} {sets} {others} every here there w (k, within, at) =
 -- a surjective rule has one family
 IsFamily-unique : {r : LocalRule} {sets others : List ℕ} → IsSurjective r → IsFamily r sets → IsFamily r others → sets ≡ others
 IsFamily-unique {r} {sets} {others} every here there =
-    let words = same_members word_cmp_total here.words there.words (words-sorted here) (words-sorted there) (λ w. (words_within every here there w, words_within every there here w)) in
+    let words = same_members word_cmp_total here.words there.words (IsAscending-sorted here.words here.ascending) (IsAscending-sorted there.words there.ascending) (λ w. (words_within every here there w, words_within every there here w)) in
     let long = paired_length (IsLeastWordOf r) sets here.words here.each ∙ ap length words ∙ sym (paired_length (IsLeastWordOf r) others there.words there.each) in
     same_number_lists sets others long (λ k within.
     let first = (paired_at (IsLeastWordOf r) sets here.words k 0 [] here.each within).set_of in

@@ -3,7 +3,7 @@ use Rattle.std.proofs.Common.{inr, ◌≡◌, ℕ, ◌<◌, List, sym, ap, ◌�
 use Rattle.word_image.proofs.Common.{LocalRule, IsLeastOrphan, IsLeastTwins, IsLeastLossyRing, IsLeastErasable, IsLeastDetermined, IsLeastRightAhead}
 use Rattle.tail_config.proofs.Common.{TailConfig, mirror_of, config_of, IsLeastRightSplit, IsLeastLeftSplit}
 use Rattle.ca_questions.proofs.Fits.{IsLeastDetermined-length}
-use Rattle.answer_laws.proofs.Orders.{one_word, one_pair, one_split}
+use Rattle.answer_laws.proofs.Orders.{one_pair, one_split}
 
 -- a rule has one least orphan
 pub IsLeastOrphan-unique : {r : LocalRule} {v w : List ℕ} → IsLeastOrphan r v → IsLeastOrphan r w → v ≡ w

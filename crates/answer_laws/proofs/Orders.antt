@@ -1,17 +1,12 @@
 -- The orders of words, of pairs of words and of splits: of two that come no later than each other both are one.
 use Rattle.std.proofs.Common.{◌≡◌, ◌≢◌, ℕ, List, length, map, sym, ap, ◌∙◌, zip, nat_cmp, Less, Equal, Greater}
-use Rattle.std.proofs.lemmas.Cmp.{on_total, then_total, nat_cmp_total, nat_list_cmp_total}
 use Rattle.std.proofs.lemmas.Slice.Zip.{firsts-zip, seconds-zip}
-use Rattle.word_image.proofs.Common.{ordering_reverse, IsTotalOrder, slice_cmp, pair_cmp, pairs_cmp, word_cmp, pairs_cmp_total, then_equal}
+use Rattle.word_image.proofs.Common.{slice_cmp, not_before, pair_cmp, pairs_cmp, pairs_cmp_total, then_equal, tied, word_cmp, word_cmp_total}
+use Rattle.search_laws.proofs.Common.{one_word}
 use Rattle.std.specs.FinMap.{slice_cmp-IsAntisymmetric}
 use Rattle.std.proofs.lemmas.Map.Lookups.{exact_unsigned, exact_pairs}
 use Rattle.tail_laws.proofs.Common.{splits_cmp_total}
 use Rattle.tail_config.proofs.Common.{TailConfig, splits_cmp}
-use Rattle.tail_preimage.proofs.laws.Orders.{slice_cmp-equal, tied}
-
--- words are in a total order
-pub word_cmp_total : IsTotalOrder word_cmp
-word_cmp_total = then_total (on_total (λ (w : List ℕ). length w) nat_cmp_total) nat_list_cmp_total
 
 -- lists of letter pairs that compare equal are equal
 letter_pairs-equal : (v w : List (ℕ × ℕ)) → slice_cmp pair_cmp v w ≡ Equal → v ≡ w
@@ -23,10 +18,6 @@ zip-equal x y u v here there same = (
   sym (firsts-zip x y (sym here)) ∙ ap (map (λ (p : ℕ × ℕ). p.0)) same ∙ firsts-zip u v (sym there),
   sym (seconds-zip x y (sym here)) ∙ ap (map (λ (p : ℕ × ℕ). p.1)) same ∙ seconds-zip u v (sym there),
 )
-
--- of two words that come no later than each other both are one
-pub one_word : (v w : List ℕ) → word_cmp v w ≢ Greater → word_cmp w v ≢ Greater → v ≡ w
-one_word v w here there = slice_cmp-equal v w (then_equal (nat_cmp (length v) (length w)) (slice_cmp nat_cmp v w) (tied word_cmp_total v w here there)).1
 
 -- of two pairs of words of one length that come no later than each other both are one
 pub one_pair : (x y u v : List ℕ) → length x ≡ length y → length u ≡ length v → pairs_cmp (zip x y) (zip u v) ≢ Greater → pairs_cmp (zip u v) (zip x y) ≢ Greater
@@ -51,5 +42,4 @@ one_split x y u v middles rights middles' rights' here there =
 
 -- of two words of which neither comes before the other both are one
 pub one_first : (v w : List ℕ) → word_cmp v w ≢ Less → word_cmp w v ≢ Less → v ≡ w
-one_first v w here there =
-    one_word v w (λ greater. there (word_cmp_total.antisymm w v ∙ ap ordering_reverse greater)) (λ greater. here (word_cmp_total.antisymm v w ∙ ap ordering_reverse greater))
+one_first v w here there = one_word v w (not_before word_cmp_total w v there) (not_before word_cmp_total v w here)

@@ -1,6 +1,6 @@
 -- The least automaton of a surjective rule: one class, to which each letter leads.
-use Rattle.std.proofs.Common.{◌≡◌, ◌≢◌, ℕ, ◌+◌, ◌*◌, ◌<◌, List, [], ◌∷◌, length, Some, slice_get, slice_index, replicate, true≢false, refl, sym, ap, ◌∙◌, subst, arith, nat_cmp, is_gt, Less, Equal, Greater}
-use Rattle.word_image.proofs.Common.{ordering_then, nat_cmp_is, slice_cmp, get_or-replicate, length-replicate, get_or_from_slice_get, slice_get_within, LocalRule, IsSurjective, word_cmp}
+use Rattle.std.proofs.Common.{◌≡◌, ◌≢◌, ℕ, ◌+◌, ◌*◌, ◌<◌, List, [], ◌∷◌, length, Some, slice_get, slice_index, replicate, refl, sym, ap, ◌∙◌, subst, arith, Less, Equal, Greater}
+use Rattle.word_image.proofs.Common.{get_or-replicate, length-replicate, get_or_from_slice_get, slice_get_within, LocalRule, IsSurjective, word_cmp, key_not_greater}
 use Rattle.image_minimal.specs.ImageLanguages.{Alike, IsLeastAlike, IsLeastAutomaton}
 use Rattle.ca_answering.specs.OneClass.{one_class}
 
@@ -13,12 +13,8 @@ alike-surjective every x y z word = (
 
 -- no word comes before that of no letter
 none_before : (v : List ℕ) → word_cmp [] v ≢ Greater
-none_before [] e =
-    let same : word_cmp [] [] ≡ Equal = ap (λ o. ordering_then o Equal) (sym (nat_cmp_is 0 0 Equal (omega arith))) in
-    true≢false (sym (ap is_gt e) ∙ ap is_gt same)
-none_before (a ∷ v) e =
-    let less : word_cmp [] (a ∷ v) ≡ Less = ap (λ o. ordering_then o (slice_cmp nat_cmp [] (a ∷ v))) (sym (nat_cmp_is 0 (length (a ∷ v)) Less (omega arith))) in
-    true≢false (sym (ap is_gt e) ∙ ap is_gt less)
+none_before [] = (key_not_greater 0 0 Equal).1 (omega arith, λ _ e. cc)
+none_before (a ∷ v) = (key_not_greater 0 (length (a ∷ v)) Less).1 (omega arith, λ _ e. cc)
 
 -- the empty word is the first of a list of nothing else
 first_is : (i : ℕ) (w : List ℕ) → slice_get ([] ∷ []) i ≡ Some w → w ≡ []
