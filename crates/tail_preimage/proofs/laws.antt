@@ -4,7 +4,6 @@ pub mod Stretches
 pub mod Parts
 pub mod Placements
 pub mod PlacedWalks
-pub mod Orders
 pub mod Shapes
 pub mod LeastWalks
 pub mod LeastPreimages
