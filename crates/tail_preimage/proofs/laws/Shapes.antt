@@ -60,13 +60,21 @@ IsFirstShape-keys {r} {t} {parts} h left right before after keys =
           let (turn, (v, v_node, lefts, (w, w_node, row, behind))) = possible.starts in
           let rounds : Rounds A u.before u.back v = (possible.node, lefts, turn) in
           let first = keys.left_least (u.back + u.before) (v, w, v_node, w_node, (u.before, u.back, omega arith, possible.back_some, rounds), row, Open-rounds C u.after u.on w possible.on_some behind 16) in
-          (key_not_greater (s.back + s.before) (u.back + u.before) (ordering_then (nat_cmp (s.on + s.after) (u.on + u.after)) (ordering_then (nat_cmp before u.before) (nat_cmp after u.after)))).1 (omega (arith, first), λ e.
-          let left_sum : u.before + u.back ≡ left = omega (arith, e) in
-          let second = keys.right_least (u.on + u.after) (v, w, v_node, w_node, (u.before, u.back, left_sum, possible.back_some, rounds), row, (u.after, u.on, omega arith, possible.on_some, behind)) in
-          (key_not_greater (s.on + s.after) (u.on + u.after) (ordering_then (nat_cmp before u.before) (nat_cmp after u.after))).1 (omega (arith, second), λ f.
-          let right_sum : u.after + u.on ≡ right = omega (arith, f) in
-          (key_not_greater before u.before (nat_cmp after u.after)).1 (
-          keys.before_least u.before (v, w, v_node, w_node, exact_rounds A u.before u.before u.back left v refl left_sum rounds, row, (u.after, u.on, right_sum, possible.on_some, behind)), λ g.
-          nat_cmp-le after u.after
-          (keys.after_least u.after (v, w, v_node, w_node, exact_rounds A u.before before u.back left v (sym g) left_sum rounds, row, exact_rounds C u.after u.after u.on right w refl right_sum behind)))));
+          (key_not_greater (s.back + s.before) (u.back + u.before) (ordering_then (nat_cmp (s.on + s.after) (u.on + u.after)) (ordering_then (nat_cmp before u.before) (nat_cmp after u.after)))).1 (
+            omega (arith, first),
+            λ e.
+                let left_sum : u.before + u.back ≡ left = omega (arith, e) in
+                let second = keys.right_least (u.on + u.after) (v, w, v_node, w_node, (u.before, u.back, left_sum, possible.back_some, rounds), row, (u.after, u.on, omega arith, possible.on_some, behind)) in
+                (key_not_greater (s.on + s.after) (u.on + u.after) (ordering_then (nat_cmp before u.before) (nat_cmp after u.after))).1 (
+                  omega (arith, second),
+                  λ f.
+                      let right_sum : u.after + u.on ≡ right = omega (arith, f) in
+                      (key_not_greater before u.before (nat_cmp after u.after)).1 (
+                        keys.before_least u.before (v, w, v_node, w_node, exact_rounds A u.before u.before u.back left v refl left_sum rounds, row, (u.after, u.on, right_sum, possible.on_some, behind)),
+                        λ g.
+                            nat_cmp-le after u.after
+                            (keys.after_least u.after (v, w, v_node, w_node, exact_rounds A u.before before u.back left v (sym g) left_sum rounds, row, exact_rounds C u.after u.after u.on right w refl right_sum behind)),
+                      ),
+                ),
+          );
     }
