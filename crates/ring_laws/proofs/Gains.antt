@@ -1,8 +1,8 @@
 -- What the image of a word weighs more than the letters at which its windows begin: window by window, in two parts, and round a ring.
-use Rattle.std.proofs.Common.{◌≡◌, ℕ, ◌+◌, ◌-◌, ◌<◌, ◌≤◌, List, [], ◌∷◌, ◌++◌, length, take, drop, slice_index, sum_by, ℤ, pos, ◌+ℤ◌, ◌-ℤ◌, sym, ap, ap₂, ◌∙◌, arith, length-drop, length-take-le, get_or-take}
+use Rattle.std.proofs.Common.{◌≡◌, ℕ, ◌+◌, ◌-◌, ◌<◌, ◌≤◌, List, [], ◌∷◌, length, take, drop, slice_index, sum_by, ℤ, pos, ◌-ℤ◌, sym, ap, ap₂, ◌∙◌, arith, length-drop, length-take-le, get_or-take}
 use Rattle.word_image.proofs.Common.{ints, drop-take, sum_by-cons, LocalRule, IsRule, local_map, image, ring_letters, ring_image, get_or-image, image-short, image-drop, length-image, sum_by-ring_letters}
 use Rattle.ring_laws.proofs.Rings.{sum_by-ring_image, length-ring_letters, take-ring_letters}
-use Rattle.ring_laws.proofs.Walks.{IsWindowSum, sum-append}
+use Rattle.ring_laws.proofs.Walks.{IsWindowSum}
 
 -- how much more the image of a word weighs than the letters at which its windows begin
 abbrev pub gain : (ℕ → ℕ) → LocalRule → List ℕ → ℤ
@@ -58,8 +58,3 @@ IsWindowSum-gain {r} rule weight = record {
       let first : weight (slice_index (take (d + 1) x) 0) ≡ weight (slice_index x 0) = ap weight (get_or-take (d + 1) x 0 0 (omega arith)) in
       omega (arith, ints);
 }
-
--- two words that share m - 1 letters gain together what they gain apart
-pub gain-append : {r : LocalRule} → IsRule r → (weight : ℕ → ℕ) (a b c : List ℕ) → length b ≡ r.width - 1
-    → gain weight r (a ++ (b ++ c)) ≡ gain weight r (a ++ b) +ℤ gain weight r (b ++ c)
-gain-append rule weight = sum-append (IsWindowSum-gain rule weight)

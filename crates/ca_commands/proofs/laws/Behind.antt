@@ -1,7 +1,7 @@
 -- Which words stand behind a name.
-use Rattle.std.proofs.Common.{◌≡◌, ℕ, List, [], ◌∷◌, ◌++◌, length, sym, ap, ◌∙◌, subst, arith, drop}
+use Rattle.std.proofs.Common.{◌≡◌, ℕ, List, [], ◌∷◌, ◌++◌, length, sym, ap, ◌∙◌, subst, drop}
 use Rattle.ca_commands.specs.declared.names.Name.{Name}
-use Rattle.ca_commands.specs.Commands.{AreOperands, Command, IsCommand, IsOperand, form_of, rule_count, word_of}
+use Rattle.ca_commands.specs.Commands.{AreOperands, Command, IsCommand, form_of, rule_count, word_of}
 use Rattle.ca_commands.proofs.laws.Names.{word_of-injective}
 
 -- the first of some words
@@ -28,13 +28,3 @@ behind {n} {rest} {c} is =
       many = is.rules ∙ ap rule_count (sym same);
       are = subst (λ m. AreOperands (form_of m) c.operands) (sym same) is.operands;
     }
-
--- what stands behind one rule
-behind_one : {t o : List ℕ} (rules operands : List (List ℕ)) → t ∷ o ∷ [] ≡ rules ++ operands → length rules ≡ 1 → operands ≡ o ∷ []
-behind_one [] operands same one = absurd (omega (arith, one))
-behind_one (a ∷ []) operands same one = sym (ap (drop 1) same)
-behind_one (a ∷ b ∷ more) operands same one = absurd (omega (arith, one))
-
-pub operand_behind : (n : Name) {t o : List ℕ} {rest : List (List ℕ)} {c : Command} → rule_count n ≡ 1 → rest ≡ t ∷ o ∷ [] → IsCommand (word_of n ∷ rest) c → IsOperand (form_of n) o
-operand_behind n one same is =
-    let b = behind is in subst (AreOperands (form_of n)) (behind_one b.rules b.operands (sym same ∙ b.rest_is) (b.many ∙ one)) b.are

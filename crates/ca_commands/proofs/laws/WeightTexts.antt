@@ -2,7 +2,7 @@
 use Rattle.std.proofs.Common.{◌≡◌, ℕ, zero, suc, ◌+◌, ◌<◌, ◌≤◌, true, false, cond, List, [], ◌∷◌, length, take, drop, All, refl, sym, ap, subst, arith, ◌↔◌, ◌==◌, not, nat_lt, Some, None, position, unwrap_or}
 use Rattle.std.proofs.lemmas.Bool.{ltb-true, ltb-false}
 use Rattle.word_image.proofs.Common.{none-some, position_or_len}
-use Rattle.ca_commands.specs.WeightTexts.{put_first, pieces, IsWeightText, AreWeightTexts}
+use Rattle.ca_commands.specs.WeightTexts.{put_first, pieces, IsWeightText}
 
 -- a text whose first comma stands at n is cut there; where none stands it is whole
 record IsCommaCut (n : ℕ) (text : List ℕ) (cut : List (List ℕ)) : Type 0 where
@@ -67,20 +67,12 @@ pieces-some (b ∷ text) = elim (b == 44) as (λ t. 1 ≤ length (cond t ([] ∷
   | false ↦ put_first-some b (pieces text)
 ]
 
--- what holds of all holds of the first and of the rest
-all_first : (piece : List ℕ) (more : List (List ℕ)) → All IsWeightText (piece ∷ more) → IsWeightText piece
-all_first piece more h = h 0 piece (omega arith)
-
 all_rest : (piece : List ℕ) (more : List (List ℕ)) → All IsWeightText (piece ∷ more) → All IsWeightText more
 all_rest piece more h i d l = h (suc i) d (omega (arith, l))
 
 all_both : (piece : List ℕ) (more : List (List ℕ)) → IsWeightText piece → All IsWeightText more → All IsWeightText (piece ∷ more)
 all_both piece more first rest zero d l = first
 all_both piece more first rest (suc i) d l = rest i d (omega (arith, l))
-
--- where what is left of a text is right, its first piece is the text of a weight
-pub IsLeft-first : (text piece others : List ℕ) (i : ℕ) → pieces text ≡ piece ∷ pieces others → IsLeft text i → IsWeightText piece
-IsLeft-first text piece others i cut left = all_first piece (pieces others) (subst (All IsWeightText) cut left.0)
 
 pub IsLeft-more : (text piece others : List ℕ) (i : ℕ) → pieces text ≡ piece ∷ pieces others → IsWeightText piece → IsLeft text i ↔ IsLeft others (i + 1)
 IsLeft-more text piece others i cut weight =
@@ -90,7 +82,3 @@ IsLeft-more text piece others i cut weight =
 -- after sixteen pieces nothing that is left of a text is right
 pub IsLeft-none : (text : List ℕ) (i : ℕ) → 16 ≤ i → ¬ IsLeft text i
 IsLeft-none text i past left = omega (arith, pieces-some text, left.1)
-
--- a text says weights exactly where the whole text, as what is left, is right
-pub IsLeft-all : (text : List ℕ) → AreWeightTexts text ↔ IsLeft text 0
-IsLeft-all text = ((λ are. (are.each, omega (arith, are.most))), (λ left. record { each = left.0; most = omega (arith, left.1) }))

@@ -1,12 +1,7 @@
 -- What is written item by item.
 use Rattle.std.proofs.Common.{◌≡◌, ℕ, ◌+◌, ◌<◌, ◌≤◌, List, [], ◌++◌, length, length-append, take, drop, get_or, refl, sym, ap, ◌∙◌, arith, flat_map}
 use Rattle.std.proofs.lemmas.List.{take-append-drop}
-use Rattle.word_image.proofs.Common.{range_with_len, flat_map_more, flat_map-append, range-more, take_more}
-
--- what is written item by item, and then the next item
-pub rows-more : (f : ℕ → List ℕ) (before : List ℕ) (a n j : ℕ) → a + n ≡ j
-    → (before ++ flat_map f (range_with_len a n)) ++ f j ≡ before ++ flat_map f (range_with_len a (n + 1))
-rows-more f before a n j is = flat_map_more f before (range_with_len a n) j ∙ ap (λ (xs : List ℕ). before ++ flat_map f xs) (sym (range-more a n j is))
+use Rattle.word_image.proofs.Common.{flat_map_more, flat_map-append, take_more}
 
 -- the first items of a list are written after a text, and then the next item
 pub rows-next : {A : Type 0} (f : A → List ℕ) (before : List ℕ) (xs : List A) (i : ℕ) (d : A) {between after : List ℕ} → i < length xs

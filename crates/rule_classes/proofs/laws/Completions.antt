@@ -180,10 +180,6 @@ IsLeastAmong-then {r} {R = R} {before = before} {found = found} {new = new} all 
       least = λ d has. elim ((all d).0 has) [ inl first ↦ omega (arith, h.least d first) | inr second ↦ g.least d second ];
     }
 
--- no colour is tried
-pub IsLeastOver-none : {r : LocalRule} {c before : Colouring} {low high next : ℕ} → IsColouring r.states before → IsLeastOver r c low high next low before before
-IsLeastOver-none colouring = record { colouring = colouring; one = inl refl; least = λ d (completes, (q, from, below, same)). absurd (omega arith) }
-
 -- one colour more is tried
 pub IsLeastOver-more : {r : LocalRule} {c e before found new : Colouring} {low high next n from to : ℕ} → IsNext r.states c low high next n e from to → low ≤ n → n < high
     → IsLeastOver r c low high next n before found → IsLeastColouring r e from to found new → IsLeastOver r c low high next (n + 1) before new
