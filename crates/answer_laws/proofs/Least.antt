@@ -1,6 +1,7 @@
 -- What is the least of its kind is one: orphans, twins, rings, windows, look-aheads, splits and erasable pairs.
 use Rattle.std.proofs.Common.{inr, ◌≡◌, ℕ, ◌<◌, List, sym, ap, ◌∙◌, arith}
 use Rattle.word_image.proofs.Common.{LocalRule, IsLeastOrphan, IsLeastTwins, IsLeastLossyRing, IsLeastErasable, IsLeastDetermined, IsLeastRightAhead}
+use Rattle.search_laws.proofs.Common.{one_word}
 use Rattle.tail_config.proofs.Common.{TailConfig, mirror_of, config_of, IsLeastRightSplit, IsLeastLeftSplit}
 use Rattle.ca_questions.proofs.Fits.{IsLeastDetermined-length}
 use Rattle.answer_laws.proofs.Orders.{one_pair, one_split}
