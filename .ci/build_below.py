@@ -61,7 +61,7 @@ def longest_ways(below):
 
 
 def how_many():
-    """How many crates are built at a time, and by how many jobs: at most one for each processor, as far as memory goes."""
+    """How many crates are built at a time, and by how many jobs each at most: one for each processor, as far as memory goes."""
     free = 1024 * int(re.search(r"MemAvailable:\s+(\d+)", Path("/proc/meminfo").read_text())[1])
     processors = len(os.sched_getaffinity(0))
     crates = max(1, min(processors, free // MOST_MEMORY))
@@ -111,11 +111,13 @@ class Builds:
         ready = [name for name in self.below if name not in begun and self.built.issuperset(self.below[name])]
         return sorted(ready, key=self.ways.get, reverse=True)
 
-    def begin(self, name):
-        """Begins with a crate. The one with the longest way up gets all processors. The others get what it leaves of them, by
-        several jobs each, so that the last ones don't leave processors idle."""
+    def begin(self, name, at_once):
+        """Begins with a crate, one of this many at a time, which share the processors: a job more than there are processors
+        gains nothing, because each job first reads the libraries. The crate with the longest way up gets what is left over."""
         is_first = self.ways[name] == max(self.ways[it] for it in self.below if it not in self.built)
-        words = [*rt, "lib", "--jobs", str(self.most)] if is_first else ["nice", "-n", "19", *rt, "lib", "--jobs", str(self.jobs)]
+        jobs = self.most - at_once + 1 if is_first else self.most // at_once
+        nice = [] if is_first else ["nice", "-n", "5"]
+        words = [*nice, *rt, "lib", "--jobs", str(max(1, min(self.jobs, jobs)))]
         folder = self.free.pop()
         move(name, top, folder)
         with open(folder / f"{name}.log", "wb") as log:
@@ -140,8 +142,10 @@ class Builds:
     def build_all(self):
         """Builds them all, and gives whether they were built."""
         while len(self.built) < len(self.below):
-            for name in self.ready()[: len(self.free)]:
-                self.begin(name)
+            ready = self.ready()[: len(self.free)]
+            at_once = len(self.running) + len(ready)
+            for name in ready:
+                self.begin(name, at_once)
             self.tell()
             if not self.end_one():
                 return False
