@@ -4,9 +4,10 @@ rt accepts a built library if the sum in its stamp is the sum over the sources o
 kit 13b computes such a sum anew for each chain of crates that leads down to a crate. From ca_cli there are thousands of chains,
 which takes minutes. While the scripts here use rt, the sources don't change, so one sum for each crate is enough.
 
-rt builds a library with all its proofs, and keeps what it checked for the next check of the crate. A crate that is built for the
-first time is built here as rt ci does it: from nothing, and its library has what other crates can cite, but no proofs. The
-crates above load such a library much faster.
+rt builds a library with all its proofs, and keeps what it checked for the next check of the crate. If nothing is kept of a crate,
+its library is built here as rt ci does it: from nothing, and with what other crates can cite, but without proofs. The crates above
+load such a library much faster. It fits only the libraries over which it was built. rt doesn't know this, so here a library also
+has a list of the sums of these libraries, and is built again if they have changed.
 """
 import functools
 import importlib.util
@@ -17,8 +18,19 @@ from importlib.machinery import SourceFileLoader
 from pathlib import Path
 
 
-def without_proofs(rtlib, build_rlib):
-    """How to build a library: by build_rlib, unless no check of the crate has kept anything."""
+def build_without_proofs(rtlib):
+    """Has rt build the libraries of which nothing is kept without their proofs."""
+    crate_type = rtlib.Crate
+    is_stamped, build_rlib = crate_type.is_built, crate_type.build_rlib
+
+    def list_of(crate):
+        return Path(crate.rlib).parent / "below"
+
+    def sums_below(crate):
+        return "".join(f"{it.name} {rtlib.sum_of(it.rlib + '/format')}\n" for it in crate.below())
+
+    def is_built(crate):
+        return is_stamped(crate) and rtlib.text_of(list_of(crate)) in (None, sums_below(crate))
 
     def build(crate, flags, anew):
         if anew or crate.is_built() or crate.has_kept():
@@ -29,10 +41,11 @@ def without_proofs(rtlib, build_rlib):
         words = crate.words(flags, keeps=False)
         status = crate.call(rtlib.RATTLE, "build", *words, "--statements", "-o", crate.rlib)
         if status == 0:
+            list_of(crate).write_text(sums_below(crate))
             (folder / "stamp").write_text(crate.stamp())
         return status
 
-    return build
+    crate_type.is_built, crate_type.build_rlib = is_built, build
 
 
 def module_of_rt():
@@ -40,9 +53,8 @@ def module_of_rt():
     loader = SourceFileLoader("rt", os.path.realpath(shutil.which("rt")))
     rt = importlib.util.module_from_spec(importlib.util.spec_from_loader("rt", loader))
     loader.exec_module(rt)
-    crate = rt.rtlib.Crate
-    crate.stamp = functools.cache(crate.stamp)
-    crate.build_rlib = without_proofs(rt.rtlib, crate.build_rlib)
+    rt.rtlib.Crate.stamp = functools.cache(rt.rtlib.Crate.stamp)
+    build_without_proofs(rt.rtlib)
     return rt
 
 
