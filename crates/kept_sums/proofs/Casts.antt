@@ -5,13 +5,9 @@ use Rattle.word_image.proofs.Common.{ints, fits_signed_from_abs, unsigned_abs-mu
 use mir.Syntax.{Width}
 use mir.Val.{hbits}
 
--- a number whose size is small enough fits
-pub fits : (w : Width) (z : ℤ) (n : ℕ) → unsigned_abs z ≤ n → n < 2 ^ hbits w → FitsSigned w z
-fits w z n most l = fits_signed_from_abs w z (omega arith)
-
 -- a cast leaves a number that fits as it is
 pub back : (w : Width) (z : ℤ) (n : ℕ) → unsigned_abs z ≤ n → n < 2 ^ hbits w → to_z w (of_z w z) ≡ z
-back w z n most l = to_z-of_z w z (fits w z n most l)
+back w z n most l = to_z-of_z w z (fits_signed_from_abs w z (omega arith))
 
 -- the size of a product, by bounds of both sizes
 pub abs-mul : (a b : ℤ) (m n : ℕ) → unsigned_abs a ≤ m → unsigned_abs b ≤ n → unsigned_abs (a *ℤ b) ≤ m * n

@@ -18,4 +18,3 @@ pub mod Limits
 pub mod Bounds
 pub mod Windows
 pub mod Independence
-pub mod MadeRules

@@ -1,19 +1,19 @@
 -- How great the numbers of a crossed row may be, divided by their greatest common divisor: no greater than those of a small solution of the conditions so far.
-use Rattle.std.proofs.Common.{◌≡◌, ◌≢◌, ℕ, zero, suc, ◌+◌, ◌-◌, ◌*◌, ◌^◌, ◌<◌, ◌≤◌, List, [], length, set, slice_index, slice_index_or, get_or-set_other, get_or-set_same, ℤ, pos, negsuc, ◌-ℤ◌, ◌*ℤ◌, refl, sym, ap, subst, ◌∙◌, ⊎_elim, arith, ◌<ℤ◌, unsigned_abs}
+use Rattle.std.proofs.Common.{◌≡◌, ◌≢◌, ℕ, zero, suc, ◌+◌, ◌-◌, ◌*◌, ◌^◌, ◌<◌, ◌≤◌, List, [], length, set, slice_index, slice_index_or, get_or-set_other, get_or-set_same, ℤ, pos, ◌-ℤ◌, ◌*ℤ◌, sym, ap, subst, ◌∙◌, ⊎_elim, arith, ◌<ℤ◌, unsigned_abs}
 use Rattle.std.proofs.Math.Nat.{pow-suc, mul-le-mul, mul-le-mul_left, mul-le-mul_right, pos_of_dvd_of_pos, dvd-mul_left, dvd-mul_right}
 use Rattle.word_image.proofs.Common.{one-le-pow, eq_of_mul-eq-mul_left, cases_lt, cases_eq, ints, unsigned_abs-mul, LocalRule, IsRule, IsRing, ring_image}
 use Rattle.std.proofs.lemmas.List.{length-take, take_all}
-use Rattle.kept_sums.specs.Sums.{KeepsSumOf}
+use Rattle.kept_sums.specs.Sums.{blocks, KeepsSumOf}
 use Rattle.kept_sums.specs.Rows.{at, IsDivisor}
 use Rattle.kept_sums.specs.Spans.{entry, gain_at, FitNarrowed}
 use Rattle.kept_sums.specs.Stages.{IsFree, ring_at, IsZero, NotedKeep, IsStage, IsCondition}
-use Rattle.kept_sums.proofs.laws.Integers.{factor-none}
+use Rattle.kept_sums.proofs.laws.Integers.{factor-none, positive_is}
 use Rattle.kept_sums.proofs.laws.Spans.{sum_to-one, spanned_crosses}
 use Rattle.kept_sums.proofs.laws.Combined.{multiple_of}
 use Rattle.kept_sums.proofs.laws.Densities.{length-ring_image, KeepsSumOf-gain}
 use Rattle.kept_sums.proofs.laws.Narrowed.{gain_at-zero}
-use Rattle.kept_sums.proofs.laws.Stages.{free_before, free_more, Stands, stands_or_zero, stands-count, Stands-gains, NotedKeep-set, none-past}
-use Rattle.kept_sums.proofs.laws.AfterRings.{length-blocks, after_of, before_of}
+use Rattle.kept_sums.proofs.laws.Stages.{free_before, free_more, Stands, stands_or_zero, Stands-gains, NotedKeep-set, none-past}
+use Rattle.kept_sums.proofs.laws.AfterRings.{length-blocks}
 use Rattle.kept_sums.proofs.laws.Unique.{part-none, IsSpanned-all}
 use Rattle.kept_sums.proofs.laws.Siegel.{pick, product, small_solution}
 use Rattle.kept_sums.proofs.laws.Limits.{limits}
@@ -51,7 +51,7 @@ noted_solution {r} {range} rule some few counts rings noted i l none =
     let k : ℕ = r.states in
     let h : ℕ = 2 * (r.width + range) - 3 in
     let p : ℕ → List ℕ = ring_at counts rings in
-    let s = small_solution 16 h i (slice_index counts) (λ m. after_of r range (p m)) (λ m. before_of r range (p m)) l (omega arith) none (λ m n some.
+    let s = small_solution 16 h i (slice_index counts) (λ m. blocks k range (ring_image r (p m))) (λ m. blocks k range (p m)) l (omega arith) none (λ m n some.
     let cut = ring_short counts rings m h (let short = (noted m n some).1 in omega arith) in
     (omega (arith, cut, length-blocks k range (ring_image r (p m)), length-ring_image r (p m)), omega (arith, cut, length-blocks k range (p m)))) in
     let power : ℕ → ℕ = λ a. (2 * h) ^ free_before k range a in
@@ -97,12 +97,6 @@ bounded_multiple n weight m cross g most b positive multiple small within some d
     let part = multiple_of cross g (unsigned_abs m) n (λ c. unsigned_abs (weight c)) divisor.combined some size in
     least_part n (unsigned_abs m) g part.0 (unsigned_abs (at cross a)) (unsigned_abs (weight a)) most positive part.1 part.2 (sym (size a l)) (small a)
 
--- a positive number
-positive_is : (z : ℤ) → pos 0 <ℤ z → (n : ℕ) × (1 ≤ n) × (z ≡ pos n)
-positive_is (pos zero) above = absurd (omega (arith, ints, above))
-positive_is (pos (suc n)) above = (suc n, omega arith, refl)
-positive_is (negsuc n) above = absurd (omega (arith, ints, above))
-
 -- the cross of a row with another one
 abbrev crossed : ℕ → ℤ → ℤ → ℤ → ℤ
 crossed lead old gain other = (pos lead *ℤ old) -ℤ (gain *ℤ other)
@@ -125,7 +119,7 @@ FitNarrowed-condition {r} {range} {rows} {counts} {rings} rule some few stage p 
     let entries : (b : ℕ) → b < 16 → at cross b ≡ crossed lead (entry rows i b) (gain i) (entry rows j b) = λ b m.
     crosses.entries b m ∙ ap (λ (z : ℤ). (z *ℤ entry rows i b) -ℤ (gain i *ℤ entry rows j b)) gains in
     let nil : at cross a ≡ pos 0 → unsigned_abs (at cross a) ≤ g * 2 ^ 56 = λ e. subst (λ (z : ℤ). unsigned_abs z ≤ g * 2 ^ 56) (sym e) (omega arith) in
-    let standing : i ≢ j → Stands k range rows i → unsigned_abs (at cross a) ≤ g * 2 ^ 56 = λ apart stands.
+    let standing : i ≢ j → Stands k range rows counts i → unsigned_abs (at cross a) ≤ g * 2 ^ 56 = λ apart stands.
     let pivot = Stands-gains stage x y condition.short.after_word condition.short.before_word j within (λ none. absurd (omega (arith, ints, none, gains))) in
     let now : List ℕ = set counts j (length p) in
     let here : slice_index now j ≡ length p = get_or-set_same counts j (length p) 0 (omega arith) in
@@ -135,19 +129,19 @@ FitNarrowed-condition {r} {range} {rows} {counts} {rings} rule some few stage p 
     (λ (same : m ≡ j). (subst (IsFree k range) (sym same) pivot.free, omega (arith, short, here, ap (slice_index now) same)))
     (λ (other : m ≢ j). ((stage.places m l).free (omega (arith, noted, there m other)), omega (arith, there m other, stage.short m l)))
     (cases_eq m j))
-    i l (there i apart ∙ stands-count stage i l stands) in
+    i l (there i apart ∙ stands.none) in
     let z : ℕ → ℤ = s.weight in
     let zero_at : (m : ℕ) → m ≢ i → m ≢ j → slice_index counts m ≡ 0 → z m ≡ pos 0 = λ m other differs none. s.outside m other (there m differs ∙ none) in
     let past : (m : ℕ) → m < 16 → ¬ IsFree k range m → z m ≡ pos 0 = λ m l no.
     zero_at m (λ e. no (subst (IsFree k range) (sym e) stands.free)) (λ e. no (subst (IsFree k range) (sym e) pivot.free))
     (none-past (stage.places m l) no) in
-    let keeps = NotedKeep-set stage z j (length p) p within ring.some (stands-count stage j within pivot) s.keep in
+    let keeps = NotedKeep-set stage z j (length p) p within ring.some pivot.none s.keep in
     let spanned = IsSpanned-all stage z (λ a below. past a (omega arith) (λ free. let least = free.least in absurd (omega arith))) (λ a from l. past a l (λ free. let above = free.most in absurd (omega arith))) keeps.0 in
     let nothing = (condition.keeps z).0 (subst (KeepsSumOf range z r) (take_all (length p) p (omega arith)) keeps.1) in
     let beside : (a m : ℕ) → a < 16 → m < 16 → m ≢ i → spanned.parts m *ℤ crossed lead (entry rows m a) (gain m) (entry rows j a) ≡ pos 0 = λ a m n l other.
     ⊎_elim
     (λ (same : m ≡ j). rw same (factor-none (spanned.parts j) _ (crossed-pivot lead (entry rows j a) (gain j) gains)))
-    (λ (differs : m ≢ j). part-none stage spanned m l _ (λ upright. zero_at m other differs (stands-count stage m l upright))
+    (λ (differs : m ≢ j). part-none stage spanned m l _ (λ upright. zero_at m other differs upright.none)
     (λ zeros. crossed-none lead (entry rows m a) (gain m) (entry rows j a) (zeros a n) (gain_at-zero rows m x y condition.short.after_word condition.short.before_word zeros)))
     (cases_eq m j) in
     bounded_multiple (lead * spanned.times) z (spanned.parts i) cross g (2 ^ 56) s.place (mul-le-mul positive spanned.some)

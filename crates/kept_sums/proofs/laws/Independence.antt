@@ -1,5 +1,5 @@
 -- The rows of an answer are independent apart from trivial weights, and so are the conditions of its rings.
-use Rattle.std.proofs.Common.{◌≡◌, ◌≢◌, ℕ, zero, suc, ◌+◌, ◌-◌, ◌^◌, ◌<◌, ◌≤◌, List, [], take, set, slice_index, slice_index_or, get_or-set_other, get_or-set_same, ℤ, pos, ◌*ℤ◌, sym, ap, subst, ◌∙◌, ⊎_elim, arith, ◌==◌, if◌then◌else◌, unsigned_abs}
+use Rattle.std.proofs.Common.{◌≡◌, ◌≢◌, ℕ, zero, suc, ◌+◌, ◌-◌, ◌^◌, ◌<◌, ◌≤◌, List, [], min, take, set, slice_index, slice_index_or, get_or-set_other, get_or-set_same, ℤ, pos, ◌*ℤ◌, sym, ap, subst, ◌∙◌, ⊎_elim, arith, ◌==◌, if◌then◌else◌, unsigned_abs}
 use Rattle.word_image.proofs.Common.{pow-le-pow_right, cases_lt, cases_eq, nat_tests, ints, LocalRule, IsRule, ring_image}
 use Rattle.kept_sums.specs.Sums.{blocks, KeepsSumOf, sum_to}
 use Rattle.kept_sums.specs.Spans.{entry, combination, gain_at}
@@ -11,7 +11,7 @@ use Rattle.kept_sums.proofs.laws.Spans.{sum_to-one, sum_to-none}
 use Rattle.kept_sums.proofs.laws.Densities.{KeepsSumOf-gain}
 use Rattle.kept_sums.proofs.laws.Trivials.{IsNormal-trivial}
 use Rattle.kept_sums.proofs.laws.Unique.{part-none, IsSpanned-all}
-use Rattle.kept_sums.proofs.laws.Stages.{free_before, free_more, Stands, stands_or_zero, stands-count, none-past, not_both}
+use Rattle.kept_sums.proofs.laws.Stages.{free_before, free_more, stands_or_zero, none-past, not_both}
 use Rattle.kept_sums.proofs.laws.Bounds.{noted_solution}
 
 -- combinations of the rows are normal
@@ -22,8 +22,8 @@ IsNormal-combination {r} {range} {rows} rule few stage parts a below =
     let grows : r.states ^ (range - 1) ≤ r.states ^ range = pow-le-pow_right (omega arith) {i = range - 1} {j = range} (omega arith) in
     sum_to-none 16 (λ m. parts m *ℤ entry rows m a) (λ m l.
     ⊎_elim
-    (λ (stands : Stands r.states range rows m). let least = stands.free.least in factor-none (parts m) (entry rows m a) (stands.standing.begins a (omega arith)))
-    (λ (zeros : IsZero rows m). factor-none (parts m) (entry rows m a) (zeros a (omega arith)))
+    (λ stands. let least = stands.free.least in factor-none (parts m) (entry rows m a) (stands.standing.begins a (omega arith)))
+    (λ zeros. factor-none (parts m) (entry rows m a) (zeros a (omega arith)))
     (stands_or_zero (stage.places m l)))
 
 -- no combination of the rows is trivial but that of no row
@@ -70,9 +70,8 @@ ring-needed {r} {range} {rows} {counts} {rings} rule few stage i l some =
           let nothing : (m : ℕ) → m < 16 → spanned.parts m *ℤ entry rows m s.place ≡ pos 0 = λ m n.
           part-none stage spanned m n _
           (λ upright.
-          let none = stands-count stage m n upright in
-          let other : m ≢ i = λ e. absurd (omega (arith, some, none, ap (slice_index counts) e)) in
-          s.outside m other (there m other ∙ none))
+          let other : m ≢ i = λ e. absurd (omega (arith, some, upright.none, ap (slice_index counts) e)) in
+          s.outside m other (there m other ∙ upright.none))
           (λ zeros. zeros s.place s.within) in
           s.some (zero-of_times spanned.times (z s.place) spanned.some (spanned.sums s.place s.within ∙ sum_to-none 16 (λ m. spanned.parts m *ℤ entry rows m s.place) nothing));
     }
@@ -104,13 +103,9 @@ rings-independent {r} {range} {rows} {counts} {rings} rule few stage parts vanis
 abbrev count : ℕ → ℕ
 count a = if a == 0 then 0 else 1
 
--- 0 counts nothing
-count-none : (a : ℕ) → a ≡ 0 → count a ≡ 0
-count-none a none = grind (arith, nat_tests)
-
--- another number counts once
-count-some : (a : ℕ) → 1 ≤ a → count a ≡ 1
-count-some a some = grind (arith, nat_tests)
+-- a number counts once at most
+count-least : (a : ℕ) → count a ≡ min a 1
+count-least a = grind (arith, nat_tests)
 
 -- places with a number of two kinds are as many as what grows with each place by as many
 places_with-both : (n : ℕ) (f g t : ℕ → ℕ) → t 0 ≡ 0 → ((i : ℕ) → i < n → count (f i) + count (g i) + t i ≡ t (suc i)) → places_with n f + places_with n g ≡ t n
@@ -130,9 +125,9 @@ row_or_ring {r} {range} {rows} {counts} rule few stage =
     let second = unsigned_abs (entry rows i i) in
     ⊎_elim
     (λ free. ⊎_elim
-    (λ (none : first < 1). let leads = (place.standing free.0 (omega arith)).leads in omega (arith, free.1, count-none first (omega arith), count-some second (omega (arith, ints, leads))))
-    (λ (some : 1 ≤ first). omega (arith, free.1, count-some first some, count-none second (ap unsigned_abs (place.dropped some i l))))
+    (λ (none : first < 1). let leads = (place.standing free.0 (omega arith)).leads in omega (arith, ints, free.1, leads, count-least first, count-least second))
+    (λ (some : 1 ≤ first). omega (arith, free.1, ap unsigned_abs (place.dropped some i l), count-least first, count-least second))
     (cases_lt first 1))
-    (λ taken. omega (arith, taken.1, count-none first (none-past place taken.0), count-none second (ap unsigned_abs (place.past taken.0 i l))))
+    (λ taken. omega (arith, taken.1, none-past place taken.0, ap unsigned_abs (place.past taken.0 i l), count-least first, count-least second))
     (free_more k range i)) in
     omega (arith, both, few, grows)

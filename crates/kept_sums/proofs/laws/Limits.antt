@@ -4,10 +4,6 @@ use Rattle.std.proofs.Math.Nat.{pow-suc, mul-le-mul_left}
 use Rattle.word_image.proofs.Common.{one-le-pow, pow-le-pow_left, pow-le-pow_right, cases_lt, LocalRule, IsRule}
 use Rattle.kept_sums.proofs.laws.Ranges.{exponent}
 
--- how many places are free, at most
-abbrev pub free_count : LocalRule → ℕ → ℕ
-free_count r range = r.states ^ range - r.states ^ (range - 1)
-
 -- a power of a number and an exponent that have bounds
 power : (b e base top : ℕ) → b ≤ base → e ≤ top → 1 ≤ base → base ^ top ≤ 2 ^ 56 → b ^ e ≤ 2 ^ 56
 power b e base top one two some within =
@@ -16,7 +12,7 @@ power b e base top one two some within =
     omega arith
 
 -- in no shape is the bound of a small solution above 2^56
-pub limits : {r : LocalRule} → IsRule r → (range h e : ℕ) → 1 ≤ range → r.states ^ range ≤ 16 → h + 3 ≡ 2 * (r.width + range) → e ≤ free_count r range + 1 → (2 * h) ^ e ≤ 2 ^ 56
+pub limits : {r : LocalRule} → IsRule r → (range h e : ℕ) → 1 ≤ range → r.states ^ range ≤ 16 → h + 3 ≡ 2 * (r.width + range) → e ≤ r.states ^ range - r.states ^ (range - 1) + 1 → (2 * h) ^ e ≤ 2 ^ 56
 limits {r} rule range h e some few long most =
     let k : ℕ = r.states in
     let p : ℕ = k ^ (range - 1) in

@@ -5,7 +5,7 @@ use Rattle.std.proofs.Math.Arith.{mod-mul}
 use Rattle.std.proofs.lemmas.Nat.{same_from_place, div_below, mod_below}
 use Rattle.word_image.proofs.Common.{but, but_there, but_else, but_cases, cases_eq, cases_lt, ints, sum_by-le, twice_below}
 use Rattle.kept_sums.specs.Spans.{gain_at}
-use Rattle.kept_sums.proofs.laws.Sums.{gain_at-sub, sum_at-pos}
+use Rattle.kept_sums.proofs.laws.Sums.{sum_at-sub, sum_at-pos}
 
 -- the first number at 0, and the second elsewhere
 abbrev pub pick : ℕ → ℕ → ℕ → ℕ
@@ -75,8 +75,7 @@ code top w x y = sum_by w x + (top - sum_by w y)
 gain-code : (h t : ℕ) (w v : ℕ → ℕ) → ((a : ℕ) → w a ≤ t) → ((a : ℕ) → v a ≤ t) → (x y : List ℕ) → length y ≤ h → code (h * t) w x y ≡ code (h * t) v x y
     → gain_at (λ a. pos (w a) -ℤ pos (v a)) x y ≡ pos 0
 gain-code h t w v one two x y short same =
-    gain_at-sub (λ a. pos (w a)) (λ a. pos (v a)) x y
-    ∙ omega (arith, ints, sum_by-le w t y (λ i d l. one _), sum_by-le v t y (λ i d l. two _), mul-le-mul_right t short, sum_at-pos w x, sum_at-pos w y, sum_at-pos v x, sum_at-pos v y, same)
+    omega (arith, ints, sum_at-sub (λ a. pos (w a)) (λ a. pos (v a)) x, sum_at-sub (λ a. pos (w a)) (λ a. pos (v a)) y, sum_by-le w t y (λ i d l. one _), sum_by-le v t y (λ i d l. two _), mul-le-mul_right t short, sum_at-pos w x, sum_at-pos w y, sum_at-pos v x, sum_at-pos v y, same)
 
 -- a code is below its base
 code-below : (g h t one other : ℕ) → (1 ≤ g → one ≤ h * t) → pick g 0 (one + (h * t - other)) < 2 * h * pick g 0 t + 1

@@ -3,7 +3,7 @@ use Rattle.std.proofs.Common.{◌≡◌, ℕ, zero, suc, ◌+◌, ◌-◌, ◌/�
 use Rattle.std.proofs.Math.Nat.{pow-suc, mul-le-mul_left, mod-eq_of_lt}
 use Rattle.std.proofs.lemmas.Nat.{div_below}
 use Rattle.word_image.proofs.Common.{one-le-pow, pow-zero, zero-div, pow-le-pow_right, ints, LocalRule, IsRule, value, IsRing, ring_letters, ring_image, by_ends, value-front, value-tail, value-word_of}
-use Rattle.kept_sums.specs.Sums.{sum_at, blocks, KeepsSumOf, IsKept, sum_to}
+use Rattle.kept_sums.specs.Sums.{sum_at, blocks, IsKept, sum_to}
 use Rattle.kept_sums.specs.Stages.{IsNormal, ring_at, NotedKeep, IsStage}
 use Rattle.kept_sums.specs.Fluxes.{IsFlowBy}
 use Rattle.kept_sums.specs.Trivials.{IsTrivial, IsSpannedUpToTrivial}
@@ -98,13 +98,6 @@ IsNormal-trivial k range weight states some normal trivial a l =
     let ends = window_ends k d a (omega arith) below in
     omega (arith, ints, by.flows a below, constant, same (a / k) ends.0, same (a % k ^ d) ends.1)
 
--- a ring keeps the sum of a difference where it keeps both
-KeepsSumOf-sub : (range : ℕ) (f g : ℕ → ℤ) (r : LocalRule) (p : List ℕ) → KeepsSumOf range f r p → KeepsSumOf range g r p → KeepsSumOf range (λ a. f a -ℤ g a) r p
-KeepsSumOf-sub range f g r p one two =
-    sum_at-sub f g (blocks r.states range p)
-    ∙ ap₂ (λ (x y : ℤ). x -ℤ y) one two
-    ∙ sym (sum_at-sub f g (blocks r.states range (ring_image r p)))
-
 -- a multiple of trivial weights is trivial
 IsTrivial-times : {k range : ℕ} {weight : ℕ → ℤ} (n : ℤ) → IsTrivial k range weight → IsTrivial k range (λ a. n *ℤ weight a)
 IsTrivial-times {k} {range} {weight} n trivial = record {
@@ -124,7 +117,9 @@ IsSpannedUpToTrivial-kept {r} {range} {rows} {counts} {rings} rule some stage we
     let trivial = IsTrivial-part k range weight some in
     let kept = IsKept-trivial rule range (trivial_part k range weight) some trivial in
     let normal : NotedKeep r range counts rings (normal_part k range weight) = λ i l noted.
-    KeepsSumOf-sub range weight (trivial_part k range weight) r (ring_at counts rings i) (keep i l noted) (kept (ring_at counts rings i) ((stage.places i l).ring noted)) in
+    let p : List ℕ = ring_at counts rings i in
+    let less = sum_at-sub weight (trivial_part k range weight) in
+    omega (arith, ints, less (blocks k range p), less (blocks k range (ring_image r p)), keep i l noted, kept p ((stage.places i l).ring noted)) in
     let spanned = stage.complete (normal_part k range weight) (IsNormal-part k range weight) normal in
     record {
       times = spanned.times;

@@ -13,7 +13,7 @@ all_is : (c : After-from-letters) → c.from-k.result ^ c.from-letters.result �
 all_is c = ap₂ (λ (x y : ℕ). x ^ y) (c.from-k.ensures ∙ c.k.ensures.states) (c.from-letters.ensures ∙ ap (λ n. n + c.args.range - 1) c.m.ensures.width)
 
 pub pow-window-end-requires : goal.pow-window-end-requires
-pow-window-end-requires c = omega (arith, windows-most c.m.ensures.rule c.args.range c.requires.few, all_is c)
+pow-window-end-requires c = omega (arith, windows-most c.m.ensures.rule c.args.range (c.args.rule.now.width + c.args.range - 1) (omega (arith, c.m.ensures.rule.shape.least_width)) c.requires.few, all_is c)
 
 pub loop-window-init : goal.loop-window-init
 loop-window-init c = record { many = refl; done = λ v l. absurd (omega arith); rest = λ v l. at-replicate 256 v }
@@ -21,7 +21,7 @@ loop-window-init c = record { many = refl; done = λ v l. absurd (omega arith); 
 -- there are at most 256 windows
 few_windows : (c : After-pow-window-end) → c.pow-window-end.result ≤ 256
 few_windows c =
-    let most = windows-most c.m.ensures.rule c.args.range c.requires.few in
+    let most = windows-most c.m.ensures.rule c.args.range (c.args.rule.now.width + c.args.range - 1) (omega (arith, c.m.ensures.rule.shape.least_width)) c.requires.few in
     omega (arith, most, all_is (goal.at.loop-window-init c).After-from-letters, c.pow-window-end.ensures)
 
 pub bounds-gains-from : goal.bounds-gains-from

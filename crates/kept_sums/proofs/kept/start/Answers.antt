@@ -4,7 +4,7 @@ use Rattle.kept_sums.proofs.laws.Starts.{entry-zeros, AreUnits, IsStage-start}
 use Rattle.kept_sums.proofs.kept.start.Goals as goal
 
 pub loop-place-init : goal.loop-place-init
-loop-place-init c = (refl, λ i l h. absurd (omega arith), λ i l a. entry-zeros i a, λ i l a. entry-zeros i a)
+loop-place-init c = (refl, λ i l h. absurd (omega arith), λ i l a. entry-zeros 16 i a, λ i l a. entry-zeros 16 i a)
 
 pub returns : goal.returns
 returns c =

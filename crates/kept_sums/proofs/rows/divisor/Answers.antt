@@ -1,10 +1,11 @@
-use Rattle.std.proofs.Common.{◌≡◌, ◌^◌, below_more, ap, subst, ◌∙◌, arith, unsigned_abs}
+use Rattle.std.proofs.Common.{◌≡◌, ◌^◌, below_more, pos, refl, ap, subst, ◌∙◌, arith, unsigned_abs}
 use Rattle.std.proofs.lemmas.Nat.Gcd.{dvd_trans}
 use Prim.Native.Nat.{◌∣◌}
 use mir.Syntax.{w128}
+use Rattle.kept_sums.specs.Sums.{sum_to}
 use Rattle.kept_sums.specs.Rows.{at}
 use Rattle.kept_sums.proofs.Casts.{back}
-use Rattle.kept_sums.proofs.laws.Combined.{IsCombined-none, IsCombined-more}
+use Rattle.kept_sums.proofs.laws.Combined.{IsCombined-more}
 use Rattle.kept_sums.proofs.rows.divisor.Goals as goal
 
 pub loop-entry-preserved : goal.loop-entry-preserved
@@ -19,4 +20,5 @@ loop-entry-preserved c =
     )
 
 pub loop-entry-init : goal.loop-entry-init
-loop-entry-init c = (λ a l. absurd (omega arith), IsCombined-none c.args.cross.now)
+unfolding sum_to
+loop-entry-init c = (λ a l. absurd (omega arith), record { parts = λ a. pos 0; is = refl })
