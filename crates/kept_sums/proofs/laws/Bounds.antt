@@ -1,7 +1,7 @@
 -- How great the numbers of a crossed row may be, divided by their greatest common divisor: no greater than those of a small solution of the conditions so far.
-use Rattle.std.proofs.Common.{◌≡◌, ◌≢◌, ℕ, zero, suc, ◌+◌, ◌-◌, ◌*◌, ◌^◌, ◌<◌, ◌≤◌, List, [], length, set, slice_index, slice_index_or, get_or-set_other, get_or-set_same, ℤ, pos, ◌-ℤ◌, ◌*ℤ◌, sym, ap, subst, ◌∙◌, ⊎_elim, arith, ◌<ℤ◌, unsigned_abs}
+use Rattle.std.proofs.Common.{◌≡◌, ◌≢◌, ℕ, zero, suc, ◌+◌, ◌-◌, ◌*◌, ◌^◌, ◌<◌, ◌≤◌, List, [], length, set, slice_index, slice_index_or, get_or-set_other, get_or-set_same, ℤ, pos, ◌-ℤ◌, ◌*ℤ◌, sym, ap, subst, ◌∙◌, ⊎_elim, arith, unsigned_abs}
 use Rattle.std.proofs.Math.Nat.{pow-suc, mul-le-mul, mul-le-mul_left, mul-le-mul_right, pos_of_dvd_of_pos, dvd-mul_left, dvd-mul_right}
-use Rattle.word_image.proofs.Common.{one-le-pow, eq_of_mul-eq-mul_left, cases_lt, cases_eq, ints, unsigned_abs-mul, LocalRule, IsRule, IsRing, ring_image}
+use Rattle.word_image.proofs.Common.{one-le-pow, eq_of_mul-eq-mul_left, cases_lt, cases_eq, ints, nat_tests, unsigned_abs-mul, LocalRule, IsRule, IsRing, ring_image}
 use Rattle.std.proofs.lemmas.List.{length-take, take_all}
 use Rattle.kept_sums.specs.Sums.{blocks, KeepsSumOf}
 use Rattle.kept_sums.specs.Rows.{at, IsDivisor}
@@ -26,8 +26,7 @@ product-steps (suc n) f g some step = omega (arith, mul-le-mul_left (f n) (produ
 
 -- the factor of a place
 pick-one : (g b : ℕ) → 1 ≤ b → pick g 1 b ≤ b
-pick-one zero b some = some
-pick-one (suc g) b some = omega arith
+pick-one g b some = grind (arith, nat_tests)
 
 -- a small solution of the conditions of the noted rings that isn't 0: 0 but in their places and at place i
 pub record NotedSolution (r : LocalRule) (range : ℕ) (counts : List ℕ) (rings : List (List ℕ)) (i : ℕ) : Type 0 where
@@ -79,18 +78,15 @@ least_part n m g y c z most some more whole part small =
     let same : g * z ≡ y * c = eq_of_mul-eq-mul_left n some (g * z) (y * c) (omega (arith, ap (λ j. j * c) whole, ap (λ j. g * j) part)) in
     omega (arith, same, mul-le-mul_left g small, mul-le-mul_right c more)
 
--- a number that isn't 0 has a size
-positive_size : (z : ℤ) → z ≢ pos 0 → 1 ≤ unsigned_abs z
-positive_size z some = omega (arith, ints)
-
 -- a row of which small weights are a multiple has at most its divisor times the greatest of them
 bounded_multiple : (n : ℕ) (weight : ℕ → ℤ) (m : ℤ) (cross : List ℤ) (g most b : ℕ) → 1 ≤ n → ((a : ℕ) → a < 16 → pos n *ℤ weight a ≡ m *ℤ at cross a) → ((a : ℕ) → unsigned_abs (weight a) ≤ most)
     → b < 16 → weight b ≢ pos 0 → IsDivisor cross g → (a : ℕ) → a < 16 → unsigned_abs (at cross a) ≤ g * most
 bounded_multiple n weight m cross g most b positive multiple small within some divisor a l =
     let size : (c : ℕ) → c < 16 → unsigned_abs m * unsigned_abs (at cross c) ≡ n * unsigned_abs (weight c) = λ c h.
     sym (unsigned_abs-mul m (at cross c)) ∙ ap unsigned_abs (sym (multiple c h)) ∙ unsigned_abs-mul (pos n) (weight c) in
+    let size_b : 1 ≤ unsigned_abs (weight b) = omega (arith, ints, some) in
     let both : 0 < unsigned_abs m * unsigned_abs (at cross b) =
-    omega (arith, size b within, mul-le-mul positive (positive_size (weight b) some)) in
+    omega (arith, size b within, mul-le-mul positive size_b) in
     let factor = pos_of_dvd_of_pos (dvd-mul_right (unsigned_abs m) (unsigned_abs (at cross b))) both in
     let entry = pos_of_dvd_of_pos (dvd-mul_left (unsigned_abs (at cross b)) (unsigned_abs m)) both in
     let some = mul-le-mul factor (pos_of_dvd_of_pos (divisor.divides b within) entry) in

@@ -1,5 +1,5 @@
 -- Greatest common divisors are integer combinations, and what that says of multiples of rows.
-use Rattle.std.proofs.Common.{◌≡◌, ℕ, zero, suc, ◌+◌, ◌*◌, ◌<◌, ◌≤◌, List, ℤ, pos, ◌+ℤ◌, ◌-ℤ◌, ◌*ℤ◌, refl, sym, ap, ap₂, ◌∙◌, arith, ◌==◌, if◌then◌else◌, eq-eqb, ne_eqb, unsigned_abs}
+use Rattle.std.proofs.Common.{◌≡◌, ℕ, suc, ◌+◌, ◌*◌, ◌<◌, ◌≤◌, List, ℤ, pos, ◌+ℤ◌, ◌-ℤ◌, ◌*ℤ◌, refl, sym, ap, ap₂, ◌∙◌, arith, ◌==◌, if◌then◌else◌, eq-eqb, ne_eqb, unsigned_abs}
 use Rattle.std.proofs.Math.IntN.{pos-*ℤ-pos}
 use Rattle.word_image.proofs.Common.{cond-true, cond-false, ints, unsigned_abs-mul}
 use Rattle.kept_sums.specs.Sums.{sum_to}

@@ -3,7 +3,7 @@ use Rattle.std.proofs.Common.{◌≡◌, ◌≢◌, ℕ, zero, suc, ◌+◌, ◌
 use Rattle.word_image.proofs.Common.{pow-le-pow_right, cases_lt, cases_eq, nat_tests, ints, LocalRule, IsRule, ring_image}
 use Rattle.kept_sums.specs.Sums.{blocks, KeepsSumOf, sum_to}
 use Rattle.kept_sums.specs.Spans.{entry, combination, gain_at}
-use Rattle.kept_sums.specs.Stages.{IsFree, IsNormal, ring_at, IsZero, NotedKeep, IsStage}
+use Rattle.kept_sums.specs.Stages.{IsFree, IsNormal, ring_at, NotedKeep, IsStage}
 use Rattle.kept_sums.specs.Trivials.{IsTrivial}
 use Rattle.kept_sums.specs.Independence.{ring_gain, IsNeeded, places_with}
 use Rattle.kept_sums.proofs.laws.Integers.{other_factor, zero-of_times, factor-none}

@@ -1,15 +1,8 @@
 -- The limits of the shapes: no small solution has a number above 2^56.
 use Rattle.std.proofs.Common.{◌≡◌, ℕ, suc, ◌+◌, ◌-◌, ◌*◌, ◌^◌, ◌<◌, ◌≤◌, ap, ◌∙◌, ⊎_elim, arith}
 use Rattle.std.proofs.Math.Nat.{pow-suc, mul-le-mul_left}
-use Rattle.word_image.proofs.Common.{one-le-pow, pow-le-pow_left, pow-le-pow_right, cases_lt, LocalRule, IsRule}
-use Rattle.kept_sums.proofs.laws.Ranges.{exponent}
-
--- a power of a number and an exponent that have bounds
-power : (b e base top : ℕ) → b ≤ base → e ≤ top → 1 ≤ base → base ^ top ≤ 2 ^ 56 → b ^ e ≤ 2 ^ 56
-power b e base top one two some within =
-    let first : b ^ e ≤ base ^ e = pow-le-pow_left one e in
-    let second : base ^ e ≤ base ^ top = pow-le-pow_right some {i = e} {j = top} two in
-    omega arith
+use Rattle.word_image.proofs.Common.{one-le-pow, cases_lt, LocalRule, IsRule}
+use Rattle.kept_sums.proofs.laws.Ranges.{pow-le-pow, exponent}
 
 -- in no shape is the bound of a small solution above 2^56
 pub limits : {r : LocalRule} → IsRule r → (range h e : ℕ) → 1 ≤ range → r.states ^ range ≤ 16 → h + 3 ≡ 2 * (r.width + range) → e ≤ r.states ^ range - r.states ^ (range - 1) + 1 → (2 * h) ^ e ≤ 2 ^ 56
@@ -25,17 +18,17 @@ limits {r} rule range h e some few long most =
     let short = exponent 2 5 k range (omega arith) states (omega arith) few in
     let small : k ≤ 2 = omega arith in
     let free = mul-le-mul_left p small in
-    power (2 * h) e 30 9 (omega arith) (omega arith) (omega arith) (omega arith))
+    omega (arith, pow-le-pow (2 * h) e 30 9 (omega arith) (omega arith) (omega arith)))
     (λ (more : 3 ≤ k). ⊎_elim
     (λ (middle : k < 5).
     let short = exponent 3 3 k range (omega arith) more (omega arith) few in
     let narrow = exponent 3 3 k (r.width - 1) (omega arith) more (omega arith) nodes in
     let small : k ≤ 4 = omega arith in
     let free : p * k - p ≤ 12 = omega (arith, mul-le-mul_left p small, mul-le-mul_left p more) in
-    power (2 * h) e 14 13 (omega arith) (omega arith) (omega arith) (omega arith))
+    omega (arith, pow-le-pow (2 * h) e 14 13 (omega arith) (omega arith) (omega arith)))
     (λ (many : 5 ≤ k).
     let short = exponent 5 2 k range (omega arith) many (omega arith) few in
     let narrow = exponent 5 2 k (r.width - 1) (omega arith) many (omega arith) nodes in
-    power (2 * h) e 6 16 (omega arith) (omega arith) (omega arith) (omega arith))
+    omega (arith, pow-le-pow (2 * h) e 6 16 (omega arith) (omega arith) (omega arith)))
     (cases_lt k 5))
     (cases_lt k 3)

@@ -1,5 +1,5 @@
 -- What a step leaves of rows that stand, and of rows of zeros.
-use Rattle.std.proofs.Common.{◌≡◌, ◌≢◌, ℕ, ◌<◌, ◌≤◌, List, ℤ, pos, ◌-ℤ◌, ◌*ℤ◌, refl, sym, ◌∙◌, ⊎_elim, arith, ◌<ℤ◌}
+use Rattle.std.proofs.Common.{◌≡◌, ◌≢◌, ℕ, ◌<◌, ◌≤◌, List, ℤ, pos, ◌*ℤ◌, refl, sym, ◌∙◌, ⊎_elim, arith}
 use Rattle.word_image.proofs.Common.{ints, cases_lt, IsWord}
 use Rattle.kept_sums.specs.Spans.{entry, gain_at, IsNarrowed}
 use Rattle.kept_sums.specs.Stages.{IsStanding, IsZero}

@@ -1,6 +1,5 @@
 -- The step of the elimination: what it leaves keeps one sum more, and each weight that keeps it is still a combination.
 use Rattle.std.proofs.Common.{◌≡◌, ◌≢◌, ℕ, zero, suc, ◌+◌, ◌*◌, ◌<◌, ◌≤◌, List, map, ℤ, pos, ◌+ℤ◌, ◌-ℤ◌, ◌*ℤ◌, refl, sym, ap, ap₂, ◌∙◌, ⊎_elim, arith, mul-le-mul}
-use Rattle.std.proofs.Math.IntN.{pos-*ℤ-pos}
 use Rattle.word_image.proofs.Common.{cases_eq, chosen_below, ints, map-range_with_len_more, range_with_len, IsWord}
 use Rattle.kept_sums.specs.Sums.{sum_at, sum_to}
 use Rattle.kept_sums.specs.Spans.{entry, IsSpanned, gain_at, IsNarrowed}

@@ -1,5 +1,5 @@
 -- Sums of weights over words are linear in the weights, and so is what two words gain.
-use Rattle.std.proofs.Common.{◌≡◌, ℕ, zero, suc, ◌<◌, List, [], ◌∷◌, ◌++◌, sum_by, ℤ, pos, ◌+ℤ◌, ◌-ℤ◌, ◌*ℤ◌, refl, sym, ap, ap₂, ◌∙◌, arith}
+use Rattle.std.proofs.Common.{◌≡◌, ℕ, zero, suc, ◌<◌, List, [], ◌∷◌, ◌++◌, sum_by, ℤ, pos, ◌+ℤ◌, ◌-ℤ◌, ◌*ℤ◌, refl, ap₂, ◌∙◌, arith}
 use Rattle.word_image.proofs.Common.{ints, sum_by-cons, All-tail, IsWord}
 use Rattle.kept_sums.specs.Sums.{sum_at, sum_to}
 use Rattle.kept_sums.specs.Spans.{gain_at}

@@ -1,5 +1,5 @@
 -- There is one answer: two have the same rows.
-use Rattle.std.proofs.Common.{◌≡◌, ◌≢◌, ℕ, ◌*◌, ◌^◌, ◌<◌, ◌≤◌, List, [], slice_index_or, ℤ, pos, ◌-ℤ◌, ◌*ℤ◌, refl, sym, ap, subst, ◌∙◌, ⊎_elim, arith, ◌<ℤ◌, unsigned_abs}
+use Rattle.std.proofs.Common.{◌≡◌, ◌≢◌, ℕ, ◌*◌, ◌^◌, ◌<◌, ◌≤◌, List, [], slice_index_or, ℤ, pos, ◌-ℤ◌, ◌*ℤ◌, sym, ap, ◌∙◌, ⊎_elim, arith, ◌<ℤ◌, unsigned_abs}
 use Rattle.std.proofs.Math.Nat.{mul-le-mul_left}
 use Rattle.word_image.proofs.Common.{cases_lt, cases_eq, ints, unsigned_abs-mul, LocalRule}
 use Rattle.kept_sums.specs.Rows.{at, IsCombined}

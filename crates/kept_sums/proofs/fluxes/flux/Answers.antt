@@ -1,4 +1,4 @@
-use Rattle.std.proofs.Common.{◌≡◌, ℕ, ◌+◌, ◌-◌, ◌^◌, ◌≤◌, refl, ap, ◌∙◌, arith}
+use Rattle.std.proofs.Common.{◌≡◌, ◌+◌, ◌-◌, ◌≤◌, refl, ◌∙◌, arith}
 use Rattle.kept_sums.specs.Rows.{at}
 use Rattle.kept_sums.specs.Fluxes.{IsFlowBy}
 use Rattle.kept_sums.proofs.laws.Flows.{IsFluxOf-short_rings, IsKept-flux}

@@ -1,4 +1,4 @@
-use Rattle.std.proofs.Common.{◌≡◌, ◌+◌, ◌*◌, ◌/◌, ◌^◌, ◌<◌, ◌≤◌, ℤ, pos, ◌-ℤ◌, ◌*ℤ◌, neg_ℤ, to_z, of_z, w64, ap, ◌∙◌, arith, unsigned_abs}
+use Rattle.std.proofs.Common.{◌≡◌, ◌+◌, ◌*◌, ◌/◌, ◌^◌, ◌<◌, ◌≤◌, pos, ◌-ℤ◌, to_z, of_z, w64, ap, ◌∙◌, arith, unsigned_abs}
 use Rattle.std.proofs.lemmas.Nat.{div_below}
 use Rattle.word_image.proofs.Common.{mul-div_cancel', ints}
 use Rattle.kept_sums.proofs.laws.Integers.{mul-sub}

@@ -1,4 +1,4 @@
-use Rattle.std.proofs.Common.{◌≡◌, ℕ, List, ℤ, sym, ap, ◌∙◌, subst}
+use Rattle.std.proofs.Common.{ℕ, List, ℤ, sym, ap, ◌∙◌, subst}
 use Rattle.word_image.proofs.Common.{IsRing, ring_image}
 use Rattle.kept_sums.specs.Sums.{blocks, sum_at}
 use Rattle.kept_sums.proofs.laws.AfterRings.{IsRing-ring_image}
