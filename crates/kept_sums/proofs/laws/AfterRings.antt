@@ -7,7 +7,7 @@ use Rattle.kept_sums.specs.Sums.{blocks}
 use Rattle.kept_sums.specs.Spans.{entry, gain_at, IsNarrowed, AreSmall}
 use Rattle.kept_sums.specs.Stages.{IsStage, IsAfterRing, IsCondition}
 use Rattle.kept_sums.proofs.laws.Sums.{IsLinear-gain}
-use Rattle.kept_sums.proofs.laws.Narrowed.{linear-narrowed, gain_at-narrowed}
+use Rattle.kept_sums.proofs.laws.Spans.{linear-narrowed, gain_at-narrowed}
 use Rattle.kept_sums.proofs.laws.Densities.{length-ring_image, KeepsSumOf-gain}
 use Rattle.kept_sums.proofs.laws.Stages.{IsStage-narrowed}
 

@@ -1,22 +1,50 @@
 -- How great the numbers of a crossed row may be, divided by their greatest common divisor: no greater than those of a small solution of the conditions so far.
-use Rattle.std.proofs.Common.{◌≡◌, ◌≢◌, ℕ, zero, suc, ◌+◌, ◌-◌, ◌*◌, ◌^◌, ◌<◌, ◌≤◌, List, [], length, set, slice_index, slice_index_or, get_or-set_other, get_or-set_same, ℤ, pos, ◌-ℤ◌, ◌*ℤ◌, sym, ap, subst, ◌∙◌, ⊎_elim, arith, unsigned_abs}
+use Rattle.std.proofs.Common.{◌≡◌, ◌≢◌, ℕ, zero, suc, ◌+◌, ◌-◌, ◌*◌, ◌^◌, ◌<◌, ◌≤◌, List, [], length, set, slice_index, slice_index_or, get_or-set_other, ℤ, pos, ◌-ℤ◌, ◌*ℤ◌, sym, ap, subst, ◌∙◌, ⊎_elim, arith, unsigned_abs}
 use Rattle.std.proofs.Math.Nat.{pow-suc, mul-le-mul, mul-le-mul_left, mul-le-mul_right, pos_of_dvd_of_pos, dvd-mul_left, dvd-mul_right}
-use Rattle.word_image.proofs.Common.{one-le-pow, eq_of_mul-eq-mul_left, cases_lt, cases_eq, ints, nat_tests, unsigned_abs-mul, LocalRule, IsRule, IsRing, ring_image}
+use Rattle.word_image.proofs.Common.{one-le-pow, eq_of_mul-eq-mul_left, cases_lt, at-set, cases_eq, ints, nat_tests, unsigned_abs-mul, LocalRule, IsRule, IsRing, ring_image}
 use Rattle.std.proofs.lemmas.List.{length-take, take_all}
 use Rattle.kept_sums.specs.Sums.{blocks, KeepsSumOf}
 use Rattle.kept_sums.specs.Rows.{at, IsDivisor}
 use Rattle.kept_sums.specs.Spans.{entry, gain_at, FitNarrowed}
 use Rattle.kept_sums.specs.Stages.{IsFree, ring_at, IsZero, NotedKeep, IsStage, IsCondition}
 use Rattle.kept_sums.proofs.laws.Integers.{factor-none, positive_is}
-use Rattle.kept_sums.proofs.laws.Spans.{sum_to-one, spanned_crosses}
+use Rattle.kept_sums.proofs.laws.Spans.{sum_to-one, spanned_crosses, gain_at-zero}
 use Rattle.kept_sums.proofs.laws.Combined.{multiple_of}
 use Rattle.kept_sums.proofs.laws.Densities.{length-ring_image, KeepsSumOf-gain}
-use Rattle.kept_sums.proofs.laws.Narrowed.{gain_at-zero}
 use Rattle.kept_sums.proofs.laws.Stages.{free_before, free_more, Stands, stands_or_zero, Stands-gains, NotedKeep-set, none-past}
 use Rattle.kept_sums.proofs.laws.AfterRings.{length-blocks}
 use Rattle.kept_sums.proofs.laws.Unique.{part-none, IsSpanned-all}
 use Rattle.kept_sums.proofs.laws.Siegel.{pick, product, small_solution}
-use Rattle.kept_sums.proofs.laws.Limits.{limits}
+use Rattle.kept_sums.proofs.laws.Ranges.{pow-le-pow, exponent}
+
+-- in no shape is the bound of a small solution above 2^56
+pub limits : {r : LocalRule} → IsRule r → (range h e : ℕ) → 1 ≤ range → r.states ^ range ≤ 16 → h + 3 ≡ 2 * (r.width + range) → e ≤ r.states ^ range - r.states ^ (range - 1) + 1 → (2 * h) ^ e ≤ 2 ^ 56
+limits {r} rule range h e some few long most =
+    let k : ℕ = r.states in
+    let p : ℕ = k ^ (range - 1) in
+    let states = rule.shape.least_states in
+    let nodes = rule.shape.most_nodes in
+    let split : k ^ range ≡ p * k = let next : range ≡ suc (range - 1) = omega arith in ap (λ n. k ^ n) next ∙ pow-suc k (range - 1) in
+    let positive : 1 ≤ p = one-le-pow (range - 1) k (omega arith) in
+    ⊎_elim
+    (λ (two : k < 3).
+    let short = exponent 2 5 k range (omega arith) states (omega arith) few in
+    let small : k ≤ 2 = omega arith in
+    let free = mul-le-mul_left p small in
+    omega (arith, pow-le-pow (2 * h) e 30 9 (omega arith) (omega arith) (omega arith)))
+    (λ (more : 3 ≤ k). ⊎_elim
+    (λ (middle : k < 5).
+    let short = exponent 3 3 k range (omega arith) more (omega arith) few in
+    let narrow = exponent 3 3 k (r.width - 1) (omega arith) more (omega arith) nodes in
+    let small : k ≤ 4 = omega arith in
+    let free : p * k - p ≤ 12 = omega (arith, mul-le-mul_left p small, mul-le-mul_left p more) in
+    omega (arith, pow-le-pow (2 * h) e 14 13 (omega arith) (omega arith) (omega arith)))
+    (λ (many : 5 ≤ k).
+    let short = exponent 5 2 k range (omega arith) many (omega arith) few in
+    let narrow = exponent 5 2 k (r.width - 1) (omega arith) many (omega arith) nodes in
+    omega (arith, pow-le-pow (2 * h) e 6 16 (omega arith) (omega arith) (omega arith)))
+    (cases_lt k 5))
+    (cases_lt k 3)
 
 -- a product is at most what grows as much with each factor
 product-steps : (n : ℕ) (f g : ℕ → ℕ) → 1 ≤ g 0 → ((a : ℕ) → a < n → f a * g a ≤ g (suc a)) → product n f ≤ g n
@@ -42,16 +70,18 @@ pub record NotedSolution (r : LocalRule) (range : ℕ) (counts : List ℕ) (ring
 ring_short : (counts : List ℕ) (rings : List (List ℕ)) (m h : ℕ) → slice_index counts m ≤ h → length (ring_at counts rings m) ≤ h
 ring_short counts rings m h l = omega (arith, length-take (slice_index counts m) (slice_index_or rings m []))
 
--- short rings in free places have a small solution that isn't 0 at one place more
-pub noted_solution : {r : LocalRule} {range : ℕ} → IsRule r → 1 ≤ range → r.states ^ range ≤ 16 → (counts : List ℕ) (rings : List (List ℕ))
-    → ((m : ℕ) → m < 16 → 1 ≤ slice_index counts m → IsFree r.states range m × (slice_index counts m + 3 ≤ 2 * (r.width + range)))
-    → (i : ℕ) → i < 16 → slice_index counts i ≡ 0 → NotedSolution r range counts rings i
-noted_solution {r} {range} rule some few counts rings noted i l none =
+-- the rings of a stage with n letters noted in a free place have a small solution that isn't 0 at one place more
+pub noted_solution : {r : LocalRule} {range : ℕ} {rows : List (List ℤ)} {counts : List ℕ} {rings : List (List ℕ)} → IsRule r → 1 ≤ range → r.states ^ range ≤ 16 → IsStage r range rows counts rings
+    → (j n : ℕ) (others : List (List ℕ)) → j < 16 → IsFree r.states range j → n + 3 ≤ 2 * (r.width + range) → (i : ℕ) → i < 16 → slice_index (set counts j n) i ≡ 0 → NotedSolution r range (set counts j n) others i
+noted_solution {r} {range} {counts = before} rule some few stage j n others within free fits i l none =
+    let counts : List ℕ = set before j n in
+    let noted : (m : ℕ) → m < 16 → 1 ≤ slice_index counts m → IsFree r.states range m × (slice_index counts m + 3 ≤ 2 * (r.width + range)) = λ m l.
+    at-set (λ v c. 1 ≤ c → IsFree r.states range v × (c + 3 ≤ 2 * (r.width + range))) before j 0 n (let many = stage.many_counts in omega arith) m (λ _ some. ((stage.places m l).free some, stage.short m l)) (λ _. (free, fits)) in
     let k : ℕ = r.states in
     let h : ℕ = 2 * (r.width + range) - 3 in
-    let p : ℕ → List ℕ = ring_at counts rings in
+    let p : ℕ → List ℕ = ring_at counts others in
     let s = small_solution 16 h i (slice_index counts) (λ m. blocks k range (ring_image r (p m))) (λ m. blocks k range (p m)) l (omega arith) none (λ m n some.
-    let cut = ring_short counts rings m h (let short = (noted m n some).1 in omega arith) in
+    let cut = ring_short counts others m h (let short = (noted m n some).1 in omega arith) in
     (omega (arith, cut, length-blocks k range (ring_image r (p m)), length-ring_image r (p m)), omega (arith, cut, length-blocks k range (p m)))) in
     let power : ℕ → ℕ = λ a. (2 * h) ^ free_before k range a in
     let one = one-le-pow (free_before k range 0) (2 * h) (omega arith) in
@@ -117,15 +147,8 @@ FitNarrowed-condition {r} {range} {rows} {counts} {rings} rule some few stage p 
     let nil : at cross a ≡ pos 0 → unsigned_abs (at cross a) ≤ g * 2 ^ 56 = λ e. subst (λ (z : ℤ). unsigned_abs z ≤ g * 2 ^ 56) (sym e) (omega arith) in
     let standing : i ≢ j → Stands k range rows counts i → unsigned_abs (at cross a) ≤ g * 2 ^ 56 = λ apart stands.
     let pivot = Stands-gains stage x y condition.short.after_word condition.short.before_word j within (λ none. absurd (omega (arith, ints, none, gains))) in
-    let now : List ℕ = set counts j (length p) in
-    let here : slice_index now j ≡ length p = get_or-set_same counts j (length p) 0 (omega arith) in
-    let there : (m : ℕ) → m ≢ j → slice_index now m ≡ slice_index counts m = λ m other. get_or-set_other counts j m (length p) 0 other in
-    let s = noted_solution rule some few now (set rings j p)
-    (λ m l noted. ⊎_elim
-    (λ (same : m ≡ j). (subst (IsFree k range) (sym same) pivot.free, omega (arith, short, here, ap (slice_index now) same)))
-    (λ (other : m ≢ j). ((stage.places m l).free (omega (arith, noted, there m other)), omega (arith, there m other, stage.short m l)))
-    (cases_eq m j))
-    i l (there i apart ∙ stands.none) in
+    let there : (m : ℕ) → m ≢ j → slice_index (set counts j (length p)) m ≡ slice_index counts m = λ m other. get_or-set_other counts j m (length p) 0 other in
+    let s = noted_solution rule some few stage j (length p) (set rings j p) within pivot.free short i l (there i apart ∙ stands.none) in
     let z : ℕ → ℤ = s.weight in
     let zero_at : (m : ℕ) → m ≢ i → m ≢ j → slice_index counts m ≡ 0 → z m ≡ pos 0 = λ m other differs none. s.outside m other (there m differs ∙ none) in
     let past : (m : ℕ) → m < 16 → ¬ IsFree k range m → z m ≡ pos 0 = λ m l no.

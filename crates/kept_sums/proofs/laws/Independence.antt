@@ -14,25 +14,16 @@ use Rattle.kept_sums.proofs.laws.Unique.{part-none, IsSpanned-all}
 use Rattle.kept_sums.proofs.laws.Stages.{free_before, free_more, stands_or_zero, none-past, not_both}
 use Rattle.kept_sums.proofs.laws.Bounds.{noted_solution}
 
--- combinations of the rows are normal
-IsNormal-combination : {r : LocalRule} {range : ℕ} {rows : List (List ℤ)} {counts : List ℕ} {rings : List (List ℕ)} → IsRule r → r.states ^ range ≤ 16 → IsStage r range rows counts rings
-    → (parts : ℕ → ℤ) → IsNormal r.states range (combination parts rows)
-IsNormal-combination {r} {range} {rows} rule few stage parts a below =
-    let states = rule.shape.least_states in
-    let grows : r.states ^ (range - 1) ≤ r.states ^ range = pow-le-pow_right (omega arith) {i = range - 1} {j = range} (omega arith) in
-    sum_to-none 16 (λ m. parts m *ℤ entry rows m a) (λ m l.
-    ⊎_elim
-    (λ stands. let least = stands.free.least in factor-none (parts m) (entry rows m a) (stands.standing.begins a (omega arith)))
-    (λ zeros. factor-none (parts m) (entry rows m a) (zeros a (omega arith)))
-    (stands_or_zero (stage.places m l)))
-
 -- no combination of the rows is trivial but that of no row
 pub rows-independent : {r : LocalRule} {range : ℕ} {rows : List (List ℤ)} {counts : List ℕ} {rings : List (List ℕ)} → IsRule r → 1 ≤ range → r.states ^ range ≤ 16 → IsStage r range rows counts rings
     → (parts : ℕ → ℤ) → IsTrivial r.states range (combination parts rows) → (i : ℕ) → i < 16 → IsFree r.states range i → slice_index counts i ≡ 0 → parts i ≡ pos 0
 rows-independent {r} {range} {rows} rule some few stage parts trivial i l free none =
+    let states = rule.shape.least_states in
+    let grows : r.states ^ (range - 1) ≤ r.states ^ range = pow-le-pow_right (omega arith) {i = range - 1} {j = range} (omega arith) in
+    let normal : IsNormal r.states range (combination parts rows) = λ a below. sum_to-none 16 (λ m. parts m *ℤ entry rows m a) (λ m l. factor-none (parts m) (entry rows m a)
+    (⊎_elim (λ stands. let least = stands.free.least in stands.standing.begins a (omega arith)) (λ zeros. zeros a (omega arith)) (stands_or_zero (stage.places m l)))) in
+    let nothing = IsNormal-trivial r.states range (combination parts rows) states some normal trivial i free.most in
     let stands = (stage.places i l).standing free none in
-    let nothing : combination parts rows i ≡ pos 0 =
-    IsNormal-trivial r.states range (combination parts rows) rule.shape.least_states some (IsNormal-combination rule few stage parts) trivial i free.most in
     let here : combination parts rows i ≡ parts i *ℤ entry rows i i = sum_to-one 16 (λ m. parts m *ℤ entry rows m i) i l (λ m h other. factor-none (parts m) (entry rows m i) (stands.alone m h other)) in
     other_factor (parts i) (entry rows i i) (not_both _ stands.leads) (sym here ∙ nothing)
 
@@ -44,14 +35,8 @@ ring-needed {r} {range} {rows} {counts} {rings} rule few stage i l some =
     let least = free.least in
     let most = free.most in
     let letters : 1 ≤ range = ⊎_elim (λ (none : range < 1). let e : range - 1 ≡ range = omega arith in absurd (omega (arith, least, most, ap (λ n. r.states ^ n) e))) (λ (more : 1 ≤ range). more) (cases_lt range 1) in
-    let now : List ℕ = set counts i 0 in
-    let gone : slice_index now i ≡ 0 = get_or-set_same counts i 0 0 (omega arith) in
-    let there : (m : ℕ) → m ≢ i → slice_index now m ≡ slice_index counts m = λ m other. get_or-set_other counts i m 0 0 other in
-    let s = noted_solution rule letters few now rings
-    (λ m n noted.
-    let other : m ≢ i = λ e. absurd (omega (arith, noted, gone, ap (slice_index now) e)) in
-    ((stage.places m n).free (omega (arith, noted, there m other)), omega (arith, there m other, stage.short m n)))
-    i l gone in
+    let there : (m : ℕ) → m ≢ i → slice_index (set counts i 0) m ≡ slice_index counts m = λ m other. get_or-set_other counts i m 0 0 other in
+    let s = noted_solution rule letters few stage i 0 rings l free (let wide = rule.shape.least_width in omega arith) i l (get_or-set_same counts i 0 0 (omega arith)) in
     let z : ℕ → ℤ = s.weight in
     let past : (a : ℕ) → a < 16 → ¬ IsFree r.states range a → z a ≡ pos 0 = λ a h no.
     let other : a ≢ i = λ e. no (subst (IsFree r.states range) (sym e) free) in

@@ -6,8 +6,7 @@ use Rattle.kept_sums.specs.Sums.{KeepsSumOf}
 use Rattle.kept_sums.specs.Spans.{entry, gain_at, IsNarrowed, AreSmall}
 use Rattle.kept_sums.specs.Stages.{IsFree, ring_at, IsStanding, IsZero, IsPlace, NotedKeep, IsStage, IsCondition}
 use Rattle.kept_sums.proofs.laws.Integers.{factor-none}
-use Rattle.kept_sums.proofs.laws.Spans.{IsSpanned-narrowed}
-use Rattle.kept_sums.proofs.laws.Narrowed.{gain_at-zero, IsZero-narrowed, IsZero-pivot, linear-narrowed, IsStanding-narrowed}
+use Rattle.kept_sums.proofs.laws.Spans.{IsSpanned-narrowed, gain_at-zero, IsZero-narrowed, IsZero-pivot, linear-narrowed, IsStanding-narrowed}
 use Rattle.kept_sums.proofs.laws.Sums.{IsLinear-at}
 
 -- how many free places there are before a place
@@ -51,11 +50,6 @@ module _ {k range : ℕ} {rows : List (List ℤ)} {counts : List ℕ} {rings : L
       (λ outside. inr (place.past outside.0))
       (free_more k range i)
 
--- a row that gains stands
-pub Stands-gains : {r : LocalRule} {range : ℕ} {rows : List (List ℤ)} {counts : List ℕ} {rings : List (List ℕ)} → IsStage r range rows counts rings
-    → (x y : List ℕ) → IsWord 16 x → IsWord 16 y → (j : ℕ) → j < 16 → gain_at (entry rows j) x y ≢ pos 0 → Stands r.states range rows counts j
-Stands-gains {rows = rows} stage x y one two j l gains = ⊎_elim (λ stands. stands) (λ zeros. absurd (gains (gain_at-zero rows j x y one two zeros))) (stands_or_zero (stage.places j l))
-
 -- a ring that is noted in a place
 pub ring_at-here : (counts : List ℕ) (rings : List (List ℕ)) (j n : ℕ) (letters : List ℕ) → j < length counts → j < length rings → ring_at (set counts j n) (set rings j letters) j ≡ take n letters
 ring_at-here counts rings j n letters l h = ap₂ (λ (m : ℕ) (xs : List ℕ). take m xs) (get_or-set_same counts j n 0 l) (get_or-set_same rings j letters [] h)
@@ -64,27 +58,27 @@ ring_at-here counts rings j n letters l h = ap₂ (λ (m : ℕ) (xs : List ℕ).
 pub ring_at-other : (counts : List ℕ) (rings : List (List ℕ)) (j n : ℕ) (letters : List ℕ) (i : ℕ) → i ≢ j → ring_at (set counts j n) (set rings j letters) i ≡ ring_at counts rings i
 ring_at-other counts rings j n letters i other = ap₂ (λ (m : ℕ) (xs : List ℕ). take m xs) (get_or-set_other counts j i n 0 other) (get_or-set_other rings j i letters [] other)
 
--- what keeps the sums of the noted rings and of one more keeps those that were noted before, and that of this one
-pub NotedKeep-set : {r : LocalRule} {range : ℕ} {rows : List (List ℤ)} {counts : List ℕ} {rings : List (List ℕ)} → IsStage r range rows counts rings → (weight : ℕ → ℤ) (j n : ℕ) (letters : List ℕ) → j < 16 → 1 ≤ n
-    → slice_index counts j ≡ 0 → NotedKeep r range (set counts j n) (set rings j letters) weight → NotedKeep r range counts rings weight × KeepsSumOf range weight r (take n letters)
-NotedKeep-set {r} {range} {rows} {counts} {rings} stage weight j n letters within some none keep =
-    let many_rings = stage.many_rings in (
-      λ i l noted.
-          let other : i ≢ j = λ e. let at_j = ap (slice_index counts) e in absurd (omega arith) in
-          subst (KeepsSumOf range weight r) (ring_at-other counts rings j n letters i other) (keep i l (omega (arith, noted, get_or-set_other counts j i n 0 other))),
-      subst (KeepsSumOf range weight r) (ring_at-here counts rings j n letters (omega arith) (omega arith)) (keep j within (omega (arith, some, get_or-set_same counts j n 0 (omega arith)))),
-    )
+module _ {r : LocalRule} {range : ℕ} {rows : List (List ℤ)} {counts : List ℕ} {rings : List (List ℕ)} (stage : IsStage r range rows counts rings) where
+  -- a row that gains stands
+  pub Stands-gains : (x y : List ℕ) → IsWord 16 x → IsWord 16 y → (j : ℕ) → j < 16 → gain_at (entry rows j) x y ≢ pos 0 → Stands r.states range rows counts j
+  Stands-gains x y one two j l gains = ⊎_elim (λ stands. stands) (λ zeros. absurd (gains (gain_at-zero rows j x y one two zeros))) (stands_or_zero (stage.places j l))
+
+  -- what keeps the sums of the noted rings and of one more keeps those that were noted before, and that of this one
+  pub NotedKeep-set : (weight : ℕ → ℤ) (j n : ℕ) (letters : List ℕ) → j < 16 → 1 ≤ n
+      → slice_index counts j ≡ 0 → NotedKeep r range (set counts j n) (set rings j letters) weight → NotedKeep r range counts rings weight × KeepsSumOf range weight r (take n letters)
+  NotedKeep-set weight j n letters within some none keep = (
+    λ i l noted.
+        let other : i ≢ j = λ e. let at_j = ap (slice_index counts) e in absurd (omega arith) in
+        subst (KeepsSumOf range weight r) (ring_at-other counts rings j n letters i other) (keep i l (omega (arith, noted, get_or-set_other counts j i n 0 other))),
+    subst (KeepsSumOf range weight r) (ring_at-here counts rings j n letters (omega arith) (omega arith)) (keep j within (omega (arith, some, get_or-set_same counts j n 0 (omega arith)))),
+  )
 
 -- the rows are narrowed by two words that say of a ring whether it keeps a sum, and the ring is noted
 pub IsStage-narrowed : {r : LocalRule} {range : ℕ} {rows news : List (List ℤ)} {counts : List ℕ} {rings : List (List ℕ)} {x y : List ℕ} {j : ℕ} (n : ℕ) (letters : List ℕ)
     → IsStage r range rows counts rings → r.states ^ range ≤ 16 → IsCondition r range (take n letters) x y → j < 16 → ((i : ℕ) → j < i → i < 16 → gain_at (entry rows i) x y ≡ pos 0)
     → IsNarrowed rows x y j news → AreSmall news → 1 ≤ n → n + 3 ≤ 2 * (r.width + range) → IsRing r.states (take n letters) → IsStage r range news (set counts j n) (set rings j letters)
 IsStage-narrowed {r} {range} {rows} {news} {counts} {rings} {x} {y} {j} n letters stage few condition within last narrowed small some fits ring =
-    let gains = narrowed.gains in
-    let lead_some = narrowed.some in
-    let pivot = Stands-gains stage x y condition.short.after_word condition.short.before_word j within (λ none. absurd (omega (arith, ints, none, gains, lead_some))) in
-    let many = stage.many_counts in
-    let many_rings = stage.many_rings in
+    let pivot = Stands-gains stage x y condition.short.after_word condition.short.before_word j within (λ none. absurd (omega (arith, ints, none, narrowed.gains, narrowed.some))) in
     let here : slice_index (set counts j n) j ≡ n = get_or-set_same counts j n 0 (omega arith) in
     record {
       places = λ i l.
@@ -114,6 +108,6 @@ IsStage-narrowed {r} {range} {rows} {news} {counts} {rings} {x} {y} {j} n letter
           IsSpanned-narrowed few condition.x_word condition.y_word narrowed ((condition.keeps weight).0 keeps.1) (stage.complete weight normal keeps.0);
       short = λ i l. at-set (λ _ count. count + 3 ≤ 2 * (r.width + range)) counts j 0 n (omega arith) i (λ _. stage.short i l) fits;
       small = small;
-      many_counts = length-set counts j n ∙ many;
-      many_rings = length-set rings j letters ∙ many_rings;
+      many_counts = length-set counts j n ∙ stage.many_counts;
+      many_rings = length-set rings j letters ∙ stage.many_rings;
     }

@@ -1,18 +1,11 @@
 -- The first stage: each free place has the row that gives it the weight 1.
-use Rattle.std.proofs.Common.{◌≡◌, ◌≢◌, ℕ, zero, suc, ◌-◌, ◌^◌, ◌<◌, ◌≤◌, List, [], replicate, slice_index, slice_index_or, ℤ, pos, ◌*ℤ◌, refl, sym, ap, ◌∙◌, ⊎_elim, ◌⊎◌, inl, inr, arith, unsigned_abs}
+use Rattle.std.proofs.Common.{◌≡◌, ◌≢◌, ℕ, ◌-◌, ◌^◌, ◌<◌, ◌≤◌, List, [], replicate, slice_index, slice_index_or, ℤ, pos, ◌*ℤ◌, sym, ap, ◌∙◌, ⊎_elim, ◌⊎◌, inl, inr, arith, unsigned_abs}
 use Rattle.word_image.proofs.Common.{ints, cases_lt, cases_eq, length-replicate, LocalRule, IsRule, slice_index-zeros}
 use Rattle.kept_sums.specs.Sums.{sum_to}
 use Rattle.kept_sums.specs.Rows.{at, IsUnit, IsCombined}
 use Rattle.kept_sums.specs.Spans.{entry, IsSpanned}
 use Rattle.kept_sums.specs.Stages.{IsStage}
-use Rattle.kept_sums.proofs.laws.Parts.{at-replicate}
 use Rattle.kept_sums.proofs.laws.Spans.{sum_to-one}
-
--- rows of zeros have them everywhere
-pub entry-zeros : (n i a : ℕ) → entry (replicate n (replicate 16 (pos 0))) i a ≡ pos 0
-entry-zeros zero i a = refl
-entry-zeros (suc n) zero a = at-replicate 16 a
-entry-zeros (suc n) (suc i) a = entry-zeros n i a
 
 -- the rows from first on and before size have one number that isn't 0, and the others none
 pub record AreUnits (first size : ℕ) (rows : List (List ℤ)) : Type 0 where

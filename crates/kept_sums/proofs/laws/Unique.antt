@@ -1,5 +1,5 @@
 -- There is one answer: two have the same rows.
-use Rattle.std.proofs.Common.{◌≡◌, ◌≢◌, ℕ, ◌*◌, ◌^◌, ◌<◌, ◌≤◌, List, [], slice_index_or, ℤ, pos, ◌-ℤ◌, ◌*ℤ◌, sym, ap, ◌∙◌, ⊎_elim, arith, ◌<ℤ◌, unsigned_abs}
+use Rattle.std.proofs.Common.{◌≡◌, ◌≢◌, ℕ, ◌^◌, ◌<◌, ◌≤◌, List, [], slice_index_or, ℤ, pos, ◌-ℤ◌, ◌*ℤ◌, sym, ap, ◌∙◌, ⊎_elim, arith, ◌<ℤ◌, unsigned_abs}
 use Rattle.std.proofs.Math.Nat.{mul-le-mul_left}
 use Rattle.word_image.proofs.Common.{cases_lt, cases_eq, ints, unsigned_abs-mul, LocalRule}
 use Rattle.kept_sums.specs.Rows.{at, IsCombined}
@@ -10,14 +10,10 @@ use Rattle.kept_sums.proofs.laws.Spans.{sum_to-one, sum_to-none}
 use Rattle.kept_sums.proofs.laws.Combined.{multiple_of}
 use Rattle.kept_sums.proofs.laws.Stages.{Stands, stands_or_zero, not_both}
 
--- the sizes of one multiple of a number and of another are one
-same_sizes : (t s : ℕ) (x y : ℤ) → pos t *ℤ x ≡ pos s *ℤ y → t * unsigned_abs x ≡ s * unsigned_abs y
-same_sizes t s x y e = sym (unsigned_abs-mul (pos t) x) ∙ ap unsigned_abs e ∙ unsigned_abs-mul (pos s) y
-
 -- where a multiple of a row of which 1 is combined is one of another row, the number is at least the other
 least_multiple : (one other : List ℤ) (t s : ℕ) → 1 ≤ t → ((a : ℕ) → a < 16 → pos t *ℤ at one a ≡ pos s *ℤ at other a) → IsCombined 16 one 1 → s ≤ t
 least_multiple one other t s some same combined =
-    let part = multiple_of one 1 t s (λ a. unsigned_abs (at other a)) combined (omega arith) (λ a l. same_sizes t s (at one a) (at other a) (same a l)) in
+    let part = multiple_of one 1 t s (λ a. unsigned_abs (at other a)) combined (omega arith) (λ a l. omega (arith, ap unsigned_abs (same a l), unsigned_abs-mul (pos t) (at one a), unsigned_abs-mul (pos s) (at other a))) in
     omega (arith, mul-le-mul_left s part.1, part.2)
 
 -- two rows are one where a multiple of each is one of the other
@@ -40,59 +36,60 @@ spanned_at : {rows : List (List ℤ)} {weight : ℕ → ℤ} (spanned : IsSpanne
 spanned_at {rows = rows} spanned l within standing =
     spanned.sums l within ∙ sum_to-one 16 (λ m. spanned.parts m *ℤ entry rows m l) l within (λ m h apart. factor-none (spanned.parts m) (entry rows m l) (standing.alone m h apart))
 
--- a combination takes nothing of a row where the weights are 0 if it stands, and what is taken is 0 if it is one of zeros
-pub part-none : {r : LocalRule} {range : ℕ} {rows : List (List ℤ)} {counts : List ℕ} {rings : List (List ℕ)} {weight : ℕ → ℤ} → IsStage r range rows counts rings → (spanned : IsSpanned 16 rows weight)
-    → (m : ℕ) → m < 16 → (x : ℤ) → (Stands r.states range rows counts m → weight m ≡ pos 0) → (IsZero rows m → x ≡ pos 0) → spanned.parts m *ℤ x ≡ pos 0
-part-none {rows = rows} stage spanned m l x stood none =
-    ⊎_elim
-    (λ stands. zero-factor (spanned.parts m) x
-    (other_factor (spanned.parts m) (entry rows m m) (not_both _ stands.standing.leads) (sym (spanned_at spanned m l stands.standing) ∙ factor-none (pos spanned.times) _ (stood stands))))
-    (λ zeros. factor-none (spanned.parts m) x (none zeros))
-    (stands_or_zero (stage.places m l))
+module _ {r : LocalRule} {range : ℕ} {rows : List (List ℤ)} {counts : List ℕ} {rings : List (List ℕ)} (stage : IsStage r range rows counts rings) where
+  -- a combination takes nothing of a row where the weights are 0 if it stands, and what is taken is 0 if it is one of zeros
+  pub part-none : {weight : ℕ → ℤ} (spanned : IsSpanned 16 rows weight)
+      → (m : ℕ) → m < 16 → (x : ℤ) → (Stands r.states range rows counts m → weight m ≡ pos 0) → (IsZero rows m → x ≡ pos 0) → spanned.parts m *ℤ x ≡ pos 0
+  part-none spanned m l x stood none =
+      ⊎_elim
+      (λ stands. zero-factor (spanned.parts m) x
+      (other_factor (spanned.parts m) (entry rows m m) (not_both _ stands.standing.leads) (sym (spanned_at spanned m l stands.standing) ∙ factor-none (pos spanned.times) _ (stood stands))))
+      (λ zeros. factor-none (spanned.parts m) x (none zeros))
+      (stands_or_zero (stage.places m l))
 
--- kept normal weights with zeros past the last word are combined of the rows at all sixteen places
-pub IsSpanned-all : {r : LocalRule} {range : ℕ} {rows : List (List ℤ)} {counts : List ℕ} {rings : List (List ℕ)} → IsStage r range rows counts rings → (weight : ℕ → ℤ) → IsNormal r.states range weight
-    → ((a : ℕ) → r.states ^ range ≤ a → a < 16 → weight a ≡ pos 0) → NotedKeep r range counts rings weight → IsSpanned 16 rows weight
-IsSpanned-all {r} {range} {rows} stage weight normal ends keep =
-    let spanned = stage.complete weight normal keep in
-    record {
-      times = spanned.times;
-      some = spanned.some;
-      parts = spanned.parts;
-      sums = λ a l.
-          ⊎_elim
-          (λ (inside : a < r.states ^ range). spanned.sums a inside)
-          (λ (outside : r.states ^ range ≤ a).
-          factor-none (pos spanned.times) (weight a) (ends a outside l)
-          ∙ sym (sum_to-none 16 (λ i. spanned.parts i *ℤ entry rows i a) (λ i h. factor-none (spanned.parts i) (entry rows i a) (stage.ends i a h outside l))))
-          (cases_lt a (r.states ^ range));
-    }
+  -- kept normal weights with zeros past the last word are combined of the rows at all sixteen places
+  pub IsSpanned-all : (weight : ℕ → ℤ) → IsNormal r.states range weight
+      → ((a : ℕ) → r.states ^ range ≤ a → a < 16 → weight a ≡ pos 0) → NotedKeep r range counts rings weight → IsSpanned 16 rows weight
+  IsSpanned-all weight normal ends keep =
+      let spanned = stage.complete weight normal keep in
+      record {
+        times = spanned.times;
+        some = spanned.some;
+        parts = spanned.parts;
+        sums = λ a l.
+            ⊎_elim
+            (λ (inside : a < r.states ^ range). spanned.sums a inside)
+            (λ (outside : r.states ^ range ≤ a).
+            factor-none (pos spanned.times) (weight a) (ends a outside l)
+            ∙ sym (sum_to-none 16 (λ i. spanned.parts i *ℤ entry rows i a) (λ i h. factor-none (spanned.parts i) (entry rows i a) (stage.ends i a h outside l))))
+            (cases_lt a (r.states ^ range));
+      }
 
--- a row of the one answer is combined of those of the other
-spanned_row : {r : LocalRule} {range : ℕ} {rows others : List (List ℤ)} {counts other_counts : List ℕ} {rings other_rings : List (List ℕ)}
-    → AreKeptSums r range rows counts rings → AreKeptSums r range others other_counts other_rings → (i : ℕ) → i < 16 → Stands r.states range rows counts i → IsSpanned 16 others (entry rows i)
-spanned_row {rows = rows} {other_counts = counts} {other_rings = rings} one other i l stands =
-    IsSpanned-all other.stage (entry rows i) (λ a below. let least = stands.free.least in stands.standing.begins a (omega arith)) (λ a from. one.stage.ends i a l from)
-    (λ m h noted. one.kept i l (ring_at counts rings m) ((other.stage.places m h).ring noted))
+module _ {r : LocalRule} {range : ℕ} {rows others : List (List ℤ)} {counts other_counts : List ℕ} {rings other_rings : List (List ℕ)}
+    (one : AreKeptSums r range rows counts rings) (other : AreKeptSums r range others other_counts other_rings) where
+  -- a row of the one answer is combined of those of the other
+  spanned_row : (i : ℕ) → i < 16 → Stands r.states range rows counts i → IsSpanned 16 others (entry rows i)
+  spanned_row i l stands =
+      IsSpanned-all other.stage (entry rows i) (λ a below. let least = stands.free.least in stands.standing.begins a (omega arith)) (λ a from. one.stage.ends i a l from)
+      (λ m h noted. one.kept i l (ring_at other_counts other_rings m) ((other.stage.places m h).ring noted))
 
--- where a row of one answer stands, a row of the other does
-pub stands_too : {r : LocalRule} {range : ℕ} {rows others : List (List ℤ)} {counts other_counts : List ℕ} {rings other_rings : List (List ℕ)}
-    → AreKeptSums r range rows counts rings → AreKeptSums r range others other_counts other_rings → (i : ℕ) → i < 16 → Stands r.states range rows counts i → Stands r.states range others other_counts i
-stands_too {r} {range} {rows} {others} {other_counts = counts} one other i l stands =
-    let spanned = spanned_row one other i l stands in
-    ⊎_elim
-    (λ yes. yes)
-    (λ (zeros : IsZero others i).
-    let nothing : (m : ℕ) → m < 16 → spanned.parts m *ℤ entry others m i ≡ pos 0 = λ m h.
-    ⊎_elim
-    (λ (less : m < i). part-none other.stage spanned m h (entry others m i) (λ _. stands.standing.begins m less) (λ none. none i l))
-    (λ (most : i ≤ m). factor-none (spanned.parts m) (entry others m i) (⊎_elim
-    (λ (same : m ≡ i). rw same (zeros i l))
-    (λ (apart : m ≢ i). ⊎_elim (λ upright. upright.standing.begins i (omega arith)) (λ none. none i l) (stands_or_zero (other.stage.places m h)))
-    (cases_eq m i)))
-    (cases_lt m i) in
-    absurd (not_both (entry rows i i) stands.standing.leads (zero-of_times spanned.times (entry rows i i) spanned.some (spanned.sums i l ∙ sum_to-none 16 (λ m. spanned.parts m *ℤ entry others m i) nothing))))
-    (stands_or_zero (other.stage.places i l))
+  -- where a row of one answer stands, a row of the other does
+  pub stands_too : (i : ℕ) → i < 16 → Stands r.states range rows counts i → Stands r.states range others other_counts i
+  stands_too i l stands =
+      let spanned = spanned_row i l stands in
+      ⊎_elim
+      (λ yes. yes)
+      (λ (zeros : IsZero others i).
+      let nothing : (m : ℕ) → m < 16 → spanned.parts m *ℤ entry others m i ≡ pos 0 = λ m h.
+      ⊎_elim
+      (λ (less : m < i). part-none other.stage spanned m h (entry others m i) (λ _. stands.standing.begins m less) (λ none. none i l))
+      (λ (most : i ≤ m). factor-none (spanned.parts m) (entry others m i) (⊎_elim
+      (λ (same : m ≡ i). rw same (zeros i l))
+      (λ (apart : m ≢ i). ⊎_elim (λ upright. upright.standing.begins i (omega arith)) (λ none. none i l) (stands_or_zero (other.stage.places m h)))
+      (cases_eq m i)))
+      (cases_lt m i) in
+      absurd (not_both (entry rows i i) stands.standing.leads (zero-of_times spanned.times (entry rows i i) spanned.some (spanned.sums i l ∙ sum_to-none 16 (λ m. spanned.parts m *ℤ entry others m i) nothing))))
+      (stands_or_zero (other.stage.places i l))
 
 -- two standing rows of one place are one row
 pub same_standing : {r : LocalRule} {range : ℕ} {rows others : List (List ℤ)} {counts other_counts : List ℕ} {rings other_rings : List (List ℕ)}

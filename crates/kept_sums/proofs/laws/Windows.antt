@@ -6,7 +6,6 @@ use Rattle.std.proofs.lemmas.Nat.{pow-add, div_below}
 use Rattle.std.proofs.lemmas.List.{length-set}
 use Rattle.kept_sums.specs.Rows.{at}
 use Rattle.kept_sums.specs.Fluxes.{IsFluxOf, window_gain, IsFlowBy}
-use Rattle.kept_sums.proofs.Casts.{abs-sub}
 use Rattle.kept_sums.proofs.laws.Ranges.{pow-next}
 use Rattle.kept_sums.proofs.laws.Trivials.{window_ends, IsFlowBy-back, same_of_step}
 
@@ -63,7 +62,6 @@ IsFlowBy-less {k} {n} c some less by = record {
 pub IsFluxOf-one : {r : LocalRule} {range : ℕ} {weight phi psi : ℕ → ℤ} → IsRule r → 1 ≤ range → IsFluxOf range weight r phi → IsFluxOf range weight r psi
     → (v : ℕ) → v < r.states ^ (r.width + range - 2) → (phi v -ℤ phi 0) ≡ psi v -ℤ psi 0
 IsFluxOf-one {r} {range} {weight} {phi} {psi} rule some one other v l =
-    let states = rule.shape.least_states in
     let d : ℕ = r.width + range - 2 in
     let gains : ℕ → ℤ = λ u. window_gain r range weight (word_of r.states (r.width + range - 1) u) in
     let step : (u : ℕ) → u < r.states ^ d → (phi u -ℤ psi u) ≡ phi (u / r.states) -ℤ psi (u / r.states) = λ u h.
@@ -83,7 +81,7 @@ number_small : (k v j : ℕ) (gains flux : List ℤ) (x : ℤ) → 2 ≤ k → 1
 number_small k v zero gains flux x states some l is small bounds = let one = pow-zero k in absurd (omega arith)
 number_small k v (suc i) gains flux x states some l is small bounds =
     let before = bounds (v / k) i (div-lt_self some states) (div_below v k (k ^ i) (omega arith) (omega (arith, l, pow-suc k i))) in
-    omega (arith, abs-sub (at flux (v / k)) (at gains v), ap unsigned_abs is, before, small)
+    omega (arith, ints, is, before, small)
 
 -- the number of the next word is that of its letters but for the last less what the window adds between them
 pub AreNumbers-next : (k n v place : ℕ) (gains flux : List ℤ) (x : ℤ) → 2 ≤ k → 1 ≤ v → v < k ^ n → v < 128 → place ≡ v → unsigned_abs (at gains v) ≤ 2 ^ 57 → x ≡ at flux (v / k) -ℤ at gains v

@@ -36,7 +36,6 @@ returns-else-flow_by-clause-kept c = (
   λ yes. absurd (cc),
   λ kept.
       let rule = c.m.ensures.rule in
-      let states = rule.shape.least_states in
       let flux = IsFluxOf-short_rings rule c.args.range (at c.args.weights.now) c.requires.some (λ p ring _. kept p ring) in
       let by : IsFlowBy c.from-k.result (c.m.result + c.args.range - 2) (at c.gains-gains.result) flux.0 =
       rw (c.from-k.ensures, c.k.ensures.states, c.m.ensures.width)

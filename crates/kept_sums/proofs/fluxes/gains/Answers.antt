@@ -3,7 +3,7 @@ use Rattle.std.proofs.lemmas.List.{length-set}
 use Rattle.word_image.proofs.Common.{set_more, word_of}
 use Rattle.kept_sums.specs.Fluxes.{window_gain}
 use Rattle.kept_sums.proofs.Casts.{back}
-use Rattle.kept_sums.proofs.laws.Parts.{at-replicate}
+use Rattle.kept_sums.proofs.laws.Zeros.{at-replicate}
 use Rattle.kept_sums.proofs.laws.Windows.{windows-most}
 use Rattle.kept_sums.proofs.fluxes.gains.Goals.{After-from-letters, After-pow-window-end}
 use Rattle.kept_sums.proofs.fluxes.gains.Goals as goal

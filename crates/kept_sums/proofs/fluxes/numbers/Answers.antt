@@ -2,7 +2,7 @@ use Rattle.std.proofs.Common.{◌≡◌, ℕ, ◌/◌, ◌^◌, ◌<◌, ◌≤�
 use Rattle.word_image.proofs.Common.{one-le-pow, pow-zero, div-lt_self, cases_lt, ints}
 use Rattle.kept_sums.specs.Rows.{at}
 use Rattle.kept_sums.proofs.Casts.{fits-sub, back-sub}
-use Rattle.kept_sums.proofs.laws.Parts.{at-replicate}
+use Rattle.kept_sums.proofs.laws.Zeros.{at-replicate}
 use Rattle.kept_sums.proofs.laws.Windows.{words-half, AreNumbers-next}
 use Rattle.kept_sums.proofs.fluxes.numbers.Goals.{After-from-in-loop-word-2}
 use Rattle.kept_sums.proofs.fluxes.numbers.Goals as goal
@@ -51,7 +51,7 @@ loop-word-preserved c =
 pub returns-clause-bounds : goal.returns-clause-bounds
 returns-clause-bounds c = λ v l.
     let all = c.pow-word-end.ensures ∙ ap₂ (λ (x y : ℕ). x ^ y) refl c.from.ensures in
-    let some = one-le-pow c.args.letters c.args.k (let states = c.requires.states in omega arith) in
+    let some = one-le-pow c.args.letters c.args.k (omega arith) in
     ⊎_elim
     (λ (done : v < c.loop-word.word). let small = c.loop-word.invariant.bounds v c.args.letters done (omega arith) in omega arith)
     (λ (rest : c.loop-word.word ≤ v). omega (arith, ints, c.loop-word.invariant.rest v rest))
@@ -62,6 +62,6 @@ returns-clause-first c = omega (arith, ints, c.loop-word.invariant.bounds 0 0 (o
 
 pub returns-clause-ends : goal.returns-clause-ends
 returns-clause-ends c = λ v from l.
-    let some = one-le-pow c.args.letters c.args.k (let states = c.requires.states in omega arith) in
+    let some = one-le-pow c.args.letters c.args.k (omega arith) in
     let all = c.pow-word-end.ensures ∙ ap₂ (λ (x y : ℕ). x ^ y) refl c.from.ensures in
     c.loop-word.invariant.rest v (omega arith)

@@ -3,7 +3,7 @@ use Rattle.word_image.proofs.Common.{IsWord-le}
 use Rattle.kept_sums.specs.Spans.{entry}
 use Rattle.kept_sums.proofs.laws.Flows.{IsKept-short_rings}
 use Rattle.kept_sums.proofs.laws.Densities.{KeepsSumOf-gain}
-use Rattle.kept_sums.proofs.laws.Narrowed.{gain_at-zero}
+use Rattle.kept_sums.proofs.laws.Spans.{gain_at-zero}
 use Rattle.kept_sums.proofs.laws.Stages.{stands_or_zero, not_both}
 use Rattle.kept_sums.proofs.laws.AfterRings.{IsWord-blocks, IsRing-ring_image}
 use Rattle.kept_sums.proofs.kept.kept_sums.Goals as goal

@@ -1,6 +1,6 @@
 use Rattle.std.proofs.Common.{replicate, get_or-set_other, get_or-set_same, pos, ◌∙◌, arith}
 use Rattle.word_image.proofs.Common.{length-replicate}
-use Rattle.kept_sums.proofs.laws.Parts.{at-replicate}
+use Rattle.kept_sums.proofs.laws.Zeros.{at-replicate}
 use Rattle.kept_sums.proofs.kept.unit.Goals as goal
 
 pub returns : goal.returns

@@ -1,12 +1,11 @@
-use Rattle.std.proofs.Common.{◌≡◌, ℕ, ◌*◌, ◌^◌, ◌<◌, ◌≤◌, ℤ, pos, ◌*ℤ◌, refl, sym, subst, ◌∙◌, w64, to_z, of_z, arith, unsigned_abs}
+use Rattle.std.proofs.Common.{◌≡◌, ℕ, ◌^◌, ◌<◌, ◌≤◌, ℤ, pos, ◌*ℤ◌, refl, sym, subst, ◌∙◌, w64, to_z, of_z, arith, unsigned_abs}
 use Rattle.std.proofs.lemmas.List.{length-set}
 use mir.Syntax.{w128}
-use Prim.Native.Nat.{◌∣◌}
 use Rattle.word_image.proofs.Common.{eq-zero_of_zero-dvd, ints, set_more}
 use Rattle.kept_sums.specs.Rows.{at}
 use Rattle.kept_sums.proofs.Casts.{back}
 use Rattle.kept_sums.proofs.laws.Combined.{IsCombined-divided}
-use Rattle.kept_sums.proofs.laws.Parts.{at-replicate}
+use Rattle.kept_sums.proofs.laws.Zeros.{at-replicate}
 use Rattle.kept_sums.proofs.rows.reduced.Goals as goal
 
 pub returns-then-divisor-eq0-clause-part : goal.returns-then-divisor-eq0-clause-part
@@ -22,7 +21,7 @@ returns-then-divisor-eq0-clause-part c = record {
 pub quotient-requires-clause-divides : goal.quotient-requires-clause-divides
 quotient-requires-clause-divides c =
     let n = c.loop-place.place in
-    subst (λ (z : ℤ). c.divisor-divisor.result ∣ unsigned_abs z) (sym (back w128 (at c.args.cross.now n) (2 ^ 118) (c.requires.bounds n (omega arith)) (omega arith)))
+    rw (back w128 (at c.args.cross.now n) (2 ^ 118) (c.requires.bounds n (omega arith)) (omega arith))
     (c.divisor-divisor.ensures.divides n (omega arith))
 
 pub loop-place-preserved : goal.loop-place-preserved
@@ -50,5 +49,5 @@ returns-clause-part c =
 pub quotient-requires-clause-small : goal.quotient-requires-clause-small
 quotient-requires-clause-small c =
     let n = c.loop-place.place in
-    subst (λ (z : ℤ). unsigned_abs z ≤ c.divisor-divisor.result * 2 ^ 56) (sym (back w128 (at c.args.cross.now n) (2 ^ 118) (c.requires.bounds n (omega arith)) (omega arith)))
+    rw (back w128 (at c.args.cross.now n) (2 ^ 118) (c.requires.bounds n (omega arith)) (omega arith))
     (c.requires.divides c.divisor-divisor.result c.divisor-divisor.ensures n (omega arith))
