@@ -6,7 +6,7 @@ use Rattle.std.proofs.lemmas.List.{length-take, take_all}
 use Rattle.kept_sums.specs.Sums.{blocks, KeepsSumOf}
 use Rattle.kept_sums.specs.Rows.{at, IsDivisor}
 use Rattle.kept_sums.specs.Spans.{entry, gain_at, FitNarrowed}
-use Rattle.kept_sums.specs.Stages.{IsFree, ring_at, IsZero, NotedKeep, IsStage, IsCondition}
+use Rattle.kept_sums.specs.Stages.{IsFree, ring_at, IsZero, IsStage, IsCondition}
 use Rattle.kept_sums.proofs.laws.Integers.{factor-none, positive_is}
 use Rattle.kept_sums.proofs.laws.Spans.{sum_to-one, spanned_crosses, gain_at-zero}
 use Rattle.kept_sums.proofs.laws.Combined.{multiple_of}
@@ -14,7 +14,7 @@ use Rattle.kept_sums.proofs.laws.Densities.{length-ring_image, KeepsSumOf-gain}
 use Rattle.kept_sums.proofs.laws.Stages.{free_before, free_more, Stands, stands_or_zero, Stands-gains, NotedKeep-set, none-past}
 use Rattle.kept_sums.proofs.laws.AfterRings.{length-blocks}
 use Rattle.kept_sums.proofs.laws.Unique.{part-none, IsSpanned-all}
-use Rattle.kept_sums.proofs.laws.Siegel.{pick, product, small_solution}
+use Rattle.kept_sums.proofs.laws.Siegel.{pick, product, SmallSolution, small_solution}
 use Rattle.kept_sums.proofs.laws.Ranges.{pow-le-pow, exponent}
 
 -- in no shape is the bound of a small solution above 2^56
@@ -56,52 +56,6 @@ product-steps (suc n) f g some step = omega (arith, mul-le-mul_left (f n) (produ
 pick-one : (g b : ℕ) → 1 ≤ b → pick g 1 b ≤ b
 pick-one g b some = grind (arith, nat_tests)
 
--- a small solution of the conditions of the noted rings that isn't 0: 0 but in their places and at place i
-pub record NotedSolution (r : LocalRule) (range : ℕ) (counts : List ℕ) (rings : List (List ℕ)) (i : ℕ) : Type 0 where
-  pub weight : ℕ → ℤ
-  pub small : (a : ℕ) → unsigned_abs (weight a) ≤ 2 ^ 56
-  pub outside : (a : ℕ) → a ≢ i → slice_index counts a ≡ 0 → weight a ≡ pos 0
-  pub place : ℕ
-  pub within : place < 16
-  pub some : weight place ≢ pos 0
-  pub keep : NotedKeep r range counts rings weight
-
--- a ring that is noted has no more letters than are counted
-ring_short : (counts : List ℕ) (rings : List (List ℕ)) (m h : ℕ) → slice_index counts m ≤ h → length (ring_at counts rings m) ≤ h
-ring_short counts rings m h l = omega (arith, length-take (slice_index counts m) (slice_index_or rings m []))
-
--- the rings of a stage with n letters noted in a free place have a small solution that isn't 0 at one place more
-pub noted_solution : {r : LocalRule} {range : ℕ} {rows : List (List ℤ)} {counts : List ℕ} {rings : List (List ℕ)} → IsRule r → 1 ≤ range → r.states ^ range ≤ 16 → IsStage r range rows counts rings
-    → (j n : ℕ) (others : List (List ℕ)) → j < 16 → IsFree r.states range j → n + 3 ≤ 2 * (r.width + range) → (i : ℕ) → i < 16 → slice_index (set counts j n) i ≡ 0 → NotedSolution r range (set counts j n) others i
-noted_solution {r} {range} {counts = before} rule some few stage j n others within free fits i l none =
-    let counts : List ℕ = set before j n in
-    let noted : (m : ℕ) → m < 16 → 1 ≤ slice_index counts m → IsFree r.states range m × (slice_index counts m + 3 ≤ 2 * (r.width + range)) = λ m l.
-    at-set (λ v c. 1 ≤ c → IsFree r.states range v × (c + 3 ≤ 2 * (r.width + range))) before j 0 n (let many = stage.many_counts in omega arith) m (λ _ some. ((stage.places m l).free some, stage.short m l)) (λ _. (free, fits)) in
-    let k : ℕ = r.states in
-    let h : ℕ = 2 * (r.width + range) - 3 in
-    let p : ℕ → List ℕ = ring_at counts others in
-    let s = small_solution 16 h i (slice_index counts) (λ m. blocks k range (ring_image r (p m))) (λ m. blocks k range (p m)) l (omega arith) none (λ m n some.
-    let cut = ring_short counts others m h (let short = (noted m n some).1 in omega arith) in
-    (omega (arith, cut, length-blocks k range (ring_image r (p m)), length-ring_image r (p m)), omega (arith, cut, length-blocks k range (p m)))) in
-    let power : ℕ → ℕ = λ a. (2 * h) ^ free_before k range a in
-    let one = one-le-pow (free_before k range 0) (2 * h) (omega arith) in
-    let most = product-steps 16 (λ a. pick (slice_index counts a) 1 (2 * h)) power one (λ a n. ⊎_elim
-    (λ inside. omega (arith, mul-le-mul_right (power a) (pick-one (slice_index counts a) (2 * h) (omega arith)), ap (λ e. (2 * h) ^ e) inside.1, pow-suc (2 * h) (free_before k range a)))
-    (λ outside.
-    let e : slice_index counts a ≡ 0 = ⊎_elim (λ (zeroth : slice_index counts a < 1). omega arith) (λ (more : 1 ≤ slice_index counts a). absurd (outside.0 (noted a n more).0)) (cases_lt (slice_index counts a) 1) in
-    omega (arith, ap (λ c. pick c 1 (2 * h) * power a) e, ap (λ e. (2 * h) ^ e) outside.1))
-    (free_more k range a)) in
-    let limit = limits rule range h (free_before k range 16) some few (omega arith) (omega arith) in
-    record {
-      weight = s.weight;
-      small = λ a. omega (arith, s.small a, most, limit);
-      outside = s.outside;
-      place = s.place;
-      within = s.within;
-      some = s.some;
-      keep = λ m n count. (KeepsSumOf-gain range s.weight r (p m)).1 (s.solves m n count);
-    }
-
 -- sizes: where multiples of numbers are multiples of small ones, the numbers divided by a combination of them are small
 least_part : (n m g y c z most : ℕ) → 1 ≤ n → 1 ≤ y → m * g ≡ n * y → n * z ≡ m * c → z ≤ most → c ≤ g * most
 least_part n m g y c z most some more whole part small =
@@ -135,44 +89,70 @@ crossed-none lead old gain other none nothing = rw (none, nothing) (omega (arith
 crossed-pivot : (lead : ℕ) (old gain : ℤ) → gain ≡ pos lead → crossed lead old gain old ≡ pos 0
 crossed-pivot lead old gain e = rw e (omega (arith, ints))
 
--- rows narrowed by two words that say of a short ring whether it keeps a sum fit
-pub FitNarrowed-condition : {r : LocalRule} {range : ℕ} {rows : List (List ℤ)} {counts : List ℕ} {rings : List (List ℕ)} → IsRule r → 1 ≤ range → r.states ^ range ≤ 16 → IsStage r range rows counts rings
-    → (p x y : List ℕ) → IsRing r.states p → IsCondition r range p x y → length p + 3 ≤ 2 * (r.width + range) → (j : ℕ) → j < 16 → FitNarrowed rows x y j
-FitNarrowed-condition {r} {range} {rows} {counts} {rings} rule some few stage p x y ring condition short j within above i l cross crosses g divisor a n =
-    let k : ℕ = r.states in
-    let gain : ℕ → ℤ = λ m. gain_at (entry rows m) x y in
-    let (lead, positive, gains) = positive_is (gain j) above in
-    let entries : (b : ℕ) → b < 16 → at cross b ≡ crossed lead (entry rows i b) (gain i) (entry rows j b) = λ b m.
-    crosses.entries b m ∙ ap (λ (z : ℤ). (z *ℤ entry rows i b) -ℤ (gain i *ℤ entry rows j b)) gains in
-    let nil : at cross a ≡ pos 0 → unsigned_abs (at cross a) ≤ g * 2 ^ 56 = λ e. subst (λ (z : ℤ). unsigned_abs z ≤ g * 2 ^ 56) (sym e) (omega arith) in
-    let standing : i ≢ j → Stands k range rows counts i → unsigned_abs (at cross a) ≤ g * 2 ^ 56 = λ apart stands.
-    let pivot = Stands-gains stage x y condition.short.after_word condition.short.before_word j within (λ none. absurd (omega (arith, ints, none, gains))) in
-    let there : (m : ℕ) → m ≢ j → slice_index (set counts j (length p)) m ≡ slice_index counts m = λ m other. get_or-set_other counts j m (length p) 0 other in
-    let s = noted_solution rule some few stage j (length p) (set rings j p) within pivot.free short i l (there i apart ∙ stands.none) in
-    let z : ℕ → ℤ = s.weight in
-    let zero_at : (m : ℕ) → m ≢ i → m ≢ j → slice_index counts m ≡ 0 → z m ≡ pos 0 = λ m other differs none. s.outside m other (there m differs ∙ none) in
-    let past : (m : ℕ) → m < 16 → ¬ IsFree k range m → z m ≡ pos 0 = λ m l no.
-    zero_at m (λ e. no (subst (IsFree k range) (sym e) stands.free)) (λ e. no (subst (IsFree k range) (sym e) pivot.free))
-    (none-past (stage.places m l) no) in
-    let keeps = NotedKeep-set stage z j (length p) p within ring.some pivot.none s.keep in
-    let spanned = IsSpanned-all stage z (λ a below. past a (omega arith) (λ free. let least = free.least in absurd (omega arith))) (λ a from l. past a l (λ free. let above = free.most in absurd (omega arith))) keeps.0 in
-    let nothing = (condition.keeps z).0 (subst (KeepsSumOf range z r) (take_all (length p) p (omega arith)) keeps.1) in
-    let beside : (a m : ℕ) → a < 16 → m < 16 → m ≢ i → spanned.parts m *ℤ crossed lead (entry rows m a) (gain m) (entry rows j a) ≡ pos 0 = λ a m n l other.
-    ⊎_elim
-    (λ (same : m ≡ j). rw same (factor-none (spanned.parts j) _ (crossed-pivot lead (entry rows j a) (gain j) gains)))
-    (λ (differs : m ≢ j). part-none stage spanned m l _ (λ upright. zero_at m other differs upright.none)
-    (λ zeros. crossed-none lead (entry rows m a) (gain m) (entry rows j a) (zeros a n) (gain_at-zero rows m x y condition.short.after_word condition.short.before_word zeros)))
-    (cases_eq m j) in
-    bounded_multiple (lead * spanned.times) z (spanned.parts i) cross g (2 ^ 56) s.place (mul-le-mul positive spanned.some)
-    (λ a n.
-    spanned_crosses lead j x y condition.short.after_word condition.short.before_word nothing spanned a n
-    ∙ sum_to-one 16 (λ m. spanned.parts m *ℤ crossed lead (entry rows m a) (gain m) (entry rows j a)) i l (λ m l other. beside a m n l other)
-    ∙ ap (λ (v : ℤ). spanned.parts i *ℤ v) (sym (entries a n)))
-    s.small s.within s.some divisor a n in
-    ⊎_elim
-    (λ (same : i ≡ j). nil (entries a n ∙ ap (λ m. crossed lead (entry rows m a) (gain m) (entry rows j a)) same ∙ crossed-pivot lead (entry rows j a) _ gains))
-    (λ (apart : i ≢ j). ⊎_elim
-    (standing apart)
-    (λ (zeros : IsZero rows i). nil (entries a n ∙ crossed-none lead _ (gain i) _ (zeros a n) (gain_at-zero rows i x y condition.short.after_word condition.short.before_word zeros)))
-    (stands_or_zero (stage.places i l)))
-    (cases_eq i j)
+module _ {r : LocalRule} {range : ℕ} {rows : List (List ℤ)} {counts : List ℕ} {rings : List (List ℕ)} (rule : IsRule r) (some : 1 ≤ range) (few : r.states ^ range ≤ 16) (stage : IsStage r range rows counts rings) where
+  -- the rings of a stage with n letters noted in a free place have a small solution that isn't 0 at one place more
+  pub noted_solution : (j n : ℕ) (others : List (List ℕ)) → j < 16 → IsFree r.states range j → n + 3 ≤ 2 * (r.width + range) → (i : ℕ) → i < 16 → slice_index (set counts j n) i ≡ 0
+      → SmallSolution 16 i (slice_index (set counts j n)) (λ m. blocks r.states range (ring_image r (ring_at (set counts j n) others m))) (λ m. blocks r.states range (ring_at (set counts j n) others m)) (2 ^ 56)
+  noted_solution j n others within free fits i l none =
+      let now : List ℕ = set counts j n in
+      let noted : (m : ℕ) → m < 16 → 1 ≤ slice_index now m → IsFree r.states range m × (slice_index now m + 3 ≤ 2 * (r.width + range)) = λ m l.
+      at-set (λ v c. 1 ≤ c → IsFree r.states range v × (c + 3 ≤ 2 * (r.width + range))) counts j 0 n (let many = stage.many_counts in omega arith) m (λ _ some. ((stage.places m l).free some, stage.short m l)) (λ _. (free, fits)) in
+      let k : ℕ = r.states in
+      let h : ℕ = 2 * (r.width + range) - 3 in
+      let p : ℕ → List ℕ = ring_at now others in
+      let power : ℕ → ℕ = λ a. (2 * h) ^ free_before k range a in
+      let one = one-le-pow (free_before k range 0) (2 * h) (omega arith) in
+      let most = product-steps 16 (λ a. pick (slice_index now a) 1 (2 * h)) power one (λ a n. ⊎_elim
+      (λ inside. omega (arith, mul-le-mul_right (power a) (pick-one (slice_index now a) (2 * h) (omega arith)), ap (λ e. (2 * h) ^ e) inside.1, pow-suc (2 * h) (free_before k range a)))
+      (λ outside.
+      let no : ¬ (1 ≤ slice_index now a) = λ more. outside.0 (noted a n more).0 in
+      let e : slice_index now a ≡ 0 = omega arith in
+      omega (arith, ap (λ c. pick c 1 (2 * h) * power a) e, ap (λ e. (2 * h) ^ e) outside.1))
+      (free_more k range a)) in
+      let limit = limits rule range h (free_before k range 16) some few (omega arith) (omega arith) in
+      small_solution 16 h i (2 ^ 56) (slice_index now) (λ m. blocks k range (ring_image r (p m))) (λ m. blocks k range (p m)) l (omega arith) none
+      (λ m n some.
+      let cut : length (p m) ≤ h = omega (arith, length-take (slice_index now m) (slice_index_or others m []), (noted m n some).1) in
+      (omega (arith, cut, length-blocks k range (ring_image r (p m)), length-ring_image r (p m)), omega (arith, cut, length-blocks k range (p m))))
+      (omega (arith, most, limit))
+
+  -- rows narrowed by two words that say of a short ring whether it keeps a sum fit
+  pub FitNarrowed-condition : (p x y : List ℕ) → IsRing r.states p → IsCondition r range p x y → length p + 3 ≤ 2 * (r.width + range) → (j : ℕ) → j < 16 → FitNarrowed rows x y j
+  FitNarrowed-condition p x y ring condition short j within above i l cross crosses g divisor a n =
+      let k : ℕ = r.states in
+      let gain : ℕ → ℤ = λ m. gain_at (entry rows m) x y in
+      let (lead, positive, gains) = positive_is (gain j) above in
+      let entries : (b : ℕ) → b < 16 → at cross b ≡ crossed lead (entry rows i b) (gain i) (entry rows j b) = λ b m.
+      crosses.entries b m ∙ ap (λ (z : ℤ). (z *ℤ entry rows i b) -ℤ (gain i *ℤ entry rows j b)) gains in
+      let nil : at cross a ≡ pos 0 → unsigned_abs (at cross a) ≤ g * 2 ^ 56 = λ e. subst (λ (z : ℤ). unsigned_abs z ≤ g * 2 ^ 56) (sym e) (omega arith) in
+      let standing : i ≢ j → Stands k range rows counts i → unsigned_abs (at cross a) ≤ g * 2 ^ 56 = λ apart stands.
+      let pivot = Stands-gains stage x y condition.short.after_word condition.short.before_word j within (λ none. absurd (omega (arith, ints, none, gains))) in
+      let there : (m : ℕ) → m ≢ j → slice_index (set counts j (length p)) m ≡ slice_index counts m = λ m other. get_or-set_other counts j m (length p) 0 other in
+      let s = noted_solution j (length p) (set rings j p) within pivot.free short i l (there i apart ∙ stands.none) in
+      let z : ℕ → ℤ = s.weight in
+      let zero_at : (m : ℕ) → m ≢ i → m ≢ j → slice_index counts m ≡ 0 → z m ≡ pos 0 = λ m other differs none. s.outside m other (there m differs ∙ none) in
+      let past : (m : ℕ) → m < 16 → ¬ IsFree k range m → z m ≡ pos 0 = λ m l no.
+      zero_at m (λ e. no (subst (IsFree k range) (sym e) stands.free)) (λ e. no (subst (IsFree k range) (sym e) pivot.free))
+      (none-past (stage.places m l) no) in
+      let keeps = NotedKeep-set stage z j (length p) p within ring.some pivot.none (λ m n count. (KeepsSumOf-gain range z r (ring_at (set counts j (length p)) (set rings j p) m)).1 (s.solves m n count)) in
+      let spanned = IsSpanned-all stage z (λ a below. past a (omega arith) (λ free. let least = free.least in absurd (omega arith))) (λ a from l. past a l (λ free. let above = free.most in absurd (omega arith))) keeps.0 in
+      let nothing = (condition.keeps z).0 (subst (KeepsSumOf range z r) (take_all (length p) p (omega arith)) keeps.1) in
+      let beside : (a m : ℕ) → a < 16 → m < 16 → m ≢ i → spanned.parts m *ℤ crossed lead (entry rows m a) (gain m) (entry rows j a) ≡ pos 0 = λ a m n l other.
+      ⊎_elim
+      (λ (same : m ≡ j). rw same (factor-none (spanned.parts j) _ (crossed-pivot lead (entry rows j a) (gain j) gains)))
+      (λ (differs : m ≢ j). part-none stage spanned m l _ (λ upright. zero_at m other differs upright.none)
+      (λ zeros. crossed-none lead (entry rows m a) (gain m) (entry rows j a) (zeros a n) (gain_at-zero rows m x y condition.short.after_word condition.short.before_word zeros)))
+      (cases_eq m j) in
+      bounded_multiple (lead * spanned.times) z (spanned.parts i) cross g (2 ^ 56) s.place (mul-le-mul positive spanned.some)
+      (λ a n.
+      spanned_crosses lead j x y condition.short.after_word condition.short.before_word nothing spanned a n
+      ∙ sum_to-one 16 (λ m. spanned.parts m *ℤ crossed lead (entry rows m a) (gain m) (entry rows j a)) i l (λ m l other. beside a m n l other)
+      ∙ ap (λ (v : ℤ). spanned.parts i *ℤ v) (sym (entries a n)))
+      s.small s.within s.some divisor a n in
+      ⊎_elim
+      (λ (same : i ≡ j). nil (entries a n ∙ ap (λ m. crossed lead (entry rows m a) (gain m) (entry rows j a)) same ∙ crossed-pivot lead (entry rows j a) _ gains))
+      (λ (apart : i ≢ j). ⊎_elim
+      (standing apart)
+      (λ (zeros : IsZero rows i). nil (entries a n ∙ crossed-none lead _ (gain i) _ (zeros a n) (gain_at-zero rows i x y condition.short.after_word condition.short.before_word zeros)))
+      (stands_or_zero (stage.places i l)))
+      (cases_eq i j)

@@ -127,9 +127,9 @@ weights-differ n i base v u l some one order =
     (cases_eq (v / product n base) (u / product n base))
 
 -- conditions of words of at most h letters, one for each place where g isn't 0, have a solution there and at one place more
-pub small_solution : (n h i : ℕ) (g : ℕ → ℕ) (x y : ℕ → List ℕ) → i < n → 1 ≤ h → g i ≡ 0 → ((a : ℕ) → a < n → 1 ≤ g a → (length (x a) ≤ h) × (length (y a) ≤ h))
-    → SmallSolution n i g x y (product n (λ a. pick (g a) 1 (2 * h)))
-small_solution n h i g x y l some none short =
+pub small_solution : (n h i limit : ℕ) (g : ℕ → ℕ) (x y : ℕ → List ℕ) → i < n → 1 ≤ h → g i ≡ 0 → ((a : ℕ) → a < n → 1 ≤ g a → (length (x a) ≤ h) × (length (y a) ≤ h))
+    → product n (λ a. pick (g a) 1 (2 * h)) ≤ limit → SmallSolution n i g x y limit
+small_solution n h i limit g x y l some none short enough =
     let t : ℕ = product n (λ a. pick (g a) 1 (2 * h)) in
     let base : ℕ → ℕ = λ a. pick (g a) 0 t + 1 in
     let top : ℕ → ℕ = λ a. 2 * h * pick (g a) 0 t + 1 in
@@ -148,7 +148,7 @@ small_solution n h i g x y l some none short =
     let differs = weights-differ n i base v u l some_base no_digit order in
     record {
       weight = λ a. pos (w v a) -ℤ pos (w u a);
-      small = λ a. omega (arith, ints, most v a v_within, most u a u_within);
+      small = λ a. omega (arith, ints, most v a v_within, most u a u_within, enough);
       outside = λ a apart nothing.
           let zeroth : (m : ℕ) → w m a ≡ 0 = λ m. but_else (digit base m) i _ a apart ∙ (let one : base a ≡ 1 = ap (λ k. pick k 0 t + 1) nothing in rw one (omega arith)) in
           ap₂ (λ (p q : ℕ). pos p -ℤ pos q) (zeroth v) (zeroth u);

@@ -98,17 +98,6 @@ IsNormal-trivial k range weight states some normal trivial a l =
     let ends = window_ends k d a (omega arith) below in
     omega (arith, ints, by.flows a below, constant, same (a / k) ends.0, same (a % k ^ d) ends.1)
 
--- a multiple of trivial weights is trivial
-IsTrivial-times : {k range : ℕ} {weight : ℕ → ℤ} (n : ℤ) → IsTrivial k range weight → IsTrivial k range (λ a. n *ℤ weight a)
-IsTrivial-times {k} {range} {weight} n trivial = record {
-  constant = n *ℤ trivial.constant;
-  phi = λ v. n *ℤ trivial.phi v;
-  is = λ w word long.
-      let first = trivial.phi (value k (take (range - 1) w)) in
-      let last = trivial.phi (value k (drop 1 w)) in
-      omega (arith, ints, ap (λ (x : ℤ). n *ℤ x) (trivial.is w word long), mul-add n trivial.constant (first -ℤ last), mul-sub n first last);
-}
-
 -- each kept weight is a rational combination of the rows and trivial weights
 pub IsSpannedUpToTrivial-kept : {r : LocalRule} {range : ℕ} {rows : List (List ℤ)} {counts : List ℕ} {rings : List (List ℕ)} → IsRule r → 1 ≤ range → IsStage r range rows counts rings
     → (weight : ℕ → ℤ) → NotedKeep r range counts rings weight → IsSpannedUpToTrivial r.states range rows weight
@@ -121,14 +110,19 @@ IsSpannedUpToTrivial-kept {r} {range} {rows} {counts} {rings} rule some stage we
     let less = sum_at-sub weight (trivial_part k range weight) in
     omega (arith, ints, less (blocks k range p), less (blocks k range (ring_image r p)), keep i l noted, kept p ((stage.places i l).ring noted)) in
     let spanned = stage.complete (normal_part k range weight) (IsNormal-part k range weight) normal in
+    let times : ℤ = pos spanned.times in
     record {
       times = spanned.times;
       some = spanned.some;
       parts = spanned.parts;
-      rest = λ a. pos spanned.times *ℤ trivial_part k range weight a;
-      trivial = IsTrivial-times (pos spanned.times) trivial;
-      sums = λ a l.
-          let normal_sum = spanned.sums a l in
-          let split = mul-sub (pos spanned.times) (weight a) (trivial_part k range weight a) in
-          omega (arith, ints, normal_sum, split);
+      rest = λ a. times *ℤ trivial_part k range weight a;
+      trivial = record {
+        constant = times *ℤ trivial.constant;
+        phi = λ v. times *ℤ trivial.phi v;
+        is = λ w word long.
+            let first = trivial.phi (value k (take (range - 1) w)) in
+            let last = trivial.phi (value k (drop 1 w)) in
+            omega (arith, ints, ap (λ (x : ℤ). times *ℤ x) (trivial.is w word long), mul-add times trivial.constant (first -ℤ last), mul-sub times first last);
+      };
+      sums = λ a l. omega (arith, ints, spanned.sums a l, mul-sub times (weight a) (trivial_part k range weight a));
     }

@@ -1,6 +1,6 @@
-use Rattle.std.proofs.Common.{◌≡◌, ℕ, ◌+◌, ◌-◌, ◌^◌, ◌≤◌, get_or-set_other, slice_index_or, ℤ, pos, to_z, of_z, w64, refl, sym, ap, ap₂, subst, ◌∙◌, arith, unsigned_abs}
+use Rattle.std.proofs.Common.{◌≡◌, ℕ, ◌+◌, ◌-◌, ◌^◌, ◌≤◌, get_or-set_other, slice_index_or, ℤ, pos, to_z, of_z, w64, refl, ap, ap₂, ◌∙◌, arith, unsigned_abs}
 use Rattle.std.proofs.lemmas.List.{length-set}
-use Rattle.word_image.proofs.Common.{set_more, word_of}
+use Rattle.word_image.proofs.Common.{ints, set_more, word_of}
 use Rattle.kept_sums.specs.Fluxes.{window_gain}
 use Rattle.kept_sums.proofs.Casts.{back}
 use Rattle.kept_sums.proofs.laws.Zeros.{at-replicate}
@@ -37,10 +37,8 @@ loop-window-preserved c =
     let P : ℕ → ℤ → Type 0 = λ v z. (z ≡ gain v) × (unsigned_abs z ≤ 2 ^ 57) in
     let x = to_z w64 (of_z w64 c.gain.result) in
     let same : x ≡ c.gain.result = back w64 c.gain.result (2 ^ 57) c.gain.ensures.most (omega arith) in
-    let many = c.loop-window.invariant.many in
-    let here : P window x = (same ∙ c.gain.ensures.gain, subst (λ (z : ℤ). unsigned_abs z ≤ 2 ^ 57) (sym same) c.gain.ensures.most) in
     record {
-      many = length-set c.loop-window.gains place x ∙ many;
-      done = set_more P c.loop-window.gains window place (pos 0) x (omega arith) c.from.ensures c.loop-window.invariant.done here;
+      many = length-set c.loop-window.gains place x ∙ c.loop-window.invariant.many;
+      done = set_more P c.loop-window.gains window place (pos 0) x (omega arith) c.from.ensures c.loop-window.invariant.done (same ∙ c.gain.ensures.gain, omega (arith, ints, same, c.gain.ensures.most));
       rest = λ v l. get_or-set_other c.loop-window.gains place v x (pos 0) (λ e. omega arith) ∙ c.loop-window.invariant.rest v (omega arith);
     }

@@ -1,7 +1,7 @@
 use Rattle.std.proofs.Common.{◌≡◌, ℕ, ◌/◌, ◌^◌, ◌<◌, ◌≤◌, ◌-ℤ◌, refl, ap, ap₂, ◌∙◌, ⊎_elim, arith, unsigned_abs}
 use Rattle.word_image.proofs.Common.{one-le-pow, pow-zero, div-lt_self, cases_lt, ints}
 use Rattle.kept_sums.specs.Rows.{at}
-use Rattle.kept_sums.proofs.Casts.{fits-sub, back-sub}
+use Rattle.kept_sums.proofs.Casts.{back-sub}
 use Rattle.kept_sums.proofs.laws.Zeros.{at-replicate}
 use Rattle.kept_sums.proofs.laws.Windows.{words-half, AreNumbers-next}
 use Rattle.kept_sums.proofs.fluxes.numbers.Goals.{After-from-in-loop-word-2}
@@ -31,8 +31,7 @@ sizes c =
 pub overflow_sub-flux : goal.overflow_sub-flux
 overflow_sub-flux c =
     let both = sizes (goal.at.overflow_sub-flux c).After-from-in-loop-word-2 in
-    fits-sub (at c.loop-word.flux c.from-in-loop-word.result) (at c.args.gains.now c.from-in-loop-word-2.result)
-    both.0 both.1
+    omega (arith, ints, both.0, both.1)
 
 pub loop-word-preserved : goal.loop-word-preserved
 loop-word-preserved c =
