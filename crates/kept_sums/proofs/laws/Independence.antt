@@ -1,8 +1,8 @@
 -- The rows of an answer are independent apart from trivial weights, and so are the conditions of its rings.
-use Rattle.std.proofs.Common.{◌≡◌, ◌≢◌, ℕ, zero, suc, ◌+◌, ◌-◌, ◌^◌, ◌<◌, ◌≤◌, List, [], min, take, set, slice_index, slice_index_or, get_or-set_other, get_or-set_same, ℤ, pos, ◌*ℤ◌, sym, ap, subst, ◌∙◌, ⊎_elim, arith, ◌==◌, if◌then◌else◌, unsigned_abs}
-use Rattle.word_image.proofs.Common.{pow-le-pow_right, cases_lt, cases_eq, nat_tests, ints, LocalRule, IsRule, ring_image}
-use Rattle.kept_sums.specs.Sums.{blocks, KeepsSumOf, sum_to}
-use Rattle.kept_sums.specs.Spans.{entry, combination, gain_at}
+use Rattle.std.proofs.Common.{◌≡◌, ◌≢◌, ℕ, zero, suc, ◌+◌, ◌-◌, ◌^◌, ◌<◌, ◌≤◌, List, [], min, take, set, slice_index, slice_index_or, get_or-set_other, get_or-set_same, ℤ, pos, ◌*ℤ◌, refl, sym, ap, subst, ◌∙◌, ⊎_elim, arith, ◌==◌, if◌then◌else◌, unsigned_abs}
+use Rattle.word_image.proofs.Common.{pow-le-pow_right, cases_lt, cases_eq, nat_tests, ints, LocalRule, IsRule}
+use Rattle.kept_sums.specs.Sums.{KeepsSumOf, sum_to}
+use Rattle.kept_sums.specs.Spans.{entry, combination}
 use Rattle.kept_sums.specs.Stages.{IsFree, IsNormal, ring_at, NotedKeep, IsStage}
 use Rattle.kept_sums.specs.Trivials.{IsTrivial}
 use Rattle.kept_sums.specs.Independence.{ring_gain, IsNeeded, places_with}
@@ -13,12 +13,6 @@ use Rattle.kept_sums.proofs.laws.Trivials.{IsNormal-trivial}
 use Rattle.kept_sums.proofs.laws.Unique.{part-none, IsSpanned-all}
 use Rattle.kept_sums.proofs.laws.Stages.{free_before, free_more, stands_or_zero, none-past, not_both}
 use Rattle.kept_sums.proofs.laws.Bounds.{noted_solution}
-
--- where no ring is noted nothing is gained
-ring_gain-none : (r : LocalRule) (range : ℕ) (counts : List ℕ) (rings : List (List ℕ)) (weight : ℕ → ℤ) (i : ℕ) → slice_index counts i ≡ 0 → ring_gain r range counts rings weight i ≡ pos 0
-ring_gain-none r range counts rings weight i none =
-    let empty : ring_at counts rings i ≡ [] = ap (λ n. take n (slice_index_or rings i [])) none in
-    ap (λ p. gain_at weight (blocks r.states range (ring_image r p)) (blocks r.states range p)) empty ∙ omega (arith, ints)
 
 -- how often a number counts
 abbrev count : ℕ → ℕ
@@ -88,10 +82,10 @@ module _ {r : LocalRule} {range : ℕ} {rows : List (List ℤ)} {counts : List �
       let gain : ℕ → ℤ = ring_gain r range counts rings needed.weight in
       let beside : (m : ℕ) → m < 16 → m ≢ i → parts m *ℤ gain m ≡ pos 0 = λ m n apart.
       factor-none (parts m) (gain m)
-      (⊎_elim
-      (λ (none : slice_index counts m < 1). ring_gain-none r range counts rings needed.weight m (omega arith))
-      (λ (here : 1 ≤ slice_index counts m). (KeepsSumOf-gain range needed.weight r (ring_at counts rings m)).0 (needed.others m n here apart))
-      (cases_lt (slice_index counts m) 1)) in
+      ((KeepsSumOf-gain range needed.weight r (ring_at counts rings m)).0 (⊎_elim
+      (λ (none : slice_index counts m < 1). let zero : slice_index counts m ≡ 0 = omega arith in rw zero refl)
+      (λ (here : 1 ≤ slice_index counts m). needed.others m n here apart)
+      (cases_lt (slice_index counts m) 1))) in
       let whole : sum_to 16 (λ m. parts m *ℤ gain m) ≡ parts i *ℤ gain i =
       sum_to-one 16 (λ m. parts m *ℤ gain m) i l beside in
       other_factor (parts i) (gain i) (λ none. needed.changed ((KeepsSumOf-gain range needed.weight r (ring_at counts rings i)).1 none)) (sym whole ∙ vanish needed.weight needed.normal)
