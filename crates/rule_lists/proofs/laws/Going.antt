@@ -129,7 +129,7 @@ pub IsFirst-filled : (property : Property) (k m : ℕ) (begin : List ℕ) (order
     → ((q : LocalRule) → IsListed property k m begin q → (From q ↔ IsPast k order table next q.table)) → IsFirst property k m begin order From r
 IsFirst-filled property k m begin order table n next From r h is filled same =
     let here : (q : LocalRule) → IsListed property k m begin q → (From q ↔ (rank_of_first k order table n ≤ rank_of_first k order q.table n)) = λ q listed. subst (λ o. From q ↔ IsPast k order table o q.table) is (same q listed) in
-    let equal : rank_of_first k order r.table n ≡ rank_of_first k order table n = rank-same k (k ^ m) order r.table table n h (omega (arith, filled.full)) filled.letters in
+    let equal : rank_of_first k order r.table n ≡ rank_of_first k order table n = rank-same k order r.table table n (λ i l. filled.letters _ (h.windows i (omega (arith, l, filled.full)))) in
     let whole : (t : List ℕ) → rank k order t ≡ rank_of_first k order t n = λ t. ap (rank_of_first k order t) (h.long ∙ sym filled.full) in
     record {
       listed = filled.listed;
@@ -151,7 +151,7 @@ first_of_same property k m begin order (Some r) From To same first = record {
 pub past_rank : (k m : ℕ) (order letters new : List ℕ) (next : Option ℕ) (n : ℕ) (r q : LocalRule) → IsOrder (k ^ m) order → n ≡ k ^ m → ((v : ℕ) → v < k ^ m → slice_index letters v ≡ slice_index r.table v)
     → ((rank_of_first k order letters n < rank_of_first k order q.table n) ↔ IsPast k order new next q.table) → IsPast k order new next q.table ↔ (rank k order r.table < rank k order q.table)
 past_rank k m order letters new next n r q h full same past =
-    let own : rank_of_first k order letters n ≡ rank_of_first k order r.table n = rank-same k (k ^ m) order letters r.table n h (omega arith) same in
+    let own : rank_of_first k order letters n ≡ rank_of_first k order r.table n = rank-same k order letters r.table n (λ i l. same _ (h.windows i (omega arith))) in
     let whole : (t : List ℕ) → rank k order t ≡ rank_of_first k order t n = λ t. ap (rank_of_first k order t) (h.long ∙ sym full) in (
       (λ l. omega (arith, past.1 l, own, whole q.table, whole r.table)),
       (λ l. past.0 (omega (arith, l, own, whole q.table, whole r.table))),
