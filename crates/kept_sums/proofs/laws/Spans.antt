@@ -118,7 +118,7 @@ module _ {rows news : List (List ℤ)} {x y : List ℕ} {j : ℕ} (narrowed : Is
       (sym (linear.scaled (pos row.share) (entry news i)) ∙ linear.agree row.cross ∙ parts
       ∙ omega (arith, ints, linear.scaled (pos narrowed.lead) (entry rows i), linear.scaled gain (entry rows j), same))
 
-  -- it gives it 0 where both parts of the cross are 0
+  -- a linear function gives a narrowed row 0 where both parts of the cross are 0
   pub linear-narrowed : {F : (ℕ → ℤ) → ℤ} → IsLinear 16 F → (i : ℕ) → i < 16 → F (entry rows i) ≡ pos 0 → gain_at (entry rows i) x y *ℤ F (entry rows j) ≡ pos 0 → F (entry news i) ≡ pos 0
   linear-narrowed linear i l none nothing = linear-cross linear i l (factor-none (pos narrowed.lead) _ none ∙ sym nothing)
 

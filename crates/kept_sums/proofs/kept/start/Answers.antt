@@ -5,7 +5,7 @@ use Rattle.kept_sums.proofs.laws.Starts.{AreUnits, IsStage-start}
 use Rattle.kept_sums.proofs.kept.start.Goals as goal
 
 pub loop-place-init : goal.loop-place-init
-loop-place-init c = (refl, record { units = λ i l h. absurd (omega arith); before = λ i l a. entry-zeros 16 i a; after = λ i l a. entry-zeros 16 i a })
+loop-place-init c = (refl, λ i l h. absurd (omega arith), λ i l a. entry-zeros 16 i a, λ i l a. entry-zeros 16 i a)
 
 pub returns : goal.returns
 returns c =
@@ -16,5 +16,6 @@ returns c =
     let size : c.pow-size.result ≡ k ^ range = c.pow-size.ensures ∙ ap₂ (λ (i j : ℕ). i ^ j) c.k-k.ensures.states c.from-2.ensures in
     let less : k ^ (range - 1) ≤ k ^ range = pow-le-pow_right (omega arith) {i = range - 1} {j = range} (omega arith) in
     let place : c.loop-place.place ≡ k ^ range = omega arith in
-    let units = subst₂ (λ (m n : ℕ). AreUnits m n c.loop-place.rows) first place c.loop-place.invariant.1 in
-    record { stage = IsStage-start r range c.loop-place.rows c.k-k.ensures.rule c.requires.some c.requires.few units }
+    let (long, units, before, after) = c.loop-place.invariant in
+    let all = subst₂ (λ (m n : ℕ). AreUnits m n c.loop-place.rows) first place (record { units = units; before = before; after = after }) in
+    record { stage = IsStage-start r range c.loop-place.rows c.k-k.ensures.rule c.requires.some c.requires.few all }
