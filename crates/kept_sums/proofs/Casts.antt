@@ -1,30 +1,17 @@
 -- Numbers whose size is bounded, and that casts leave as they are.
-use Rattle.std.proofs.Common.{◌≡◌, ℕ, ◌+◌, ◌*◌, ◌^◌, ◌<◌, ◌≤◌, ℤ, ◌+ℤ◌, ◌-ℤ◌, ◌*ℤ◌, FitsSigned, to_z, of_z, w64, arith, unsigned_abs, mul-le-mul}
+use Rattle.std.proofs.Common.{◌≡◌, ℕ, ◌*◌, ◌^◌, ◌<◌, ◌≤◌, ℤ, ◌-ℤ◌, ◌*ℤ◌, to_z, of_z, w64, arith, unsigned_abs, mul-le-mul}
 use Rattle.std.proofs.lemmas.Int.{to_z-of_z}
 use Rattle.word_image.proofs.Common.{ints, fits_signed_from_abs, unsigned_abs-mul}
 use mir.Syntax.{Width}
 use mir.Val.{hbits}
 
--- a number whose size is small enough fits
-pub fits : (w : Width) (z : ℤ) (n : ℕ) → unsigned_abs z ≤ n → n < 2 ^ hbits w → FitsSigned w z
-fits w z n most l = fits_signed_from_abs w z (omega arith)
-
 -- a cast leaves a number that fits as it is
 pub back : (w : Width) (z : ℤ) (n : ℕ) → unsigned_abs z ≤ n → n < 2 ^ hbits w → to_z w (of_z w z) ≡ z
-back w z n most l = to_z-of_z w z (fits w z n most l)
+back w z n most l = to_z-of_z w z (fits_signed_from_abs w z (omega arith))
 
 -- the size of a product, by bounds of both sizes
 pub abs-mul : (a b : ℤ) (m n : ℕ) → unsigned_abs a ≤ m → unsigned_abs b ≤ n → unsigned_abs (a *ℤ b) ≤ m * n
 abs-mul a b m n one two = let product = mul-le-mul one two in omega (arith, unsigned_abs-mul a b, product)
-
--- the size of a difference is at most that of both sizes together
-pub abs-sub : (a b : ℤ) → unsigned_abs (a -ℤ b) ≤ unsigned_abs a + unsigned_abs b
-abs-sub a b = omega (arith, ints)
-
--- a difference of two numbers that casts leave as they are fits
-pub fits-sub : (a b : ℤ) → unsigned_abs a ≤ 2 ^ 60 → unsigned_abs b ≤ 2 ^ 60
-    → FitsSigned w64 (to_z w64 (of_z w64 a) -ℤ to_z w64 (of_z w64 b))
-fits-sub a b one two = omega (arith, ints)
 
 -- casts leave a difference of two numbers as it is, where they leave these so
 pub back-sub : (a b : ℤ) → unsigned_abs a ≤ 2 ^ 60 → unsigned_abs b ≤ 2 ^ 60

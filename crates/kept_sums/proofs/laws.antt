@@ -2,11 +2,10 @@ pub mod Integers
 pub mod Sums
 pub mod Spans
 pub mod Combined
-pub mod Parts
+pub mod Zeros
 pub mod Locals
 pub mod Densities
 pub mod Flows
-pub mod Narrowed
 pub mod Stages
 pub mod AfterRings
 pub mod Starts
@@ -14,8 +13,6 @@ pub mod Ranges
 pub mod Trivials
 pub mod Unique
 pub mod Siegel
-pub mod Limits
 pub mod Bounds
 pub mod Windows
 pub mod Independence
-pub mod MadeRules

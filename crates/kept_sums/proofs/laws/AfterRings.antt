@@ -1,12 +1,13 @@
 -- A ring and the words round it and its image; the stage after it.
 use Rattle.std.proofs.Common.{◌≡◌, ℕ, ◌+◌, ◌*◌, ◌^◌, ◌<◌, ◌≤◌, List, length, take, set, ℤ, pos, subst, arith}
-use Rattle.word_image.proofs.Common.{range_with_len, All-map, length-map-range_with_len, LocalRule, IsRule, IsWord, IsWord-le, value, IsRing, ring_letters, ring_image, IsWord-ring_letters, value-below}
+use Rattle.kept_sums.proofs.laws.Integers.{factor-none}
+use Rattle.word_image.proofs.Common.{ints, range_with_len, All-map, length-map-range_with_len, LocalRule, IsRule, IsWord, IsWord-le, value, IsRing, ring_letters, ring_image, IsWord-ring_letters, value-below}
 use Rattle.ring_laws.proofs.Rings.{IsWord-ring_image, length-ring_letters}
 use Rattle.kept_sums.specs.Sums.{blocks}
 use Rattle.kept_sums.specs.Spans.{entry, gain_at, IsNarrowed, AreSmall}
 use Rattle.kept_sums.specs.Stages.{IsStage, IsAfterRing, IsCondition}
-use Rattle.kept_sums.proofs.laws.Sums.{gain_at-swap}
-use Rattle.kept_sums.proofs.laws.Spans.{gain_at-narrowed, gain_at-narrowed_here}
+use Rattle.kept_sums.proofs.laws.Sums.{IsLinear-gain}
+use Rattle.kept_sums.proofs.laws.Spans.{linear-narrowed, gain_at-narrowed}
 use Rattle.kept_sums.proofs.laws.Densities.{length-ring_image, KeepsSumOf-gain}
 use Rattle.kept_sums.proofs.laws.Stages.{IsStage-narrowed}
 
@@ -24,16 +25,9 @@ IsWord-blocks {k} range {p} ring =
 pub IsRing-ring_image : {r : LocalRule} → IsRule r → {p : List ℕ} → IsRing r.states p → IsRing r.states (ring_image r p)
 IsRing-ring_image {r} rule {p} ring = let some = ring.some in record { word = IsWord-ring_image rule p; some = omega (arith, length-ring_image r p) }
 
--- the words round the image, and those round the ring
-abbrev pub after_of : LocalRule → ℕ → List ℕ → List ℕ
-after_of r range p = blocks r.states range (ring_image r p)
-
--- the words round a ring
-abbrev pub before_of : LocalRule → ℕ → List ℕ → List ℕ
-before_of r range p = blocks r.states range p
-
 -- the words round the image of a ring and those round the ring weigh the same exactly where the ring keeps the sum
-pub IsCondition-ring : {r : LocalRule} → IsRule r → (range : ℕ) (p : List ℕ) → r.states ^ range ≤ 16 → length p ≤ 16 → IsRing r.states p → IsCondition r range p (after_of r range p) (before_of r range p)
+pub IsCondition-ring : {r : LocalRule} → IsRule r → (range : ℕ) (p : List ℕ) → r.states ^ range ≤ 16 → length p ≤ 16 → IsRing r.states p
+    → IsCondition r range p (blocks r.states range (ring_image r p)) (blocks r.states range p)
 IsCondition-ring {r} rule range p few short ring =
     let after = IsWord-blocks range (IsRing-ring_image rule ring) in
     let before = IsWord-blocks range ring in
@@ -51,11 +45,11 @@ IsCondition-ring {r} rule range p few short ring =
 
 -- the same of the two words in the other order
 pub IsCondition-swap : {r : LocalRule} {range : ℕ} {p x y : List ℕ} → IsCondition r range p x y → IsCondition r range p y x
-IsCondition-swap {x = x} {y} c = record {
+IsCondition-swap c = record {
   x_word = c.y_word;
   y_word = c.x_word;
   short = let s = c.short in record { after_word = s.before_word; before_word = s.after_word; few_after = s.few_before; few_before = s.few_after };
-  keeps = λ weight. (λ kept. gain_at-swap weight x y ((c.keeps weight).0 kept), λ none. (c.keeps weight).1 (gain_at-swap weight y x none));
+  keeps = λ weight. (λ kept. omega (arith, ints, (c.keeps weight).0 kept), λ none. (c.keeps weight).1 (omega (arith, ints)));
 }
 
 -- rows narrowed by a ring are a stage after it
@@ -64,11 +58,10 @@ pub IsAfterRing-narrowed : {r : LocalRule} {range j : ℕ} {rows news : List (Li
     → IsNarrowed rows x y j news → AreSmall news → 1 ≤ n → n + 3 ≤ 2 * (r.width + range) → IsRing r.states (take n letters) → IsAfterRing r range rows (take n letters) news (set counts j n) (set rings j letters)
 IsAfterRing-narrowed {r} {range} {j} {rows} {news} rule n letters stage few condition lies last narrowed small some fits ring = record {
   stage = IsStage-narrowed n letters stage few condition lies last narrowed small some fits ring;
-  keep = λ i l. (condition.keeps (entry news i)).1 (gain_at-narrowed_here narrowed condition.short.after_word condition.short.before_word i l);
+  keep = λ i l. (condition.keeps (entry news i)).1 (gain_at-narrowed narrowed condition.short.after_word condition.short.before_word i l);
   others = λ q other keep i l.
+      let around = IsWord-le _ 16 _ few (IsWord-blocks range (IsRing-ring_image rule other)) in
+      let none = λ (m : ℕ) (h : m < 16). (KeepsSumOf-gain range (entry rows m) r q).0 (keep m h) in
       (KeepsSumOf-gain range (entry news i) r q).1
-      (gain_at-narrowed lies narrowed (after_of r range q) (before_of r range q)
-      (IsWord-le _ 16 _ few (IsWord-blocks range (IsRing-ring_image rule other)))
-      (IsWord-le _ 16 _ few (IsWord-blocks range other))
-      (λ m h. (KeepsSumOf-gain range (entry rows m) r q).0 (keep m h)) i l);
+      (linear-narrowed narrowed (IsLinear-gain _ _ around (IsWord-le _ 16 _ few (IsWord-blocks range other))) i l (none i l) (factor-none _ _ (none j lies)));
 }

@@ -1,18 +1,11 @@
 -- Greatest common divisors are integer combinations, and what that says of multiples of rows.
-use Rattle.std.proofs.Common.{◌≡◌, ℕ, zero, suc, ◌+◌, ◌*◌, ◌/◌, ◌<◌, ◌≤◌, List, ℤ, pos, negsuc, ◌+ℤ◌, ◌-ℤ◌, ◌*ℤ◌, refl, sym, ap, ap₂, subst, ◌∙◌, arith, ◌==◌, if◌then◌else◌, eq-eqb, ne_eqb, unsigned_abs}
-use Prim.Native.Nat.{◌∣◌}
+use Rattle.std.proofs.Common.{◌≡◌, ℕ, suc, ◌+◌, ◌*◌, ◌<◌, ◌≤◌, List, ℤ, pos, ◌+ℤ◌, ◌-ℤ◌, ◌*ℤ◌, refl, sym, ap, ap₂, ◌∙◌, arith, ◌==◌, if◌then◌else◌, eq-eqb, ne_eqb, unsigned_abs}
 use Rattle.std.proofs.Math.IntN.{pos-*ℤ-pos}
-use Rattle.std.proofs.Math.Nat.{dvd-mul_right}
-use Rattle.word_image.proofs.Common.{eq-one_of_dvd-one, cond-true, cond-false, mul-div_cancel', ints, unsigned_abs-mul}
+use Rattle.word_image.proofs.Common.{cond-true, cond-false, ints, unsigned_abs-mul}
 use Rattle.kept_sums.specs.Sums.{sum_to}
-use Rattle.kept_sums.specs.Rows.{at, DividesRow, IsCombined, IsCombinedOf}
-use Rattle.kept_sums.proofs.laws.Integers.{mul-sub, mul-assoc, mul-swap, zero-of_times}
+use Rattle.kept_sums.specs.Rows.{at, IsCombined, IsCombinedOf}
+use Rattle.kept_sums.proofs.laws.Integers.{mul-sub, mul-assoc, mul-swap, zero-of_times, positive-of_times, positive_is}
 use Rattle.kept_sums.proofs.laws.Spans.{sum_to-agree, sum_to-scaled}
-
--- no number has the combination 0
-pub IsCombined-none : (row : List ℤ) → IsCombined 0 row 0
-unfolding sum_to
-IsCombined-none row = record { parts = λ a. pos 0; is = refl }
 
 -- one number more
 pub IsCombined-more : (n : ℕ) (row : List ℤ) (old entry g : ℕ) → entry ≡ unsigned_abs (at row n) → IsCombined n row old → IsCombinedOf old entry g → IsCombined (n + 1) row g
@@ -35,23 +28,14 @@ multiple_sum u f g t s same =
     ∙ sum_to-agree 16 (λ a l. mul-swap (pos t) (u a) (pos (f a)) ∙ ap (λ (z : ℤ). u a *ℤ z) (pos-*ℤ-pos t (f a) ∙ ap pos (same a l) ∙ sym (pos-*ℤ-pos s (g a))) ∙ mul-swap (u a) (pos s) (pos (g a)))
     ∙ sum_to-scaled 16 (pos s) (λ a. u a *ℤ pos (g a))
 
--- the quotient of a positive number that is a multiple
-quotient_is : (t s : ℕ) (y : ℤ) → 1 ≤ t → pos t ≡ pos s *ℤ y → (q : ℕ) × (1 ≤ q) × (t ≡ s * q)
-quotient_is t s (pos zero) some e = absurd (omega (arith, ints, e))
-quotient_is t s (pos (suc q)) some e = (suc q, omega arith, omega (arith, ints, e))
-quotient_is t s (negsuc q) some e = absurd (omega (arith, ints, e))
-
 -- where multiples of a row's sizes are multiples of other numbers, so is what is combined of the row
 pub multiple_of : (row : List ℤ) (c t s : ℕ) (g : ℕ → ℕ) → IsCombined 16 row c → 1 ≤ t * c → ((a : ℕ) → a < 16 → t * unsigned_abs (at row a) ≡ s * g a) → (q : ℕ) × (1 ≤ q) × (t * c ≡ s * q)
 multiple_of row c t s g combined some same =
-    quotient_is (t * c) s (sum_to 16 (λ a. combined.parts a *ℤ pos (g a))) some
-    (sym (pos-*ℤ-pos t c) ∙ ap (λ (z : ℤ). pos t *ℤ z) (sym combined.is) ∙ multiple_sum combined.parts (λ a. unsigned_abs (at row a)) g t s same)
-
--- where 1 is combined of a row no other number divides it
-pub IsCombined-primitive : (row : List ℤ) → IsCombined 16 row 1 → (d : ℕ) → DividesRow d row → d ≡ 1
-IsCombined-primitive row combined d divides =
-    let part = multiple_of row 1 1 d (λ a. unsigned_abs (at row a) / d) combined (omega arith) (λ a l. omega (arith, mul-div_cancel' d (divides a l))) in
-    eq-one_of_dvd-one (subst (λ n. d ∣ n) (sym part.2) (dvd-mul_right d part.0))
+    let y : ℤ = sum_to 16 (λ a. combined.parts a *ℤ pos (g a)) in
+    let whole : pos (t * c) ≡ pos s *ℤ y =
+    ap (λ (z : ℤ). pos t *ℤ z) (sym combined.is) ∙ multiple_sum combined.parts (λ a. unsigned_abs (at row a)) g t s same in
+    let (q, more, is) = positive_is y (positive-of_times s y (omega (arith, ints, whole))) in
+    (q, more, omega (arith, ints, whole, ap (λ (z : ℤ). pos s *ℤ z) is))
 
 -- what is combined of the whole is combined of the parts
 pub IsCombined-divided : (cross row : List ℤ) (g : ℕ) → 1 ≤ g → ((a : ℕ) → a < 16 → pos g *ℤ at row a ≡ at cross a) → IsCombined 16 cross g → IsCombined 16 row 1

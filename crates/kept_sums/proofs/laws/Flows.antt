@@ -13,7 +13,6 @@ use Rattle.kept_sums.proofs.laws.Densities.{gain-windows, KeepsSumOf-gain}
 pub IsFluxOf-short_rings : {r : LocalRule} → IsRule r → (range : ℕ) (weight : ℕ → ℤ) → 1 ≤ range → ((p : List ℕ) → IsRing r.states p → length p + 3 ≤ 2 * (r.width + range) → KeepsSumOf range weight r p)
     → (phi : ℕ → ℤ) × IsFluxOf range weight r phi
 IsFluxOf-short_rings {r} rule range weight some keep =
-    let states = rule.shape.least_states in
     let k : ℕ = r.states in
     let d : ℕ = range + (r.width - 1) - 1 in
     let h : List ℕ → ℤ = window_gain r range weight in

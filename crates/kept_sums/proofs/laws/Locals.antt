@@ -44,13 +44,9 @@ turn_sum-walk h d p =
 abbrev pub potential : (List ℕ → ℤ) → ℕ → List ℕ → ℤ
 potential h d v = walk h d (v ++ replicate d 0)
 
--- each ring of at most 2 d + 1 letters has the sum 0
-abbrev pub ShortRingsVanish : ℕ → (List ℕ → ℤ) → ℕ → Type 0
-ShortRingsVanish k h d = (p : List ℕ) → IsRing k p → length p ≤ 2 * d + 1 → turn_sum h d p ≡ pos 0
-
 -- the number of a window is the difference of the potentials of its two ends
-pub window-potential : (k : ℕ) (h : List ℕ → ℤ) (d : ℕ) → 1 ≤ k → 1 ≤ d → ShortRingsVanish k h d → (w : List ℕ) → IsWord k w → length w ≡ d + 1
-    → h w ≡ potential h d (take d w) -ℤ potential h d (drop 1 w)
+pub window-potential : (k : ℕ) (h : List ℕ → ℤ) (d : ℕ) → 1 ≤ k → 1 ≤ d → ((p : List ℕ) → IsRing k p → length p ≤ 2 * d + 1 → turn_sum h d p ≡ pos 0)
+    → (w : List ℕ) → IsWord k w → length w ≡ d + 1 → h w ≡ potential h d (take d w) -ℤ potential h d (drop 1 w)
 window-potential k h d some wide vanish = window-short_rings k some wide (IsWindowSum-walk h d) (λ p ring short. sym (turn_sum-walk h d p) ∙ vanish p ring short)
 
 -- where the number of each window is one number and the difference of two words within it, their sum round a ring says only how many letters it has

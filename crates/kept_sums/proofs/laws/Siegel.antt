@@ -1,16 +1,15 @@
 -- Fewer conditions on integers than there are integers have a small solution that isn't 0 (Siegel 1929, after Thue).
-use Rattle.std.proofs.Common.{◌≡◌, ◌≢◌, ℕ, zero, suc, ◌+◌, ◌-◌, ◌*◌, ◌/◌, ◌%◌, ◌<◌, ◌≤◌, List, length, sum_by, ℤ, pos, ◌-ℤ◌, refl, sym, ap, ap₂, ◌∙◌, ⊎_elim, arith, unsigned_abs}
+use Rattle.std.proofs.Common.{◌≡◌, ◌≢◌, ℕ, zero, suc, ◌+◌, ◌-◌, ◌*◌, ◌/◌, ◌%◌, ◌<◌, ◌≤◌, List, length, sum_by, ℤ, pos, ◌-ℤ◌, refl, sym, ap, ap₂, ◌∙◌, ⊎_elim, arith, ◌==◌, if◌then◌else◌, unsigned_abs}
 use Rattle.std.proofs.Math.Nat.{mul-le-mul, mul-le-mul_right, div-add-mod}
 use Rattle.std.proofs.Math.Arith.{mod-mul}
 use Rattle.std.proofs.lemmas.Nat.{same_from_place, div_below, mod_below}
-use Rattle.word_image.proofs.Common.{but, but_there, but_else, but_cases, cases_eq, cases_lt, ints, sum_by-le, twice_below}
+use Rattle.word_image.proofs.Common.{but, but_there, but_else, but_cases, cases_eq, cases_lt, ints, nat_tests, sum_by-le, twice_below}
 use Rattle.kept_sums.specs.Spans.{gain_at}
-use Rattle.kept_sums.proofs.laws.Sums.{gain_at-sub, sum_at-pos}
+use Rattle.kept_sums.proofs.laws.Sums.{sum_at-sub, sum_at-pos}
 
 -- the first number at 0, and the second elsewhere
 abbrev pub pick : ℕ → ℕ → ℕ → ℕ
-pick zero one other = one
-pick (suc n) one other = other
+pick g one other = if g == 0 then one else other
 
 -- the product of the first n numbers
 unfoldable pub product : ℕ → (ℕ → ℕ) → ℕ
@@ -75,36 +74,23 @@ code top w x y = sum_by w x + (top - sum_by w y)
 gain-code : (h t : ℕ) (w v : ℕ → ℕ) → ((a : ℕ) → w a ≤ t) → ((a : ℕ) → v a ≤ t) → (x y : List ℕ) → length y ≤ h → code (h * t) w x y ≡ code (h * t) v x y
     → gain_at (λ a. pos (w a) -ℤ pos (v a)) x y ≡ pos 0
 gain-code h t w v one two x y short same =
-    gain_at-sub (λ a. pos (w a)) (λ a. pos (v a)) x y
-    ∙ omega (arith, ints, sum_by-le w t y (λ i d l. one _), sum_by-le v t y (λ i d l. two _), mul-le-mul_right t short, sum_at-pos w x, sum_at-pos w y, sum_at-pos v x, sum_at-pos v y, same)
+    omega (arith, ints, sum_at-sub (λ a. pos (w a)) (λ a. pos (v a)) x, sum_at-sub (λ a. pos (w a)) (λ a. pos (v a)) y, sum_by-le w t y (λ i d l. one _), sum_by-le v t y (λ i d l. two _), mul-le-mul_right t short, sum_at-pos w x, sum_at-pos w y, sum_at-pos v x, sum_at-pos v y, same)
 
 -- a code is below its base
 code-below : (g h t one other : ℕ) → (1 ≤ g → one ≤ h * t) → pick g 0 (one + (h * t - other)) < 2 * h * pick g 0 t + 1
-code-below zero h t one other most = omega arith
-code-below (suc g) h t one other most = omega (arith, most (omega arith))
+code-below g h t one other most = grind (arith, nat_tests)
 
 -- a code's base is at most that of a number times 2 h
 base-le : (g h t : ℕ) → 1 ≤ h → 2 * h * pick g 0 t + 1 ≤ pick g 1 (2 * h) * (pick g 0 t + 1)
-base-le zero h t some = omega arith
-base-le (suc g) h t some = omega arith
+base-le g h t some = grind (arith, nat_tests)
 
 -- the numbers that stand at a place are at most t
 pick-most : (g t : ℕ) → pick g 0 t ≤ t
-pick-most zero t = omega arith
-pick-most (suc g) t = omega arith
-
--- the difference of numbers that are at most t
-difference-most : (p q t : ℕ) → p ≤ t → q ≤ t → unsigned_abs (pos p -ℤ pos q) ≤ t
-difference-most p q t one two = omega (arith, ints)
-
--- numbers whose difference is 0
-no-difference : (p q : ℕ) → pos p -ℤ pos q ≡ pos 0 → p ≡ q
-no-difference p q none = omega (arith, ints)
+pick-most g t = grind (arith, nat_tests)
 
 -- one number picked, one number
 picked : (g one other : ℕ) → 1 ≤ g → pick g 0 one ≡ pick g 0 other → one ≡ other
-picked zero one other noted e = absurd (omega arith)
-picked (suc g) one other noted e = e
+picked g one other noted e = grind (arith, nat_tests)
 
 -- a small solution that isn't 0 of the conditions of the places where g isn't 0: 0 but there and at place i
 pub record SmallSolution (n i : ℕ) (g : ℕ → ℕ) (x y : ℕ → List ℕ) (most : ℕ) : Type 0 where
@@ -141,9 +127,9 @@ weights-differ n i base v u l some one order =
     (cases_eq (v / product n base) (u / product n base))
 
 -- conditions of words of at most h letters, one for each place where g isn't 0, have a solution there and at one place more
-pub small_solution : (n h i : ℕ) (g : ℕ → ℕ) (x y : ℕ → List ℕ) → i < n → 1 ≤ h → g i ≡ 0 → ((a : ℕ) → a < n → 1 ≤ g a → (length (x a) ≤ h) × (length (y a) ≤ h))
-    → SmallSolution n i g x y (product n (λ a. pick (g a) 1 (2 * h)))
-small_solution n h i g x y l some none short =
+pub small_solution : (n h i limit : ℕ) (g : ℕ → ℕ) (x y : ℕ → List ℕ) → i < n → 1 ≤ h → g i ≡ 0 → ((a : ℕ) → a < n → 1 ≤ g a → (length (x a) ≤ h) × (length (y a) ≤ h))
+    → product n (λ a. pick (g a) 1 (2 * h)) ≤ limit → SmallSolution n i g x y limit
+small_solution n h i limit g x y l some none short enough =
     let t : ℕ = product n (λ a. pick (g a) 1 (2 * h)) in
     let base : ℕ → ℕ = λ a. pick (g a) 0 t + 1 in
     let top : ℕ → ℕ = λ a. 2 * h * pick (g a) 0 t + 1 in
@@ -162,13 +148,13 @@ small_solution n h i g x y l some none short =
     let differs = weights-differ n i base v u l some_base no_digit order in
     record {
       weight = λ a. pos (w v a) -ℤ pos (w u a);
-      small = λ a. difference-most (w v a) (w u a) t (most v a v_within) (most u a u_within);
+      small = λ a. omega (arith, ints, most v a v_within, most u a u_within, enough);
       outside = λ a apart nothing.
           let zeroth : (m : ℕ) → w m a ≡ 0 = λ m. but_else (digit base m) i _ a apart ∙ (let one : base a ≡ 1 = ap (λ k. pick k 0 t + 1) nothing in rw one (omega arith)) in
           ap₂ (λ (p q : ℕ). pos p -ℤ pos q) (zeroth v) (zeroth u);
       place = differs.0;
       within = differs.1;
-      some = λ nothing. differs.2 (no-difference (w v differs.0) (w u differs.0) nothing);
+      some = λ nothing. differs.2 (omega (arith, ints, nothing));
       solves = λ a k noted.
           let digits = number-digits n top (codes u) (codes v) (below u u_within) (below v v_within) same a k in
           gain-code h t (w v) (w u) (λ b. most v b v_within) (λ b. most u b u_within) (x a) (y a) (short a k noted).1 (picked (g a) _ _ noted (sym digits));

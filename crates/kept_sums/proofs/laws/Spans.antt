@@ -1,11 +1,11 @@
 -- The step of the elimination: what it leaves keeps one sum more, and each weight that keeps it is still a combination.
 use Rattle.std.proofs.Common.{◌≡◌, ◌≢◌, ℕ, zero, suc, ◌+◌, ◌*◌, ◌<◌, ◌≤◌, List, map, ℤ, pos, ◌+ℤ◌, ◌-ℤ◌, ◌*ℤ◌, refl, sym, ap, ap₂, ◌∙◌, ⊎_elim, arith, mul-le-mul}
-use Rattle.std.proofs.Math.IntN.{pos-*ℤ-pos}
-use Rattle.word_image.proofs.Common.{cases_eq, chosen_below, ints, map-range_with_len_more, range_with_len, IsWord}
+use Rattle.word_image.proofs.Common.{cases_eq, chosen_below, ints, map-range_with_len_more, range_with_len, IsWord, cases_lt}
 use Rattle.kept_sums.specs.Sums.{sum_at, sum_to}
 use Rattle.kept_sums.specs.Spans.{entry, IsSpanned, gain_at, IsNarrowed}
-use Rattle.kept_sums.proofs.laws.Integers.{mul-add, mul-sub, mul-assoc, mul-swap, zero-of_times, factor-none}
-use Rattle.kept_sums.proofs.laws.Sums.{sum_at-snoc, gain_at-agree, gain_at-scaled, gain_at-add, gain_at-sub, gain_at-none}
+use Rattle.kept_sums.proofs.laws.Integers.{mul-add, mul-sub, mul-assoc, mul-swap, zero-of_times, zero-factor, factor-none, positive-of_times, times-positive}
+use Rattle.kept_sums.proofs.laws.Sums.{sum_at-snoc, IsLinear, IsLinear-gain, linear-sum_to, IsLinear-at, linear-none}
+use Rattle.kept_sums.specs.Stages.{IsStanding, IsZero}
 
 -- the sum of equal numbers is equal
 pub sum_to-agree : (n : ℕ) {f g : ℕ → ℤ} → ((i : ℕ) → i < n → f i ≡ g i) → sum_to n f ≡ sum_to n g
@@ -58,42 +58,33 @@ sum_to-one (suc n) f j l beside =
     (λ (other : n ≢ j). omega (arith, ints, sum_to-one n f j (omega arith) (λ i h. beside i (omega arith)), beside n (omega arith) other))
     (cases_eq n j)
 
--- what a sum of weights gains
-pub gain_at-sum_to : (n : ℕ) (parts : ℕ → ℤ) (rows : ℕ → ℕ → ℤ) (x y : List ℕ)
-    → gain_at (λ a. sum_to n (λ i. parts i *ℤ rows i a)) x y ≡ sum_to n (λ i. parts i *ℤ gain_at (rows i) x y)
-unfolding sum_to
-gain_at-sum_to zero parts rows x y = gain_at-none x y
-gain_at-sum_to (suc n) parts rows x y =
-    gain_at-add (λ a. sum_to n (λ i. parts i *ℤ rows i a)) (λ a. parts n *ℤ rows n a) x y
-    ∙ ap₂ (λ (u v : ℤ). u +ℤ v) (gain_at-sum_to n parts rows x y) (gain_at-scaled (parts n) (rows n) x y)
+-- a positive multiple of what a linear function gives spanned weights is combined of what it gives the rows
+pub IsSpanned-linear : {k : ℕ} {F : (ℕ → ℤ) → ℤ} {rows : List (List ℤ)} {weight : ℕ → ℤ} → IsLinear k F → (spanned : IsSpanned k rows weight)
+    → pos spanned.times *ℤ F weight ≡ sum_to 16 (λ i. spanned.parts i *ℤ F (entry rows i))
+IsSpanned-linear {rows = rows} {weight} linear spanned =
+    sym (linear.scaled (pos spanned.times) weight) ∙ linear.agree spanned.sums ∙ linear-sum_to linear 16 spanned.parts (entry rows)
 
 -- one part of a combination, crossed
-crossed_part : (part lead old gain other : ℤ) → part *ℤ ((lead *ℤ old) -ℤ (gain *ℤ other)) ≡ (lead *ℤ (part *ℤ old)) -ℤ (other *ℤ (part *ℤ gain))
+crossed_part : (part lead old gain other : ℤ) → part *ℤ ((lead *ℤ old) -ℤ (gain *ℤ other)) ≡ (lead *ℤ (part *ℤ old)) -ℤ ((part *ℤ gain) *ℤ other)
 crossed_part part lead old gain other = omega (arith, ints, mul-sub part (lead *ℤ old) (gain *ℤ other), mul-swap part lead old, mul-assoc part gain other)
 
--- a combination of crosses is the cross of two combinations
-sum_to-crossed : (n : ℕ) (parts old gain : ℕ → ℤ) (lead other : ℤ)
-    → sum_to n (λ i. parts i *ℤ ((lead *ℤ old i) -ℤ (gain i *ℤ other))) ≡ (lead *ℤ sum_to n (λ i. parts i *ℤ old i)) -ℤ (other *ℤ sum_to n (λ i. parts i *ℤ gain i))
-sum_to-crossed n parts old gain lead other =
-    sum_to-agree n (λ i _. crossed_part (parts i) lead (old i) (gain i) other)
-    ∙ sum_to-sub n (λ i. lead *ℤ (parts i *ℤ old i)) (λ i. other *ℤ (parts i *ℤ gain i))
-    ∙ ap₂ (λ (u v : ℤ). u -ℤ v) (sum_to-scaled n lead (λ i. parts i *ℤ old i)) (sum_to-scaled n other (λ i. parts i *ℤ gain i))
+-- the cross of weights with a number is linear
+IsLinear-cross : {k a : ℕ} (lead other : ℤ) (x y : List ℕ) → a < k → IsWord k x → IsWord k y → IsLinear k (λ f. (lead *ℤ f a) -ℤ (gain_at f x y *ℤ other))
+IsLinear-cross {a = a} lead other x y l one two =
+    let gain = IsLinear-gain x y one two in
+    record {
+      agree = λ same. ap₂ (λ (u v : ℤ). (lead *ℤ u) -ℤ (v *ℤ other)) (same a l) (gain.agree same);
+      scaled = λ n f. ap (λ (z : ℤ). (lead *ℤ (n *ℤ f a)) -ℤ (z *ℤ other)) (gain.scaled n f) ∙ sym (crossed_part n lead (f a) (gain_at f x y) other);
+      sub = λ f g. omega (arith, ints, ap (λ (z : ℤ). z *ℤ other) (gain.sub f g), mul-sub lead (f a) (g a), mul-sub other (gain_at f x y) (gain_at g x y));
+    }
 
 -- weights that gain nothing are combined of the crosses of the rows with one of them
 pub spanned_crosses : {k : ℕ} {rows : List (List ℤ)} {weight : ℕ → ℤ} (lead j : ℕ) (x y : List ℕ) → IsWord k x → IsWord k y → gain_at weight x y ≡ pos 0 → (spanned : IsSpanned k rows weight)
     → (a : ℕ) → a < k → pos (lead * spanned.times) *ℤ weight a ≡ sum_to 16 (λ i. spanned.parts i *ℤ ((pos lead *ℤ entry rows i a) -ℤ (gain_at (entry rows i) x y *ℤ entry rows j a)))
 spanned_crosses {rows = rows} {weight} lead j x y one two none spanned a l =
-    let gain : ℕ → ℤ = λ i. gain_at (entry rows i) x y in
-    let nothing : sum_to 16 (λ i. spanned.parts i *ℤ gain i) ≡ pos 0 =
-    sym (gain_at-sum_to 16 spanned.parts (λ i. entry rows i) x y)
-    ∙ sym (gain_at-agree spanned.sums x y one two)
-    ∙ gain_at-scaled (pos spanned.times) weight x y
-    ∙ factor-none (pos spanned.times) (gain_at weight x y) none in
-    ap (λ (z : ℤ). z *ℤ weight a) (sym (pos-*ℤ-pos lead spanned.times))
-    ∙ mul-assoc (pos lead) (pos spanned.times) (weight a)
-    ∙ omega (arith, ints)
-    ∙ ap₂ (λ (s n : ℤ). (pos lead *ℤ s) -ℤ (entry rows j a *ℤ n)) (spanned.sums a l) (sym nothing)
-    ∙ sym (sum_to-crossed 16 spanned.parts (λ i. entry rows i a) gain (pos lead) (entry rows j a))
+    let t : ℤ = pos spanned.times in
+    let here : pos lead *ℤ weight a ≡ (pos lead *ℤ weight a) -ℤ (gain_at weight x y *ℤ entry rows j a) = rw none (omega (arith, ints)) in
+    omega (arith, ints, mul-assoc t (pos lead) (weight a)) ∙ ap (λ (z : ℤ). t *ℤ z) here ∙ IsSpanned-linear (IsLinear-cross (pos lead) (entry rows j a) x y l one two) spanned
 
 -- weights that gain nothing are a combination of the narrowed rows where they are one of the rows
 pub IsSpanned-narrowed : {k j : ℕ} {rows news : List (List ℤ)} {x y : List ℕ} {weight : ℕ → ℤ} → k ≤ 16 → IsWord k x → IsWord k y
@@ -112,25 +103,52 @@ IsSpanned-narrowed {k} {j} {rows} {news} {x} {y} {weight} few one two narrowed n
           ∙ sym (mul-assoc (spanned.parts i) (pos (share i)) (entry news i a)));
     }
 
--- what a narrowed row gains
-cross_gain : {j : ℕ} {rows news : List (List ℤ)} {x y : List ℕ} (narrowed : IsNarrowed rows x y j news) (u v : List ℕ) → IsWord 16 u → IsWord 16 v → (i : ℕ) (l : i < 16)
-    → pos (narrowed.each i l).share *ℤ gain_at (entry news i) u v ≡ (pos narrowed.lead *ℤ gain_at (entry rows i) u v) -ℤ (gain_at (entry rows i) x y *ℤ gain_at (entry rows j) u v)
-cross_gain {j} {rows} {news} {x} {y} narrowed u v one two i l =
-    let gain : ℤ = gain_at (entry rows i) x y in
-    sym (gain_at-scaled (pos (narrowed.each i l).share) (entry news i) u v)
-    ∙ gain_at-agree (narrowed.each i l).cross u v one two
-    ∙ gain_at-sub (λ a. pos narrowed.lead *ℤ entry rows i a) (λ a. gain *ℤ entry rows j a) u v
-    ∙ ap₂ (λ (s t : ℤ). s -ℤ t) (gain_at-scaled (pos narrowed.lead) (entry rows i) u v) (gain_at-scaled gain (entry rows j) u v)
+-- a row of zeros gains nothing
+pub gain_at-zero : (rows : List (List ℤ)) (i : ℕ) (x y : List ℕ) → IsWord 16 x → IsWord 16 y → IsZero rows i → gain_at (entry rows i) x y ≡ pos 0
+gain_at-zero rows i x y one two none = linear-none (IsLinear-gain x y one two) none
 
--- rows that gain nothing by two words, narrowed by two other words, still gain nothing by them
-pub gain_at-narrowed : {j : ℕ} {rows news : List (List ℤ)} {x y : List ℕ} → j < 16 → IsNarrowed rows x y j news
-    → (u v : List ℕ) → IsWord 16 u → IsWord 16 v → ((i : ℕ) → i < 16 → gain_at (entry rows i) u v ≡ pos 0) → (i : ℕ) → i < 16 → gain_at (entry news i) u v ≡ pos 0
-gain_at-narrowed {j} {rows} {news} {x} {y} within narrowed u v one two none i l =
-    zero-of_times (narrowed.each i l).share _ (narrowed.each i l).positive
-    (cross_gain narrowed u v one two i l ∙ ap₂ (λ (s t : ℤ). (pos narrowed.lead *ℤ s) -ℤ (gain_at (entry rows i) x y *ℤ t)) (none i l) (none j within) ∙ omega (arith, ints))
+module _ {rows news : List (List ℤ)} {x y : List ℕ} {j : ℕ} (narrowed : IsNarrowed rows x y j news) where
+  -- a linear function gives a narrowed row 0 where both parts of the cross come to one number
+  linear-cross : {F : (ℕ → ℤ) → ℤ} → IsLinear 16 F → (i : ℕ) → i < 16 → pos narrowed.lead *ℤ F (entry rows i) ≡ gain_at (entry rows i) x y *ℤ F (entry rows j) → F (entry news i) ≡ pos 0
+  linear-cross {F} linear i l same =
+      let row = narrowed.each i l in
+      let gain : ℤ = gain_at (entry rows i) x y in
+      let parts = linear.sub (λ a. pos narrowed.lead *ℤ entry rows i a) (λ a. gain *ℤ entry rows j a) in
+      zero-of_times row.share (F (entry news i)) row.positive
+      (sym (linear.scaled (pos row.share) (entry news i)) ∙ linear.agree row.cross ∙ parts
+      ∙ omega (arith, ints, linear.scaled (pos narrowed.lead) (entry rows i), linear.scaled gain (entry rows j), same))
 
--- narrowed rows gain nothing by the words by which they are narrowed
-pub gain_at-narrowed_here : {j : ℕ} {rows news : List (List ℤ)} {x y : List ℕ} → IsNarrowed rows x y j news → IsWord 16 x → IsWord 16 y → (i : ℕ) → i < 16 → gain_at (entry news i) x y ≡ pos 0
-gain_at-narrowed_here {j} {rows} {news} {x} {y} narrowed one two i l =
-    zero-of_times (narrowed.each i l).share _ (narrowed.each i l).positive
-    (cross_gain narrowed x y one two i l ∙ ap (λ (t : ℤ). (pos narrowed.lead *ℤ gain_at (entry rows i) x y) -ℤ (gain_at (entry rows i) x y *ℤ t)) narrowed.gains ∙ omega (arith, ints))
+  -- a linear function gives a narrowed row 0 where both parts of the cross are 0
+  pub linear-narrowed : {F : (ℕ → ℤ) → ℤ} → IsLinear 16 F → (i : ℕ) → i < 16 → F (entry rows i) ≡ pos 0 → gain_at (entry rows i) x y *ℤ F (entry rows j) ≡ pos 0 → F (entry news i) ≡ pos 0
+  linear-narrowed linear i l none nothing = linear-cross linear i l (factor-none (pos narrowed.lead) _ none ∙ sym nothing)
+
+  -- narrowed rows gain nothing by the words by which they are narrowed
+  pub gain_at-narrowed : IsWord 16 x → IsWord 16 y → (i : ℕ) → i < 16 → gain_at (entry news i) x y ≡ pos 0
+  gain_at-narrowed one two i l = linear-cross (IsLinear-gain x y one two) i l (rw narrowed.gains (omega (arith, ints)))
+
+  -- rows of zeros stay so when rows are narrowed
+  pub IsZero-narrowed : IsWord 16 x → IsWord 16 y → (i : ℕ) → i < 16 → IsZero rows i → IsZero news i
+  IsZero-narrowed one two i l none a h = linear-narrowed (IsLinear-at h) i l (none a h) (zero-factor _ (entry rows j a) (gain_at-zero rows i x y one two none))
+
+  -- the row by which the others are crossed becomes a row of zeros
+  pub IsZero-pivot : j < 16 → IsZero news j
+  IsZero-pivot l a h = linear-cross (IsLinear-at h) j l (rw narrowed.gains refl)
+
+  -- rows that stand go on standing, where none after row j gains
+  pub IsStanding-narrowed : j < 16 → ((i : ℕ) → j < i → i < 16 → gain_at (entry rows i) x y ≡ pos 0) → IsStanding rows j → (i : ℕ) → i < 16 → i ≢ j → IsStanding rows i → IsStanding news i
+  IsStanding-narrowed within last pivot i l other stands =
+      let row = narrowed.each i l in
+      let beside : entry rows j i ≡ pos 0 = stands.alone j within (λ e. other (sym e)) in
+      let whole : pos row.share *ℤ entry news i i ≡ pos narrowed.lead *ℤ entry rows i i = row.cross i l ∙ rw beside (omega (arith, ints)) in
+      let above = positive-of_times row.share (entry news i i) (rw whole (times-positive narrowed.lead (entry rows i i) narrowed.some stands.leads)) in
+      record {
+        leads = above;
+        begins = λ a h.
+            linear-narrowed (IsLinear-at (omega arith)) i l (stands.begins a h)
+            (⊎_elim
+            (λ (before : i < j). factor-none _ _ (pivot.begins a (omega arith)))
+            (λ (after : j ≤ i). zero-factor _ (entry rows j a) (last i (omega (arith, other, after)) l))
+            (cases_lt i j));
+        alone = λ m h apart. linear-narrowed (IsLinear-at l) m h (stands.alone m h apart) (factor-none _ _ beside);
+        combined = row.combined i l (λ none. absurd (omega (arith, ints)));
+      }

@@ -1,25 +1,11 @@
 -- The first stage: each free place has the row that gives it the weight 1.
-use Rattle.std.proofs.Common.{◌≡◌, ◌≢◌, ℕ, ◌-◌, ◌^◌, ◌<◌, ◌≤◌, List, [], replicate, slice_index, slice_index_or, ℤ, pos, ◌*ℤ◌, sym, ap, subst, ◌∙◌, ⊎_elim, ◌⊎◌, inl, inr, arith, unsigned_abs}
-use Rattle.std.proofs.Math.ListN.{get_or-eq_default}
-use Rattle.word_image.proofs.Common.{ints, cases_lt, cases_eq, get_or-replicate, length-replicate, LocalRule, IsRule, IsWord-le, slice_index-zeros}
-use Rattle.kept_sums.specs.Sums.{IsKept, sum_to}
+use Rattle.std.proofs.Common.{◌≡◌, ◌≢◌, ℕ, ◌-◌, ◌^◌, ◌<◌, ◌≤◌, List, [], replicate, slice_index, slice_index_or, ℤ, pos, ◌*ℤ◌, sym, ap, ◌∙◌, ⊎_elim, ◌⊎◌, inl, inr, arith, unsigned_abs}
+use Rattle.word_image.proofs.Common.{ints, cases_lt, cases_eq, length-replicate, LocalRule, IsRule, slice_index-zeros}
+use Rattle.kept_sums.specs.Sums.{sum_to}
 use Rattle.kept_sums.specs.Rows.{at, IsUnit, IsCombined}
 use Rattle.kept_sums.specs.Spans.{entry, IsSpanned}
-use Rattle.kept_sums.specs.Stages.{IsZero, IsStage}
-use Rattle.kept_sums.proofs.laws.Parts.{at-replicate}
+use Rattle.kept_sums.specs.Stages.{IsStage}
 use Rattle.kept_sums.proofs.laws.Spans.{sum_to-one}
-use Rattle.kept_sums.proofs.laws.Densities.{KeepsSumOf-gain}
-use Rattle.kept_sums.proofs.laws.Narrowed.{gain_at-zero}
-use Rattle.kept_sums.proofs.laws.Stages.{Stands, stands_or_zero, not_both}
-use Rattle.kept_sums.proofs.laws.AfterRings.{IsWord-blocks, IsRing-ring_image}
-
--- rows of zeros have them everywhere
-pub entry-zeros : (i a : ℕ) → entry (replicate 16 (replicate 16 (pos 0))) i a ≡ pos 0
-entry-zeros i a =
-    ⊎_elim
-    (λ (l : i < 16). ap (λ row. at row a) (get_or-replicate 16 i (replicate 16 (pos 0)) [] l) ∙ at-replicate 16 a)
-    (λ (l : 16 ≤ i). ap (λ row. at row a) (get_or-eq_default (replicate 16 (replicate 16 (pos 0))) [] (omega (arith, length-replicate 16 (replicate 16 (pos 0))))))
-    (cases_lt i 16)
 
 -- the rows from first on and before size have one number that isn't 0, and the others none
 pub record AreUnits (first size : ℕ) (rows : List (List ℤ)) : Type 0 where
@@ -42,10 +28,9 @@ off units i a other = ⊎_elim (λ one. one.2.others a other) (λ none. none a) 
 -- the entries of unit rows are small
 small_at : {first size : ℕ} {rows : List (List ℤ)} → AreUnits first size rows → (i a : ℕ) → unsigned_abs (entry rows i a) ≤ 2 ^ 56
 small_at {rows = rows} units i a =
-    let none = λ (e : entry rows i a ≡ pos 0). subst (λ (z : ℤ). unsigned_abs z ≤ 2 ^ 56) (sym e) (omega arith) in
     ⊎_elim
-    (λ (same : a ≡ i). ⊎_elim (λ one. let here = one.2.one in rw same (subst (λ (z : ℤ). unsigned_abs z ≤ 2 ^ 56) (sym here) (omega arith))) (λ zeros. none (zeros a)) (unit_or_zero units i))
-    (λ (other : a ≢ i). none (off units i a other))
+    (λ (same : a ≡ i). ⊎_elim (λ one. omega (arith, ints, ap (entry rows i) same, one.2.one)) (λ zeros. omega (arith, ints, zeros a)) (unit_or_zero units i))
+    (λ other. omega (arith, ints, off units i a other))
     (cases_eq a i)
 
 -- each normal weight is the sum of unit rows, each as often as the weight says
@@ -104,15 +89,3 @@ IsStage-start r range rows rule letter few units =
       many_counts = length-replicate {A = ℕ} 16 0;
       many_rings = length-replicate {A = List ℕ} 16 (replicate 15 0);
     }
-
--- each row is kept where those are that have a number in their own places
-pub IsKept-rows : {r : LocalRule} {range : ℕ} {rows : List (List ℤ)} {counts : List ℕ} {rings : List (List ℕ)} → IsRule r → r.states ^ range ≤ 16 → IsStage r range rows counts rings
-    → ((i : ℕ) → i < 16 → entry rows i i ≢ pos 0 → IsKept range (entry rows i) r) → (i : ℕ) → i < 16 → IsKept range (entry rows i) r
-IsKept-rows {r} {range} {rows} rule few stage kept i l =
-    ⊎_elim
-    (λ (stands : Stands r.states range rows i). kept i l (not_both (entry rows i i) stands.standing.leads))
-    (λ (zeros : IsZero rows i). λ p ring.
-    (KeepsSumOf-gain range (entry rows i) r p).1
-    (gain_at-zero rows i _ _ (IsWord-le _ 16 _ few (IsWord-blocks range (IsRing-ring_image rule ring)))
-    (IsWord-le _ 16 _ few (IsWord-blocks range ring)) zeros))
-    (stands_or_zero (stage.places i l))

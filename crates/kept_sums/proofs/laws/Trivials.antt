@@ -3,7 +3,7 @@ use Rattle.std.proofs.Common.{◌≡◌, ℕ, zero, suc, ◌+◌, ◌-◌, ◌/�
 use Rattle.std.proofs.Math.Nat.{pow-suc, mul-le-mul_left, mod-eq_of_lt}
 use Rattle.std.proofs.lemmas.Nat.{div_below}
 use Rattle.word_image.proofs.Common.{one-le-pow, pow-zero, zero-div, pow-le-pow_right, ints, LocalRule, IsRule, value, IsRing, ring_letters, ring_image, by_ends, value-front, value-tail, value-word_of}
-use Rattle.kept_sums.specs.Sums.{sum_at, blocks, KeepsSumOf, IsKept, sum_to}
+use Rattle.kept_sums.specs.Sums.{sum_at, blocks, IsKept, sum_to}
 use Rattle.kept_sums.specs.Stages.{IsNormal, ring_at, NotedKeep, IsStage}
 use Rattle.kept_sums.specs.Fluxes.{IsFlowBy}
 use Rattle.kept_sums.specs.Trivials.{IsTrivial, IsSpannedUpToTrivial}
@@ -98,24 +98,6 @@ IsNormal-trivial k range weight states some normal trivial a l =
     let ends = window_ends k d a (omega arith) below in
     omega (arith, ints, by.flows a below, constant, same (a / k) ends.0, same (a % k ^ d) ends.1)
 
--- a ring keeps the sum of a difference where it keeps both
-KeepsSumOf-sub : (range : ℕ) (f g : ℕ → ℤ) (r : LocalRule) (p : List ℕ) → KeepsSumOf range f r p → KeepsSumOf range g r p → KeepsSumOf range (λ a. f a -ℤ g a) r p
-KeepsSumOf-sub range f g r p one two =
-    sum_at-sub f g (blocks r.states range p)
-    ∙ ap₂ (λ (x y : ℤ). x -ℤ y) one two
-    ∙ sym (sum_at-sub f g (blocks r.states range (ring_image r p)))
-
--- a multiple of trivial weights is trivial
-IsTrivial-times : {k range : ℕ} {weight : ℕ → ℤ} (n : ℤ) → IsTrivial k range weight → IsTrivial k range (λ a. n *ℤ weight a)
-IsTrivial-times {k} {range} {weight} n trivial = record {
-  constant = n *ℤ trivial.constant;
-  phi = λ v. n *ℤ trivial.phi v;
-  is = λ w word long.
-      let first = trivial.phi (value k (take (range - 1) w)) in
-      let last = trivial.phi (value k (drop 1 w)) in
-      omega (arith, ints, ap (λ (x : ℤ). n *ℤ x) (trivial.is w word long), mul-add n trivial.constant (first -ℤ last), mul-sub n first last);
-}
-
 -- each kept weight is a rational combination of the rows and trivial weights
 pub IsSpannedUpToTrivial-kept : {r : LocalRule} {range : ℕ} {rows : List (List ℤ)} {counts : List ℕ} {rings : List (List ℕ)} → IsRule r → 1 ≤ range → IsStage r range rows counts rings
     → (weight : ℕ → ℤ) → NotedKeep r range counts rings weight → IsSpannedUpToTrivial r.states range rows weight
@@ -124,16 +106,23 @@ IsSpannedUpToTrivial-kept {r} {range} {rows} {counts} {rings} rule some stage we
     let trivial = IsTrivial-part k range weight some in
     let kept = IsKept-trivial rule range (trivial_part k range weight) some trivial in
     let normal : NotedKeep r range counts rings (normal_part k range weight) = λ i l noted.
-    KeepsSumOf-sub range weight (trivial_part k range weight) r (ring_at counts rings i) (keep i l noted) (kept (ring_at counts rings i) ((stage.places i l).ring noted)) in
+    let p : List ℕ = ring_at counts rings i in
+    let less = sum_at-sub weight (trivial_part k range weight) in
+    omega (arith, ints, less (blocks k range p), less (blocks k range (ring_image r p)), keep i l noted, kept p ((stage.places i l).ring noted)) in
     let spanned = stage.complete (normal_part k range weight) (IsNormal-part k range weight) normal in
+    let times : ℤ = pos spanned.times in
     record {
       times = spanned.times;
       some = spanned.some;
       parts = spanned.parts;
-      rest = λ a. pos spanned.times *ℤ trivial_part k range weight a;
-      trivial = IsTrivial-times (pos spanned.times) trivial;
-      sums = λ a l.
-          let normal_sum = spanned.sums a l in
-          let split = mul-sub (pos spanned.times) (weight a) (trivial_part k range weight a) in
-          omega (arith, ints, normal_sum, split);
+      rest = λ a. times *ℤ trivial_part k range weight a;
+      trivial = record {
+        constant = times *ℤ trivial.constant;
+        phi = λ v. times *ℤ trivial.phi v;
+        is = λ w word long.
+            let first = trivial.phi (value k (take (range - 1) w)) in
+            let last = trivial.phi (value k (drop 1 w)) in
+            omega (arith, ints, ap (λ (x : ℤ). times *ℤ x) (trivial.is w word long), mul-add times trivial.constant (first -ℤ last), mul-sub times first last);
+      };
+      sums = λ a l. omega (arith, ints, spanned.sums a l, mul-sub times (weight a) (trivial_part k range weight a));
     }

@@ -1,14 +1,12 @@
 -- Windows of m + range - 1 letters by their values, and the fluxes of what they add.
-use Rattle.std.proofs.Common.{◌≡◌, ℕ, zero, suc, ◌+◌, ◌-◌, ◌*◌, ◌/◌, ◌%◌, ◌^◌, ◌<◌, ◌≤◌, List, length, take, drop, get_or-set_other, set, replicate, ℤ, pos, ◌-ℤ◌, refl, sym, ap, subst, ◌∙◌, arith, unsigned_abs}
+use Rattle.std.proofs.Common.{◌≡◌, ℕ, zero, suc, ◌+◌, ◌-◌, ◌*◌, ◌/◌, ◌%◌, ◌^◌, ◌<◌, ◌≤◌, ◌↔◌, List, length, take, drop, get_or-set_other, set, ℤ, pos, ◌-ℤ◌, refl, sym, ap, ◌∙◌, arith, unsigned_abs}
 use Rattle.std.proofs.Math.Nat.{pow-suc, mul-le-mul, mul-le-mul_left}
-use Rattle.word_image.proofs.Common.{by_ends, node_count_pos, set_more, pow-zero, div-lt_self, ints, length-replicate, LocalRule, IsRule, value, word_of}
+use Rattle.word_image.proofs.Common.{by_ends, node_count_pos, set_more, pow-zero, div-lt_self, ints, LocalRule, IsRule, value, word_of}
 use Rattle.std.proofs.lemmas.Nat.{pow-add, div_below}
 use Rattle.std.proofs.lemmas.List.{length-set}
 use Rattle.kept_sums.specs.Rows.{at}
 use Rattle.kept_sums.specs.Fluxes.{IsFluxOf, window_gain, IsFlowBy}
-use Rattle.kept_sums.proofs.Casts.{abs-sub}
 use Rattle.kept_sums.proofs.laws.Ranges.{pow-next}
-use Rattle.kept_sums.proofs.laws.Parts.{at-replicate}
 use Rattle.kept_sums.proofs.laws.Trivials.{window_ends, IsFlowBy-back, same_of_step}
 
 -- how many windows there are
@@ -19,9 +17,10 @@ windows-split {r} rule range =
     ap (λ n. r.states ^ n) e ∙ pow-add r.states (r.width - 1) range
 
 -- there are at most 256 windows
-pub windows-most : {r : LocalRule} → IsRule r → (range : ℕ) → r.states ^ range ≤ 16
-    → r.states ^ (r.width + range - 1) ≤ 256
-windows-most rule range few = omega (arith, windows-split rule range, mul-le-mul rule.shape.most_nodes few)
+pub windows-most : {r : LocalRule} → IsRule r → (range n : ℕ) → n + 1 ≡ r.width + range → r.states ^ range ≤ 16 → r.states ^ n ≤ 256
+windows-most {r} rule range n long few =
+    let same : r.width + range - 1 ≡ n = omega arith in
+    omega (arith, windows-split rule range, mul-le-mul rule.shape.most_nodes few, ap (λ j. r.states ^ j) same)
 
 -- one letter fewer: half as many words at most
 pub words-half : (k n : ℕ) → 2 ≤ k → k ^ (n + 1) ≤ 256 → k ^ n ≤ 128
@@ -34,30 +33,19 @@ front-below {r} rule range v few l =
     let split : v < r.states ^ range * r.states ^ (r.width - 1) = omega (arith, l, windows-split rule range) in
     omega (arith, few, div_below v (r.states ^ (r.width - 1)) (r.states ^ range) (node_count_pos rule) split)
 
--- a flux is one by the values of the windows
-pub IsFlowBy-flux : {r : LocalRule} {range : ℕ} {weight phi gains : ℕ → ℤ} → IsRule r → 1 ≤ range → ((v : ℕ) → v < r.states ^ (r.width + range - 1) → gains v ≡ window_gain r range weight (word_of r.states (r.width + range - 1) v)) → IsFluxOf range weight r phi
-    → IsFlowBy r.states (r.width + range - 2) gains phi
-IsFlowBy-flux {r} {range} {weight} {phi} rule some are flux = record {
-  flows = λ v l.
-      let n : ℕ = r.width + range - 2 in
-      let e : r.width + range - 1 ≡ n + 1 = omega (arith, some, rule.shape.least_width) in
-      (rw e at are) v l
-      ∙ (by_ends r.states n (window_gain r range weight) phi).0 (λ w word long.
-      let less : length w - 1 ≡ n = omega arith in
-      flux.flows w word (omega arith) ∙ ap (λ j. phi (value r.states (take j w)) -ℤ phi (value r.states (drop 1 w))) less) v l;
-}
-
 -- a flux of words is one by the values of the windows
-pub IsFluxOf-IsFlowBy : {r : LocalRule} {range : ℕ} {weight phi gains : ℕ → ℤ} → IsRule r → 1 ≤ range → ((v : ℕ) → v < r.states ^ (r.width + range - 1) → gains v ≡ window_gain r range weight (word_of r.states (r.width + range - 1) v)) → IsFlowBy r.states (r.width + range - 2) gains phi
-    → IsFluxOf range weight r phi
-IsFluxOf-IsFlowBy {r} {range} {weight} {phi} rule some are by = record {
-  flows = λ w word long.
-      let n : ℕ = r.width + range - 2 in
-      let e : r.width + range - 1 ≡ n + 1 = omega (arith, some, rule.shape.least_width) in
-      let less : n ≡ length w - 1 = omega arith in
-      (by_ends r.states n (window_gain r range weight) phi).1 (λ v l. sym ((rw e at are) v l) ∙ by.flows v l) w word (omega arith)
-      ∙ ap (λ j. phi (value r.states (take j w)) -ℤ phi (value r.states (drop 1 w))) less;
-}
+pub IsFlowBy-flux : {r : LocalRule} {range : ℕ} {weight phi gains : ℕ → ℤ} → IsRule r → 1 ≤ range → ((v : ℕ) → v < r.states ^ (r.width + range - 1) → gains v ≡ window_gain r range weight (word_of r.states (r.width + range - 1) v))
+    → IsFluxOf range weight r phi ↔ IsFlowBy r.states (r.width + range - 2) gains phi
+IsFlowBy-flux {r} {range} {weight} {phi} rule some are =
+    let n : ℕ = r.width + range - 2 in
+    let e : r.width + range - 1 ≡ n + 1 = omega (arith, some, rule.shape.least_width) in
+    let windows = rw e at are in
+    let ends = by_ends r.states n (window_gain r range weight) phi in
+    let front : (w : List ℕ) → length w ≡ n + 1 → take (length w - 1) w ≡ take n w = λ w long. let less : length w - 1 ≡ n = omega arith in ap (λ j. take j w) less in
+    let step = λ (w x : List ℕ). phi (value r.states x) -ℤ phi (value r.states (drop 1 w)) in (
+      λ flux. record { flows = λ v l. windows v l ∙ ends.0 (λ w word long. flux.flows w word (omega arith) ∙ ap (step w) (front w long)) v l },
+      λ by. record { flows = λ w word long. ends.1 (λ v l. sym (windows v l) ∙ by.flows v l) w word (omega arith) ∙ ap (step w) (sym (front w (omega arith))) },
+    )
 
 -- numbers that differ from a flux by one number are a flux
 pub IsFlowBy-less : {k n : ℕ} {gains phi psi : ℕ → ℤ} (c : ℤ) → 1 ≤ k → ((v : ℕ) → v < k ^ n → psi v ≡ phi v -ℤ c) → IsFlowBy k n gains phi → IsFlowBy k n gains psi
@@ -74,11 +62,10 @@ IsFlowBy-less {k} {n} c some less by = record {
 pub IsFluxOf-one : {r : LocalRule} {range : ℕ} {weight phi psi : ℕ → ℤ} → IsRule r → 1 ≤ range → IsFluxOf range weight r phi → IsFluxOf range weight r psi
     → (v : ℕ) → v < r.states ^ (r.width + range - 2) → (phi v -ℤ phi 0) ≡ psi v -ℤ psi 0
 IsFluxOf-one {r} {range} {weight} {phi} {psi} rule some one other v l =
-    let states = rule.shape.least_states in
     let d : ℕ = r.width + range - 2 in
     let gains : ℕ → ℤ = λ u. window_gain r range weight (word_of r.states (r.width + range - 1) u) in
     let step : (u : ℕ) → u < r.states ^ d → (phi u -ℤ psi u) ≡ phi (u / r.states) -ℤ psi (u / r.states) = λ u h.
-    omega (arith, ints, IsFlowBy-back {gains = gains} (omega arith) (IsFlowBy-flux rule some (λ _ _. refl) one) u h, IsFlowBy-back {gains = gains} (omega arith) (IsFlowBy-flux rule some (λ _ _. refl) other) u h) in
+    omega (arith, ints, IsFlowBy-back {gains = gains} (omega arith) ((IsFlowBy-flux rule some (λ _ _. refl)).0 one) u h, IsFlowBy-back {gains = gains} (omega arith) ((IsFlowBy-flux rule some (λ _ _. refl)).0 other) u h) in
     omega (arith, ints, same_of_step r.states (λ u. phi u -ℤ psi u) d d (omega arith) (omega arith) step v l)
 
 -- the first words have the numbers of any flux less that of the word of letters 0, and the others zeros
@@ -88,22 +75,13 @@ pub record AreNumbers (k n word : ℕ) (gains flux : List ℤ) : Type 0 where
   pub bounds : (v j : ℕ) → v < word → v < k ^ j → unsigned_abs (at flux v) ≤ j * 2 ^ 57
   pub rest : (v : ℕ) → word ≤ v → at flux v ≡ pos 0
 
--- at first there are zeros
-pub AreNumbers-zeros : (k n : ℕ) (gains : List ℤ) → AreNumbers k n 1 gains (replicate 128 (pos 0))
-AreNumbers-zeros k n gains = record {
-  many = length-replicate 128 (pos 0);
-  done = λ phi by v l. let e : v ≡ 0 = omega arith in let same = ap phi e in at-replicate 128 v ∙ omega (arith, ints, same);
-  bounds = λ v j l m. subst (λ (z : ℤ). unsigned_abs z ≤ j * 2 ^ 57) (sym (at-replicate 128 v)) (omega arith);
-  rest = λ v l. at-replicate 128 v;
-}
-
 -- how great the number of the next word may be
 number_small : (k v j : ℕ) (gains flux : List ℤ) (x : ℤ) → 2 ≤ k → 1 ≤ v → v < k ^ j → x ≡ at flux (v / k) -ℤ at gains v → unsigned_abs (at gains v) ≤ 2 ^ 57
     → ((u i : ℕ) → u < v → u < k ^ i → unsigned_abs (at flux u) ≤ i * 2 ^ 57) → unsigned_abs x ≤ j * 2 ^ 57
 number_small k v zero gains flux x states some l is small bounds = let one = pow-zero k in absurd (omega arith)
 number_small k v (suc i) gains flux x states some l is small bounds =
     let before = bounds (v / k) i (div-lt_self some states) (div_below v k (k ^ i) (omega arith) (omega (arith, l, pow-suc k i))) in
-    omega (arith, abs-sub (at flux (v / k)) (at gains v), ap unsigned_abs is, before, small)
+    omega (arith, ints, is, before, small)
 
 -- the number of the next word is that of its letters but for the last less what the window adds between them
 pub AreNumbers-next : (k n v place : ℕ) (gains flux : List ℤ) (x : ℤ) → 2 ≤ k → 1 ≤ v → v < k ^ n → v < 128 → place ≡ v → unsigned_abs (at gains v) ≤ 2 ^ 57 → x ≡ at flux (v / k) -ℤ at gains v

@@ -1,8 +1,7 @@
 -- The search goes on: which rules are still to come.
-use Rattle.std.proofs.Common.{◌≡◌, ◌≢◌, ℕ, ◌+◌, ◌-◌, ◌*◌, ◌^◌, ◌<◌, ◌≤◌, ◌↔◌, List, length, slice_index, set, Option, Some, None, IfSome, sym, ap, ap₂, ◌∙◌, subst, arith, ⊎_elim, add-mul, one-mul, mul_assoc, mul_comm, pow-suc, MatchOption}
-use Rattle.word_image.proofs.Common.{one-le-pow, mul-le, cases_eq, LocalRule, rule_from_parts}
+use Rattle.std.proofs.Common.{◌≡◌, ◌≢◌, ℕ, ◌+◌, ◌-◌, ◌*◌, ◌^◌, ◌<◌, ◌≤◌, ◌↔◌, List, length, slice_index, set, Option, Some, None, IfSome, sym, ap, ap₂, ◌∙◌, subst, arith, add-mul, one-mul, pow-suc, MatchOption}
+use Rattle.word_image.proofs.Common.{one-le-pow, mul-le, at-set, LocalRule, rule_from_parts}
 use Rattle.std.proofs.lemmas.Nat.{pow-add}
-use Rattle.std.proofs.lemmas.List.{get_or-set_same, get_or-set_other}
 use Rattle.rule_lists.specs.Ranks.{IsOrder, rank_of_first, rank}
 use Rattle.rule_lists.specs.Tables.{IsTable, HasLetters, IsPast, IsFurther, how_far}
 use Rattle.std.proofs.lemmas.List.{ext_get_or}
@@ -20,10 +19,7 @@ IsTable-shape {k} {m} {q} h v l =
 
 -- a table stays one with another letter
 pub IsTable-set : (k size : ℕ) (t : List ℕ) (w a : ℕ) → IsTable k size t → a < k → w < length t → IsTable k size (set t w a)
-IsTable-set k size t w a h letter within v l =
-    ⊎_elim (λ e. let at : slice_index (set t w a) v ≡ a = ap (slice_index (set t w a)) e ∙ get_or-set_same t w a 0 within in omega (arith, at))
-    (λ other. let at : slice_index (set t w a) v ≡ slice_index t v = get_or-set_other t w v a 0 other in omega (arith, at, h v l))
-    (cases_eq v w)
+IsTable-set k size t w a h letter within v l = at-set (λ _ b. b < k) t w 0 a within v (λ _. h v l) letter
 
 -- the next window gets the least letter
 pub IsOn-letter : {property : Property} {k m : ℕ} {begin : List ℕ} {order old : List ℕ} (n : ℕ) → IsOrder (k ^ m) order → IsTable k (k ^ m) old → 0 < k → n < k ^ m → k ^ m ≤ length old
@@ -42,9 +38,7 @@ IsOn-letter {property} {k} {m} {begin} {order} {old} n h table some below long =
           );
       further =
           let power : k ^ (k ^ m - n) ≡ k ^ (k ^ m - (n + 1)) * k = ap (λ e. k ^ e) (omega arith) ∙ pow-suc k (k ^ m - (n + 1)) in
-          let whole : rank_of_first k order (set old (slice_index order n) 0) (n + 1) ≡ rank_of_first k order old n * k = omega (arith, last) in
-          let same : rank_of_first k order old n * k ^ (k ^ m - n) ≡ rank_of_first k order (set old (slice_index order n) 0) (n + 1) * k ^ (k ^ m - (n + 1)) =
-          ap (λ p. rank_of_first k order old n * p) (power ∙ mul_comm (k ^ (k ^ m - (n + 1))) k) ∙ sym (mul_assoc (rank_of_first k order old n) k (k ^ (k ^ m - (n + 1)))) ∙ ap (λ x. x * k ^ (k ^ m - (n + 1))) (sym whole) in
+          let same : rank_of_first k order old n * k ^ (k ^ m - n) ≡ rank_of_first k order (set old (slice_index order n) 0) (n + 1) * k ^ (k ^ m - (n + 1)) = rw (power, last) (omega arith) in
           omega (arith, ap (λ x. x * (k ^ m + 1)) same);
     }
 
@@ -53,8 +47,7 @@ IsFurther-next : (k size : ℕ) (order old new : List ℕ) (n i : ℕ) → 0 < k
 IsFurther-next k size order old new n i some within less next =
     let rest : ℕ = k ^ (size - n) in
     let power : k ^ (size - i) ≡ k ^ (n - i) * rest = ap (λ e. k ^ e) (omega arith) ∙ pow-add k (n - i) (size - n) in
-    let all : rank_of_first k order new i * k ^ (size - i) ≡ (rank_of_first k order old n + 1) * rest =
-    ap (λ p. rank_of_first k order new i * p) power ∙ sym (mul_assoc (rank_of_first k order new i) (k ^ (n - i)) rest) ∙ ap (λ x. x * rest) next in
+    let all : rank_of_first k order new i * k ^ (size - i) ≡ (rank_of_first k order old n + 1) * rest = rw power (omega (arith, ap (λ x. x * rest) next)) in
     let more : rank_of_first k order old n * rest + 1 ≤ rank_of_first k order new i * k ^ (size - i) =
     omega (arith, all, add-mul (rank_of_first k order old n) 1 rest, one-mul rest, one-le-pow (size - n) k some) in
     let grows = mul-le (rank_of_first k order old n * rest + 1) (size + 1) (rank_of_first k order new i * k ^ (size - i)) (size + 1) more (omega arith) in
@@ -136,7 +129,7 @@ pub IsFirst-filled : (property : Property) (k m : ℕ) (begin : List ℕ) (order
     → ((q : LocalRule) → IsListed property k m begin q → (From q ↔ IsPast k order table next q.table)) → IsFirst property k m begin order From r
 IsFirst-filled property k m begin order table n next From r h is filled same =
     let here : (q : LocalRule) → IsListed property k m begin q → (From q ↔ (rank_of_first k order table n ≤ rank_of_first k order q.table n)) = λ q listed. subst (λ o. From q ↔ IsPast k order table o q.table) is (same q listed) in
-    let equal : rank_of_first k order r.table n ≡ rank_of_first k order table n = rank-same k (k ^ m) order r.table table n h (omega (arith, filled.full)) filled.letters in
+    let equal : rank_of_first k order r.table n ≡ rank_of_first k order table n = rank-same k order r.table table n (λ i l. filled.letters _ (h.windows i (omega (arith, l, filled.full)))) in
     let whole : (t : List ℕ) → rank k order t ≡ rank_of_first k order t n = λ t. ap (rank_of_first k order t) (h.long ∙ sym filled.full) in
     record {
       listed = filled.listed;
@@ -158,7 +151,7 @@ first_of_same property k m begin order (Some r) From To same first = record {
 pub past_rank : (k m : ℕ) (order letters new : List ℕ) (next : Option ℕ) (n : ℕ) (r q : LocalRule) → IsOrder (k ^ m) order → n ≡ k ^ m → ((v : ℕ) → v < k ^ m → slice_index letters v ≡ slice_index r.table v)
     → ((rank_of_first k order letters n < rank_of_first k order q.table n) ↔ IsPast k order new next q.table) → IsPast k order new next q.table ↔ (rank k order r.table < rank k order q.table)
 past_rank k m order letters new next n r q h full same past =
-    let own : rank_of_first k order letters n ≡ rank_of_first k order r.table n = rank-same k (k ^ m) order letters r.table n h (omega arith) same in
+    let own : rank_of_first k order letters n ≡ rank_of_first k order r.table n = rank-same k order letters r.table n (λ i l. same _ (h.windows i (omega arith))) in
     let whole : (t : List ℕ) → rank k order t ≡ rank_of_first k order t n = λ t. ap (rank_of_first k order t) (h.long ∙ sym full) in (
       (λ l. omega (arith, past.1 l, own, whole q.table, whole r.table)),
       (λ l. past.0 (omega (arith, l, own, whole q.table, whole r.table))),

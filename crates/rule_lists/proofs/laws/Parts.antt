@@ -1,6 +1,6 @@
 -- The parts of a list, by the letter at one more window.
-use Rattle.std.proofs.Common.{◌≡◌, ◌≢◌, ℕ, ◌^◌, ◌<◌, ◌≤◌, ◌↔◌, List, length, slice_index, set, sym, ap, ◌∙◌, arith, ⊎_elim}
-use Rattle.word_image.proofs.Common.{cases_eq, LocalRule}
+use Rattle.std.proofs.Common.{◌≡◌, ◌≢◌, ℕ, ◌^◌, ◌<◌, ◌≤◌, ◌↔◌, List, length, slice_index, set, refl, sym, ap, ◌∙◌, arith}
+use Rattle.word_image.proofs.Common.{at-set, LocalRule}
 use Rattle.std.proofs.lemmas.List.{get_or-set_same, get_or-set_other}
 use Rattle.rule_lists.specs.Tables.{HasLetters}
 use Rattle.rule_lists.specs.Listed.{IsListed}
@@ -22,13 +22,7 @@ HasLetters-unset k size begin t w a open_ has v l fixed =
 
 -- a table has those letters and the one that it has at the window
 HasLetters-set : (k size : ℕ) (begin t : List ℕ) (w : ℕ) → w < length begin → HasLetters k size begin t → HasLetters k size (set begin w (slice_index t w)) t
-HasLetters-set k size begin t w room has v l fixed =
-    ⊎_elim
-    (λ e. ap (slice_index t) e ∙ sym (ap (slice_index (set begin w (slice_index t w))) e ∙ get_or-set_same begin w (slice_index t w) 0 room))
-    (λ other.
-    let same : slice_index (set begin w (slice_index t w)) v ≡ slice_index begin v = get_or-set_other begin w v (slice_index t w) 0 other in
-    has v l (omega (arith, same, fixed)) ∙ sym same)
-    (cases_eq v w)
+HasLetters-set k size begin t w room has v l = at-set (λ u a. a < k → slice_index t u ≡ a) begin w 0 (slice_index t w) room v (λ _. has v l) (λ _. refl)
 
 -- a rule is listed exactly where it is in a part
 pub IsListed-parts : (property : Property) (k m : ℕ) (begin : List ℕ) (w : ℕ) (r : LocalRule) → w < k ^ m → w < length begin → k ≤ slice_index begin w

@@ -1,34 +1,26 @@
-use Rattle.std.proofs.Common.{◌≡◌, ℕ, ◌+◌, ◌-◌, ◌^◌, ◌≤◌, refl, ap, ◌∙◌, arith}
-use Rattle.word_image.proofs.Common.{LocalRule, IsRule}
+use Rattle.std.proofs.Common.{◌≡◌, ◌+◌, ◌-◌, ◌≤◌, refl, ◌∙◌, arith}
 use Rattle.kept_sums.specs.Rows.{at}
 use Rattle.kept_sums.specs.Fluxes.{IsFlowBy}
 use Rattle.kept_sums.proofs.laws.Flows.{IsFluxOf-short_rings, IsKept-flux}
-use Rattle.kept_sums.proofs.laws.Windows.{windows-most, IsFlowBy-flux, IsFluxOf-IsFlowBy, IsFlowBy-less}
+use Rattle.kept_sums.proofs.laws.Windows.{windows-most, IsFlowBy-flux, IsFlowBy-less}
 use Rattle.kept_sums.proofs.fluxes.flux.Goals as goal
-
--- there are few windows
-few_windows : {r : LocalRule} → IsRule r → (range : ℕ) → 1 ≤ range → r.states ^ range ≤ 16
-    → r.states ^ (r.width + range - 2 + 1) ≤ 256
-few_windows {r} rule range some few =
-    let letters : r.width + range - 2 + 1 ≡ r.width + range - 1 = omega (arith, rule.shape.least_width) in
-    omega (arith, windows-most rule range few, ap (λ n. r.states ^ n) letters)
 
 pub numbers-flux-requires-clause-few : goal.numbers-flux-requires-clause-few
 numbers-flux-requires-clause-few c =
     rw (c.from-k.ensures, c.k.ensures.states, c.m.ensures.width)
-    (few_windows c.m.ensures.rule c.args.range c.requires.some c.requires.few)
+    (windows-most c.m.ensures.rule c.args.range (c.args.rule.now.width + c.args.range - 2 + 1) (omega (arith, c.m.ensures.rule.shape.least_width, c.requires.some)) c.requires.few)
 
 pub flow_by-requires-clause-few : goal.flow_by-requires-clause-few
 flow_by-requires-clause-few c =
     rw (c.from-k.ensures, c.k.ensures.states, c.m.ensures.width)
-    (few_windows c.m.ensures.rule c.args.range c.requires.some c.requires.few)
+    (windows-most c.m.ensures.rule c.args.range (c.args.rule.now.width + c.args.range - 2 + 1) (omega (arith, c.m.ensures.rule.shape.least_width, c.requires.some)) c.requires.few)
 
 pub returns-then-flow_by-clause-flux : goal.returns-then-flow_by-clause-flux
 returns-then-flow_by-clause-flux c =
     let base : c.from-k.result ≡ c.args.rule.now.states = c.from-k.ensures ∙ c.k.ensures.states in
     let by = rw (base, c.m.ensures.width) at (c.flow_by.ensures.0 c.if-flow_by.true) in
     record {
-      flux = IsFluxOf-IsFlowBy c.m.ensures.rule c.requires.some c.gains-gains.ensures.windows by;
+      flux = (IsFlowBy-flux c.m.ensures.rule c.requires.some c.gains-gains.ensures.windows).1 by;
       first = c.numbers-flux.ensures.first;
       ends = rw (base, c.m.ensures.width) at c.numbers-flux.ensures.ends;
     }
@@ -44,11 +36,10 @@ returns-else-flow_by-clause-kept c = (
   λ yes. absurd (cc),
   λ kept.
       let rule = c.m.ensures.rule in
-      let states = rule.shape.least_states in
       let flux = IsFluxOf-short_rings rule c.args.range (at c.args.weights.now) c.requires.some (λ p ring _. kept p ring) in
       let by : IsFlowBy c.from-k.result (c.m.result + c.args.range - 2) (at c.gains-gains.result) flux.0 =
       rw (c.from-k.ensures, c.k.ensures.states, c.m.ensures.width)
-      (IsFlowBy-flux rule c.requires.some c.gains-gains.ensures.windows flux.1) in
+      ((IsFlowBy-flux rule c.requires.some c.gains-gains.ensures.windows).0 flux.1) in
       let some : 1 ≤ c.from-k.result = omega (arith, c.from-k.ensures, c.k.ensures.states) in
       let yes = c.flow_by.ensures.1 (IsFlowBy-less (flux.0 0) some (c.numbers-flux.ensures.numbers flux.0 by) by) in
       absurd (cc),

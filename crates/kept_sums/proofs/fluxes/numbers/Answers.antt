@@ -1,13 +1,19 @@
-use Rattle.std.proofs.Common.{ℕ, ◌*◌, ◌/◌, ◌^◌, ◌<◌, ◌≤◌, ℤ, ◌-ℤ◌, refl, sym, ap₂, subst, ◌∙◌, ⊎_elim, arith, unsigned_abs}
+use Rattle.std.proofs.Common.{◌≡◌, ℕ, ◌/◌, ◌^◌, ◌<◌, ◌≤◌, ◌-ℤ◌, refl, ap, ap₂, ◌∙◌, ⊎_elim, arith, unsigned_abs}
 use Rattle.word_image.proofs.Common.{one-le-pow, pow-zero, div-lt_self, cases_lt, ints}
 use Rattle.kept_sums.specs.Rows.{at}
-use Rattle.kept_sums.proofs.Casts.{fits-sub, back-sub}
-use Rattle.kept_sums.proofs.laws.Windows.{words-half, AreNumbers-zeros, AreNumbers-next}
+use Rattle.kept_sums.proofs.Casts.{back-sub}
+use Rattle.kept_sums.proofs.laws.Zeros.{at-replicate}
+use Rattle.kept_sums.proofs.laws.Windows.{words-half, AreNumbers-next}
 use Rattle.kept_sums.proofs.fluxes.numbers.Goals.{After-from-in-loop-word-2}
 use Rattle.kept_sums.proofs.fluxes.numbers.Goals as goal
 
 pub loop-word-init : goal.loop-word-init
-loop-word-init c = AreNumbers-zeros c.args.k c.args.letters c.args.gains.now
+loop-word-init c = record {
+  many = refl;
+  done = λ phi by v l. let e : v ≡ 0 = omega arith in rw (at-replicate 128 v) (omega (arith, ints, ap phi e));
+  bounds = λ v j l m. rw (at-replicate 128 v) (omega arith);
+  rest = λ v l. at-replicate 128 v;
+}
 
 -- both numbers are small
 sizes : (c : After-from-in-loop-word-2) → (unsigned_abs (at c.loop-word.flux c.from-in-loop-word.result) ≤ 2 ^ 60)
@@ -25,8 +31,7 @@ sizes c =
 pub overflow_sub-flux : goal.overflow_sub-flux
 overflow_sub-flux c =
     let both = sizes (goal.at.overflow_sub-flux c).After-from-in-loop-word-2 in
-    fits-sub (at c.loop-word.flux c.from-in-loop-word.result) (at c.args.gains.now c.from-in-loop-word-2.result)
-    both.0 both.1
+    omega (arith, ints, both.0, both.1)
 
 pub loop-word-preserved : goal.loop-word-preserved
 loop-word-preserved c =
@@ -45,10 +50,10 @@ loop-word-preserved c =
 pub returns-clause-bounds : goal.returns-clause-bounds
 returns-clause-bounds c = λ v l.
     let all = c.pow-word-end.ensures ∙ ap₂ (λ (x y : ℕ). x ^ y) refl c.from.ensures in
-    let some = one-le-pow c.args.letters c.args.k (let states = c.requires.states in omega arith) in
+    let some = one-le-pow c.args.letters c.args.k (omega arith) in
     ⊎_elim
     (λ (done : v < c.loop-word.word). let small = c.loop-word.invariant.bounds v c.args.letters done (omega arith) in omega arith)
-    (λ (rest : c.loop-word.word ≤ v). subst (λ (z : ℤ). unsigned_abs z ≤ 7 * 2 ^ 57) (sym (c.loop-word.invariant.rest v rest)) (omega arith))
+    (λ (rest : c.loop-word.word ≤ v). omega (arith, ints, c.loop-word.invariant.rest v rest))
     (cases_lt v c.loop-word.word)
 
 pub returns-clause-first : goal.returns-clause-first
@@ -56,6 +61,6 @@ returns-clause-first c = omega (arith, ints, c.loop-word.invariant.bounds 0 0 (o
 
 pub returns-clause-ends : goal.returns-clause-ends
 returns-clause-ends c = λ v from l.
-    let some = one-le-pow c.args.letters c.args.k (let states = c.requires.states in omega arith) in
+    let some = one-le-pow c.args.letters c.args.k (omega arith) in
     let all = c.pow-word-end.ensures ∙ ap₂ (λ (x y : ℕ). x ^ y) refl c.from.ensures in
     c.loop-word.invariant.rest v (omega arith)

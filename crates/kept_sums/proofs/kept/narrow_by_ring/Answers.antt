@@ -1,8 +1,8 @@
 use Rattle.std.proofs.Common.{List, ℕ, take, arith}
 use Rattle.std.proofs.lemmas.List.{length-take}
-use Rattle.kept_sums.specs.Spans.{entry, FitNarrowed}
+use Rattle.word_image.proofs.Common.{ints}
+use Rattle.kept_sums.specs.Spans.{FitNarrowed}
 use Rattle.kept_sums.specs.Stages.{IsCondition}
-use Rattle.kept_sums.proofs.laws.Sums.{gain_at-swap}
 use Rattle.kept_sums.proofs.laws.AfterRings.{IsCondition-swap, IsAfterRing-narrowed}
 use Rattle.kept_sums.proofs.laws.Bounds.{FitNarrowed-condition}
 use Rattle.kept_sums.proofs.kept.narrow_by_ring.Goals.{After-gain}
@@ -30,5 +30,5 @@ pub returns-else-gain-gt0 : goal.returns-else-gain-gt0
 returns-else-gain-gt0 c =
     rw (c.from-2.ensures, c.from-3.ensures, ← c.from.ensures)
     (IsAfterRing-narrowed c.words.ensures.rule c.from.result c.args.letters.now c.requires.stage c.requires.few (IsCondition-swap c.words.ensures.condition) c.in-Some.ensures.last.within
-    (λ i l h. gain_at-swap (entry c.args.sums.now.rows i) _ _ (c.in-Some.ensures.last.last i l h))
+    (λ i l h. omega (arith, ints, c.in-Some.ensures.last.last i l h))
     c.narrow-else-gain-gt0.ensures.narrowed c.narrow-else-gain-gt0.ensures.small (omega arith) (omega arith) (rw c.from.ensures c.requires.ring))

@@ -1,15 +1,13 @@
 use Rattle.std.proofs.Common.{◌≡◌, ℕ, ◌^◌, ◌<◌, ◌≤◌, take, below_more, sym, ap, ap₂, subst, ◌∙◌, arith}
-use Rattle.word_image.proofs.Common.{pow-le-pow_left, pow-le-pow_right, value, word_of, IsRing, value-below, length-word_of, IsWord-word_of, word_of-value}
+use Rattle.word_image.proofs.Common.{value, word_of, IsRing, value-below, length-word_of, IsWord-word_of, word_of-value}
 use Rattle.kept_sums.specs.Stages.{RowsKeep}
+use Rattle.kept_sums.proofs.laws.Ranges.{pow-le-pow}
 use Rattle.kept_sums.proofs.kept.narrowed_by_rings.Goals.{After-pow-number-end, After-word_with-letters}
 use Rattle.kept_sums.proofs.kept.narrowed_by_rings.Goals as goal
 
 pub pow-number-end-requires : goal.pow-number-end-requires
 pow-number-end-requires c =
-    let letters = c.requires.most in
-    let most = c.k-k.ensures.rule.shape.most_states in
-    let base : c.args.rule.now.states ^ c.args.count ≤ 16 ^ c.args.count = pow-le-pow_left most c.args.count in
-    let exponent : 16 ^ c.args.count ≤ 16 ^ 15 = pow-le-pow_right (omega arith) {i = c.args.count} {j = 15} letters in
+    let most = pow-le-pow c.args.rule.now.states c.args.count 16 15 c.k-k.ensures.rule.shape.most_states c.requires.most (omega arith) in
     rw (c.from.ensures, c.from-2.ensures, c.k-k.ensures.states) (omega arith)
 
 -- the word of a number is a ring

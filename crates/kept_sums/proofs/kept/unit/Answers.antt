@@ -1,7 +1,10 @@
-use Rattle.std.proofs.Common.{replicate, set, pos, sym, subst}
-use Rattle.kept_sums.specs.Rows.{IsUnit}
-use Rattle.kept_sums.proofs.laws.Parts.{IsUnit-set}
+use Rattle.std.proofs.Common.{replicate, get_or-set_other, get_or-set_same, pos, ◌∙◌, arith}
+use Rattle.word_image.proofs.Common.{length-replicate}
+use Rattle.kept_sums.proofs.laws.Zeros.{at-replicate}
 use Rattle.kept_sums.proofs.kept.unit.Goals as goal
 
 pub returns : goal.returns
-returns c = subst (λ n. IsUnit c.args.place (set (replicate 16 (pos 0)) n (pos 1))) (sym c.from.ensures) (IsUnit-set c.args.place c.requires)
+returns c = rw c.from.ensures (record {
+  one = get_or-set_same (replicate 16 (pos 0)) c.args.place (pos 1) (pos 0) (omega (arith, c.requires, length-replicate 16 (pos 0)));
+  others = λ a other. get_or-set_other (replicate 16 (pos 0)) c.args.place a (pos 1) (pos 0) other ∙ at-replicate 16 a;
+})

@@ -1,13 +1,12 @@
 use Rattle.std.proofs.Common.{◌≡◌, ℕ, ◌^◌, ◌<◌, ◌≤◌, ap₂, ◌∙◌, ⊎_elim, arith}
-use Rattle.word_image.proofs.Common.{pow-le-pow_left, pow-le-pow_right, cases_lt, nat_tests}
-use Rattle.kept_sums.proofs.laws.Ranges.{few}
+use Rattle.word_image.proofs.Common.{cases_lt, nat_tests}
+use Rattle.kept_sums.proofs.laws.Ranges.{pow-le-pow, few}
 use Rattle.kept_sums.proofs.ranges.check_range.Goals.{then-range-gt4-via-then-range-gt4, then-range-gt4-via-else-range-gt4+then-pow-gt16}
 use Rattle.kept_sums.proofs.ranges.check_range.Goals as goal
 
 pub pow-requires : goal.pow-requires
 pow-requires c =
-    let base : c.args.k ^ c.args.range ≤ 16 ^ c.args.range = pow-le-pow_left c.requires.most c.args.range in
-    let exponent : 16 ^ c.args.range ≤ 16 ^ 4 = pow-le-pow_right (omega arith) {i = c.args.range} {j = 4} (omega arith) in
+    let most = pow-le-pow c.args.k c.args.range 16 4 c.requires.most (omega arith) (omega arith) in
     rw (c.from.ensures, c.from-else-range-gt4.ensures) (omega arith)
 
 pub returns-then-range-gt4 : goal.returns-then-range-gt4

@@ -1,12 +1,12 @@
 use Rattle.std.proofs.Common.{◌≡◌, ℕ, suc, ◌+◌, ◌-◌, ◌/◌, ◌%◌, ◌^◌, ◌<◌, ◌≤◌, List, [], ◌∷◌, ◌++◌, length, take, set, sym, ap, ap₂, ◌∙◌, append_assoc, mod-lt, mul-div_cancel, pow-suc, arith}
-use Rattle.word_image.proofs.Common.{one-le-pow, pow-le-pow_left, pow-le-pow_right, take_more_set, word_of}
+use Rattle.word_image.proofs.Common.{one-le-pow, take_more_set, word_of}
 use Rattle.std.proofs.lemmas.List.{length-set}
+use Rattle.kept_sums.proofs.laws.Ranges.{pow-le-pow}
 use Rattle.kept_sums.proofs.rings.word_with.Goals as goal
 
 pub pow-power-requires : goal.pow-power-requires
 pow-power-requires c =
-    let base : c.args.k ^ c.args.count ≤ 16 ^ c.args.count = pow-le-pow_left c.requires.few c.args.count in
-    let exponent : 16 ^ c.args.count ≤ 16 ^ 15 = pow-le-pow_right (omega arith) {i = c.args.count} {j = 15} c.requires.short in
+    let most = pow-le-pow c.args.k c.args.count 16 15 c.requires.few c.requires.short (omega arith) in
     rw (c.from.ensures, c.from-base.ensures) (omega arith)
 
 -- the next lower power

@@ -1,9 +1,9 @@
 use Rattle.std.proofs.Common.{◌≡◌, ℕ, List, length, take, sym, ap, ap₂, subst₂, ◌∙◌, arith}
-use Rattle.word_image.proofs.Common.{IsRing}
+use Rattle.word_image.proofs.Common.{IsRing, ring_image}
 use Rattle.kept_sums.specs.Sums.{blocks}
 use Rattle.kept_sums.specs.Stages.{IsCondition}
 use Rattle.kept_sums.proofs.laws.Densities.{length-ring_image}
-use Rattle.kept_sums.proofs.laws.AfterRings.{IsRing-ring_image, after_of, before_of, IsCondition-ring}
+use Rattle.kept_sums.proofs.laws.AfterRings.{IsRing-ring_image, IsCondition-ring}
 use Rattle.kept_sums.proofs.rings.words.Goals as goal
 
 pub blocks-after-requires-clause-ring : goal.blocks-after-requires-clause-ring
@@ -16,7 +16,7 @@ returns-clause-condition c =
     let range = c.args.range in
     let image = c.image_letters-image.ensures in
     let long : length p ≡ length (take (length p) c.image_letters-image.result) = sym (ap length image ∙ length-ring_image r p) in
-    let before : take (length p) c.blocks-before.result ≡ before_of r range p = c.blocks-before.ensures ∙ ap (λ k. blocks k range p) c.k.ensures.states in
-    let after : take (length p) c.blocks-after.result ≡ after_of r range p =
+    let before : take (length p) c.blocks-before.result ≡ blocks r.states range p = c.blocks-before.ensures ∙ ap (λ k. blocks k range p) c.k.ensures.states in
+    let after : take (length p) c.blocks-after.result ≡ blocks r.states range (ring_image r p) =
     ap (λ n. take n c.blocks-after.result) long ∙ c.blocks-after.ensures ∙ ap₂ (λ (k : ℕ) (x : List ℕ). blocks k range x) c.k-2.ensures.states image in
     subst₂ (IsCondition r range p) (sym after) (sym before) (IsCondition-ring c.k.ensures.rule range p c.requires.few (omega arith) c.requires.ring)

@@ -1,9 +1,8 @@
-use Rattle.std.proofs.Common.{◌≡◌, ℕ, ◌/◌, ◌%◌, ℤ, pos, ◌+ℤ◌, ◌-ℤ◌, ◌*ℤ◌, sym, ap, ◌∙◌, arith}
-use Rattle.std.proofs.Math.IntN.{pos-*ℤ-pos, *ℤ_comm}
+use Rattle.std.proofs.Common.{◌≡◌, ℕ, ◌/◌, ◌%◌, ℤ, pos, ◌+ℤ◌, ◌-ℤ◌, ◌*ℤ◌, ap, ◌∙◌, arith}
 use Rattle.word_image.proofs.Common.{div-add-mod, ints}
 use Rattle.std.proofs.lemmas.Nat.Gcd.{IsGcd-from_zero, IsGcd-from_mod}
 use Rattle.kept_sums.specs.Rows.{IsCombinedOf}
-use Rattle.kept_sums.proofs.laws.Integers.{mul-add, mul-assoc, sub-mul}
+use Rattle.kept_sums.proofs.laws.Integers.{mul-add, mul-sub, mul-assoc}
 use Rattle.kept_sums.proofs.rows.gcd.Goals as goal
 
 -- a combination of the second number and the remainder is one of both
@@ -12,14 +11,12 @@ stepped one other g combined =
     let x : ℤ = combined.first in
     let y : ℤ = combined.second in
     let q : ℕ = one / other in
-    let whole : pos one ≡ (pos other *ℤ pos q) +ℤ pos (one % other) = let e = div-add-mod one other in let p = pos-*ℤ-pos other q in omega (arith, ints, e, p) in
-    let spread : y *ℤ pos one ≡ (y *ℤ (pos other *ℤ pos q)) +ℤ (y *ℤ pos (one % other)) = ap (λ (z : ℤ). y *ℤ z) whole ∙ mul-add y (pos other *ℤ pos q) (pos (one % other)) in
-    let turned : y *ℤ (pos other *ℤ pos q) ≡ (y *ℤ pos q) *ℤ pos other = ap (λ (z : ℤ). y *ℤ z) (*ℤ_comm (pos other) (pos q)) ∙ sym (mul-assoc y (pos q) (pos other)) in
-    let split : (x -ℤ (y *ℤ pos q)) *ℤ pos other ≡ (x *ℤ pos other) -ℤ ((y *ℤ pos q) *ℤ pos other) = sub-mul x (y *ℤ pos q) (pos other) in
+    let whole : pos one ≡ (pos other *ℤ pos q) +ℤ pos (one % other) = omega (arith, ints, div-add-mod one other) in
+    let spread = ap (λ (z : ℤ). y *ℤ z) whole ∙ mul-add y (pos other *ℤ pos q) (pos (one % other)) in
     record {
       first = y;
       second = x -ℤ (y *ℤ pos q);
-      is = let is = combined.is in omega (arith, ints, is, spread, turned, split);
+      is = omega (arith, ints, combined.is, spread, mul-sub (pos other) x (y *ℤ pos q), mul-assoc y (pos q) (pos other));
     }
 
 pub loop-other-preserved : goal.loop-other-preserved

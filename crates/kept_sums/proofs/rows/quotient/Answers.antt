@@ -1,8 +1,7 @@
-use Rattle.std.proofs.Common.{◌≡◌, ◌+◌, ◌*◌, ◌/◌, ◌^◌, ◌<◌, ◌≤◌, ℤ, pos, ◌-ℤ◌, ◌*ℤ◌, neg_ℤ, to_z, of_z, w64, ap, ◌∙◌, arith, unsigned_abs}
+use Rattle.std.proofs.Common.{◌≡◌, ◌+◌, ◌*◌, ◌/◌, ◌^◌, ◌<◌, ◌≤◌, pos, ◌-ℤ◌, to_z, of_z, w64, ap, ◌∙◌, arith, unsigned_abs}
 use Rattle.std.proofs.lemmas.Nat.{div_below}
-use Rattle.std.proofs.Math.IntN.{pos-*ℤ-pos}
 use Rattle.word_image.proofs.Common.{mul-div_cancel', ints}
-use Rattle.kept_sums.proofs.laws.Integers.{mul-neg}
+use Rattle.kept_sums.proofs.laws.Integers.{mul-sub}
 use Rattle.kept_sums.proofs.rows.quotient.Goals.{After-unsigned_abs}
 use Rattle.kept_sums.proofs.rows.quotient.Goals as goal
 
@@ -20,8 +19,8 @@ returns-then-number-lt0-clause-quotient c =
     let d = c.args.divisor in
     let q = c.unsigned_abs.result / d in
     let size = size_of (goal.at.returns-then-number-lt0-clause-quotient c).After-unsigned_abs in
-    let cast : to_z w64 (of_z w64 (pos 0 -ℤ to_z w64 q)) ≡ neg_ℤ (pos q) = omega (arith, ints) in
-    ap (λ (z : ℤ). pos d *ℤ z) cast ∙ mul-neg (pos d) (pos q) ∙ ap neg_ℤ (pos-*ℤ-pos d q) ∙ omega (arith, ints)
+    let cast : to_z w64 (of_z w64 (pos 0 -ℤ to_z w64 q)) ≡ pos 0 -ℤ pos q = omega (arith, ints) in
+    rw cast (omega (arith, ints, mul-sub (pos d) (pos 0) (pos q)))
 
 pub returns-else-number-lt0-clause-quotient : goal.returns-else-number-lt0-clause-quotient
 returns-else-number-lt0-clause-quotient c =
@@ -29,12 +28,10 @@ returns-else-number-lt0-clause-quotient c =
     let q = c.unsigned_abs.result / d in
     let size = size_of (goal.at.returns-else-number-lt0-clause-quotient c).After-unsigned_abs in
     let cast : to_z w64 q ≡ pos q = omega (arith, ints) in
-    ap (λ (z : ℤ). pos d *ℤ z) cast ∙ pos-*ℤ-pos d q ∙ omega (arith, ints)
+    rw cast (omega (arith, ints))
 
 pub returns-then-number-lt0-clause-small : goal.returns-then-number-lt0-clause-small
-returns-then-number-lt0-clause-small c =
-    omega (arith, ints, (size_of (goal.at.returns-then-number-lt0-clause-small c).After-unsigned_abs).0)
+returns-then-number-lt0-clause-small c = omega (arith, ints, (size_of (goal.at.returns-then-number-lt0-clause-small c).After-unsigned_abs).0)
 
 pub returns-else-number-lt0-clause-small : goal.returns-else-number-lt0-clause-small
-returns-else-number-lt0-clause-small c =
-    omega (arith, ints, (size_of (goal.at.returns-else-number-lt0-clause-small c).After-unsigned_abs).0)
+returns-else-number-lt0-clause-small c = omega (arith, ints, (size_of (goal.at.returns-else-number-lt0-clause-small c).After-unsigned_abs).0)

@@ -1,7 +1,8 @@
-use Rattle.std.proofs.Common.{◌<◌, ◌≤◌, ◌^◌, get_or, ap, arith, unsigned_abs}
-use Rattle.word_image.proofs.Common.{ints}
+use Rattle.std.proofs.Common.{◌<◌, ◌≤◌, ◌^◌, get_or, take, ap, ◌∙◌, arith, unsigned_abs}
+use Rattle.word_image.proofs.Common.{ints, take_more}
+use Rattle.kept_sums.specs.Sums.{sum_at}
 use Rattle.kept_sums.specs.Rows.{at}
-use Rattle.kept_sums.proofs.laws.Sums.{sum_at-take_more}
+use Rattle.kept_sums.proofs.laws.Sums.{sum_at-snoc}
 use Rattle.kept_sums.proofs.rows.total.Goals as goal
 
 pub loop-place-preserved : goal.loop-place-preserved
@@ -13,6 +14,6 @@ loop-place-preserved c =
     let here : get_or places n 0 < 16 = c.requires.places n 0 (omega arith) in
     let small : unsigned_abs (at row c.from.result) ≤ 2 ^ 56 =
     c.requires.small.small c.from.result (omega (arith, here, c.from.ensures)) in
-    let next = sum_at-take_more (at row) places n (omega arith) in
+    let next = ap (sum_at (at row)) (take_more places n 0 (omega arith)) ∙ sum_at-snoc (at row) (take n places) (get_or places n 0) in
     let same = ap (at row) c.from.ensures in
     (omega (arith, ints, sum, most, small, next, same), omega (arith, ints, most, small))

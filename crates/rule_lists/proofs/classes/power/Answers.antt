@@ -1,32 +1,23 @@
-use Rattle.std.proofs.Common.{◌≡◌, ◌≤◌, ◌<◌, ◌^◌, ◌∙◌, ℕ, ap₂, arith}
+use Rattle.std.proofs.Common.{◌≤◌, ◌<◌, ◌^◌, ◌∙◌, ℕ, ap₂, arith}
 use Rattle.word_image.proofs.Common.{one-le-pow, pow-le-pow_right, window_count-le, some_letter}
+use Rattle.rule_lists.proofs.classes.power.Goals.{After-from-2}
 use Rattle.rule_lists.proofs.classes.power.Goals as goal
 
 -- a power of the states, up to the number of windows
-bounds : (k m n i j : ℕ) → i ≡ k → j ≡ n → 0 < k → n ≤ m → k ^ m ≤ 256 → (0 < i ^ j) × (i ^ j ≤ 256)
-bounds k m n i j is at some within few =
-    let e : i ^ j ≡ k ^ n = ap₂ (λ (a b : ℕ). a ^ b) is at in
-    let least : 1 ≤ k ^ n = one-le-pow n k some in
-    let most : k ^ n ≤ k ^ m = pow-le-pow_right some within in
-    (omega arith, omega arith)
+bounds : (c : After-from-2) → (0 < c.from.result ^ c.from-2.result) × (c.from.result ^ c.from-2.result ≤ 256)
+bounds c =
+    let r = c.args.shape.now in
+    let rule = c.k.ensures.rule in
+    let some = some_letter rule in
+    let e = ap₂ (λ (a b : ℕ). a ^ b) (c.from.ensures ∙ c.k.ensures.states) c.from-2.ensures in
+    let most = pow-le-pow_right some {i = c.args.length} {j = r.width} c.requires in
+    (omega (arith, e, one-le-pow c.args.length r.states some), omega (arith, e, most, window_count-le r.states r.width r.offset rule.shape))
 
 pub pow-requires : goal.pow-requires
-pow-requires c =
-    let rule = c.k.ensures.rule in
-    let r = c.args.shape.now in
-    let h = bounds r.states r.width c.args.length c.from.result c.from-2.result (c.from.ensures ∙ c.k.ensures.states) c.from-2.ensures (some_letter rule) c.requires (window_count-le r.states r.width r.offset rule.shape) in
-    omega (arith, h.1)
+pow-requires c = omega (arith, (bounds (goal.at.pow-requires c).After-from-2).1)
 
 pub returns-clause-some : goal.returns-clause-some
-returns-clause-some c =
-    let rule = c.k.ensures.rule in
-    let r = c.args.shape.now in
-    let h = bounds r.states r.width c.args.length c.from.result c.from-2.result (c.from.ensures ∙ c.k.ensures.states) c.from-2.ensures (some_letter rule) c.requires (window_count-le r.states r.width r.offset rule.shape) in
-    omega (arith, h.0, c.pow.ensures)
+returns-clause-some c = omega (arith, (bounds (goal.at.returns-clause-some c).After-from-2).0, c.pow.ensures)
 
 pub returns-clause-few : goal.returns-clause-few
-returns-clause-few c =
-    let rule = c.k.ensures.rule in
-    let r = c.args.shape.now in
-    let h = bounds r.states r.width c.args.length c.from.result c.from-2.result (c.from.ensures ∙ c.k.ensures.states) c.from-2.ensures (some_letter rule) c.requires (window_count-le r.states r.width r.offset rule.shape) in
-    omega (arith, h.1, c.pow.ensures)
+returns-clause-few c = omega (arith, (bounds (goal.at.returns-clause-few c).After-from-2).1, c.pow.ensures)
