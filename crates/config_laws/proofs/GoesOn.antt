@@ -1,6 +1,6 @@
 -- Under a right look-ahead a configuration whose image agrees with another one for long enough can be changed right of that, so that its image agrees with it for ever.
-use Rattle.std.proofs.Common.{◌≡◌, ℕ, zero, suc, ◌+◌, ◌-◌, ◌<◌, [], ◌∷◌, ◌++◌, List, ℤ, pos, ◌+ℤ◌, ◌-ℤ◌, unsigned_abs, refl, sym, ap, ◌∙◌, ⊎_elim, arith, ◌<ℤ◌, ◌≤ℤ◌}
-use Rattle.word_image.proofs.Common.{cases_lt, ints, LocalRule, IsRule, IsRightAhead}
+use Rattle.std.proofs.Common.{◌≡◌, ℕ, zero, suc, ◌+◌, ◌-◌, ◌<◌, ◌≤◌, [], ◌∷◌, ◌++◌, List, ℤ, pos, ◌+ℤ◌, ◌-ℤ◌, unsigned_abs, refl, sym, ap, ◌∙◌, ⊎_elim, arith, ◌<ℤ◌, ◌≤ℤ◌}
+use Rattle.word_image.proofs.Common.{cases_eq, ints, LocalRule, IsRule, IsRightAhead}
 use Rattle.tail_config.proofs.Common.{Config, IsConfig, run, image_of, run-same, same-run, run-push, image_of-window}
 use Rattle.config_laws.proofs.Dense.{Matches}
 use Rattle.config_laws.proofs.Longer.{behind, longer}
@@ -32,21 +32,18 @@ abbrev matched : {r : LocalRule} {n : ℕ} {y : Config} → IsRule r → IsRight
 matched rule ahead hy i h zero = h
 matched rule ahead hy i h (suc t) = (step rule ahead hy i t (matched rule ahead hy i h t)).0
 
--- further on nothing changes up to the node behind a place
-matched-later : {r : LocalRule} {n : ℕ} {y : Config} (rule : IsRule r) (ahead : IsRightAhead r n) (hy : IsConfig r.states y) (i : ℤ) (h : Matches r y (i +ℤ pos 0) (enough r n + 1)) (t e : ℕ) (j : ℤ)
-    → j <ℤ behind r (i +ℤ pos (suc t)) → (matched rule ahead hy i h (t + e)).x j ≡ (matched rule ahead hy i h t).x j
-matched-later rule ahead hy i h t zero j l = let all : t + 0 ≡ t = omega arith in ap (λ a. (matched rule ahead hy i h a).x j) all
-matched-later rule ahead hy i h t (suc e) j l =
-    let all : t + suc e ≡ suc (t + e) = omega arith in
-    ap (λ a. (matched rule ahead hy i h a).x j) all ∙ (step rule ahead hy i (t + e) (matched rule ahead hy i h (t + e))).1 j (omega (arith, ints)) ∙ matched-later rule ahead hy i h t e j l
+-- a sequence that doesn't change from place t on has the number of place t at each later place
+pub steady : (f : ℕ → ℕ) (t : ℕ) → ((u : ℕ) → t ≤ u → f (suc u) ≡ f u) → (n : ℕ) → t ≤ n → f n ≡ f t
+steady f t keeps zero l = let first : 0 ≡ t = omega arith in ap f first
+steady f t keeps (suc n) l = ⊎_elim (λ e. ap f (sym e)) (λ other. keeps n (omega arith) ∙ steady f t keeps n (omega arith)) (cases_eq t (suc n))
 
 -- two of them are equal up to both nodes
 matched-same : {r : LocalRule} {n : ℕ} {y : Config} (rule : IsRule r) (ahead : IsRightAhead r n) (hy : IsConfig r.states y) (i : ℤ) (h : Matches r y (i +ℤ pos 0) (enough r n + 1)) (t u : ℕ) (j : ℤ)
     → j <ℤ behind r (i +ℤ pos (suc t)) → j <ℤ behind r (i +ℤ pos (suc u)) → (matched rule ahead hy i h t).x j ≡ (matched rule ahead hy i h u).x j
 matched-same rule ahead hy i h t u j first second =
-    ⊎_elim (λ l. let all : t + (u - t) ≡ u = omega arith in sym (matched-later rule ahead hy i h t (u - t) j first) ∙ ap (λ a. (matched rule ahead hy i h a).x j) all)
-    (λ l. let all : t ≡ u + (t - u) = omega arith in ap (λ a. (matched rule ahead hy i h a).x j) all ∙ matched-later rule ahead hy i h u (t - u) j second)
-    (cases_lt t u)
+    let at = matched rule ahead hy i h in
+    sym (steady (λ v. (at v).x j) t (λ v l. (step rule ahead hy i v (at v)).1 j (omega (arith, ints))) (t + u) (omega arith))
+    ∙ steady (λ v. (at v).x j) u (λ v l. (step rule ahead hy i v (at v)).1 j (omega (arith, ints))) (t + u) (omega arith)
 
 -- a configuration that agrees with x before place i and m - 1 places more under it, and whose image agrees with y from place i on
 pub record GoesOn (r : LocalRule) (x y : Config) (i : ℤ) : Type 0 where

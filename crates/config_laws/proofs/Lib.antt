@@ -8,7 +8,6 @@ pub mod Dense
 pub mod Longer
 pub mod GoesOn
 pub mod BothSides
-pub mod Branches
 pub mod OpenMaps
 pub mod Endless
 pub mod Onto

@@ -107,7 +107,7 @@ HasTails-finite {x} ((p, left), (q, right)) = (
 IsSurjective-tails : {r : LocalRule} → IsRule r → IsOntoTails r → IsSurjective r
 IsSurjective-tails {r} rule onto w hw =
     let (x, hx, tails, same) = onto (between_zeros w) (IsConfig-written (some_letter rule) (λ j. some_letter rule) (pos 0) w hw) (HasTails-finite (IsFinite-between w)) in
-    preimage_inside rule hx w (ap (λ z. run z (pos 0) (length w)) same ∙ run-written zeros (pos 0) w)
+    preimage_inside rule hx (pos 0) w (ap (λ z. run z (pos 0) (length w)) same ∙ run-written zeros (pos 0) w)
 
 -- a rule is surjective exactly if each configuration that repeats far out is the image of one that does
 pub IsSurjective-repeating : {r : LocalRule} → IsRule r → IsSurjective r ↔ IsOntoTails r
