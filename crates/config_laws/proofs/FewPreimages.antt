@@ -1,5 +1,5 @@
 -- Under a surjective rule no more configurations than there are nodes have one image (Hedlund 1969).
-use Rattle.std.proofs.Common.{◌≡◌, ℕ, zero, suc, ◌+◌, ◌-◌, ◌<◌, ◌≤◌, ◌↔◌, ⊎_elim, List, ℤ, pos, ◌+ℤ◌, ◌-ℤ◌, neg_ℤ, unsigned_abs, sym, ap, ◌∙◌, subst, arith}
+use Rattle.std.proofs.Common.{ℕ, zero, suc, ◌+◌, ◌-◌, ◌<◌, ◌≤◌, ◌↔◌, ⊎_elim, List, ℤ, pos, ◌-ℤ◌, neg_ℤ, unsigned_abs, sym, ap, ◌∙◌, subst, arith}
 use Rattle.word_image.proofs.Common.{cases_eq, ints, LocalRule, IsRule, node_count, IsPreimage, IsSurjective}
 use Rattle.garden_laws.proofs.Injections.{injective-le}
 use Rattle.garden_laws.proofs.CountedPreimages.{counted, count_of}
