@@ -1,21 +1,18 @@
 -- Which verdicts one rule after another has, from those of both.
 use Rattle.std.proofs.Common.{◌≡◌, ℕ, ◌+◌, ◌-◌, ◌≤◌, ◌↔◌, List, length, ℤ, pos, ◌+ℤ◌, ◌-ℤ◌, unsigned_abs, refl, sym, ap, ◌∙◌, subst, arith}
 use Rattle.std.proofs.Math.Path.{fun_ext}
-use Rattle.word_image.proofs.Common.{ints, by_lt_z, LocalRule, IsRule, IsWord, image, IsSurjective, IsConserving, mirrored, IsRule-mirrored, some_letter}
+use Rattle.word_image.proofs.Common.{ints, by_lt_z, LocalRule, IsRule, IsWord, image, IsSurjective, mirrored, IsRule-mirrored, some_letter}
 use Rattle.tail_config.proofs.Common.{Config, IsConfig, run, image_of, zeros, AgreeFarLeft, AgreeFarRight, IsInjective, IsRightClosing, IsLeftClosing, IsOpen, length-run, IsWord-run, image-run, same-run, image_of-window}
 use Rattle.tail_laws.proofs.Common.{IsLeftClosing-mirrored}
 use Rattle.config_laws.specs.Maps.{IsRightClosingMap}
 use Rattle.config_laws.specs.Composed.{IsOneAfter, IsUndoneBy}
 use Rattle.config_laws.proofs.Images.{IsConfig-image}
 use Rattle.config_laws.proofs.Joined.{meeting, meeting-left, meeting-right, IsConfig-meeting, image_of-behind}
-use Rattle.config_laws.proofs.Injective.{IsInjective-everywhere}
-use Rattle.config_laws.proofs.Closing.{IsRightClosing-everywhere}
+use Rattle.config_laws.proofs.Everywhere.{IsInjective-everywhere, IsRightClosing-everywhere, IsSurjective-preinjective_map}
 use Rattle.config_laws.proofs.Flips.{flip, flip-flip, image_of-flip}
-use Rattle.config_laws.proofs.Preinjective.{IsSurjective-preinjective_map}
 use Rattle.config_laws.proofs.Dense.{IsSurjective-everywhere}
 use Rattle.config_laws.proofs.BothSides.{IsRightContinuingMap-closing}
 use Rattle.config_laws.proofs.Inverses.{IsOntoMap-injective}
-use Rattle.config_laws.proofs.RingImages.{IsConserving-undone}
 
 -- the letters are those of the other rule
 over : {k l : ℕ} {x : Config} → k ≡ l → IsConfig k x → IsConfig l x
@@ -142,10 +139,6 @@ IsUndoneBy-turned {r} {s} rule u = record {
       let x = IsOntoMap-injective rule (IsInjective-undone rule u) y (over u.states hy) in
       ap (image_of r) (sym (ap (image_of s) x.2) ∙ u.back x.0 x.1) ∙ x.2;
 }
-
--- two rules that undo each other conserve the same
-pub IsConserving-both_ways : {r s : LocalRule} → IsRule r → IsRule s → IsUndoneBy r s → (weight : ℕ → ℕ) → IsConserving weight r ↔ IsConserving weight s
-IsConserving-both_ways first second u weight = (IsConserving-undone second (IsUndoneBy-turned first u) weight, IsConserving-undone first u weight)
 
 -- what one after the other does with words, it does with configurations
 pub IsOneAfter-words : {r s t : LocalRule} → IsRule r → IsRule s → IsRule t → t.states ≡ r.states → s.states ≡ r.states → t.width ≡ r.width + s.width - 1 → t.offset ≡ r.offset +ℤ s.offset

@@ -1,5 +1,5 @@
 -- Under a surjective rule no more configurations than there are nodes have one image (Hedlund 1969).
-use Rattle.std.proofs.Common.{ℕ, zero, suc, ◌+◌, ◌-◌, ◌<◌, ◌≤◌, ◌↔◌, ⊎_elim, List, ℤ, pos, ◌-ℤ◌, neg_ℤ, unsigned_abs, sym, ap, ◌∙◌, subst, arith}
+use Rattle.std.proofs.Common.{ℕ, zero, suc, ◌+◌, ◌-◌, ◌<◌, ◌≤◌, ⊎_elim, List, ℤ, pos, ◌-ℤ◌, neg_ℤ, unsigned_abs, sym, ap, ◌∙◌, subst, arith}
 use Rattle.word_image.proofs.Common.{cases_eq, ints, LocalRule, IsRule, node_count, IsPreimage, IsSurjective}
 use Rattle.garden_laws.proofs.Injections.{injective-le}
 use Rattle.garden_laws.proofs.CountedPreimages.{counted, count_of}
@@ -7,7 +7,6 @@ use Rattle.garden_laws.proofs.Balance.{count_of-surjective}
 use Rattle.tail_config.proofs.Common.{Config, run, image_of, IsWord-run, same-run, at_run}
 use Rattle.config_laws.specs.Maps.{Differ, AreMany}
 use Rattle.config_laws.proofs.Images.{IsConfig-image, IsPreimage-run}
-use Rattle.config_laws.proofs.Exchange.{IsSurjective-few}
 
 -- what holds of each number below k from some bound on holds of all of them from one bound on
 pub common : (Q : ℕ → ℕ → Type 0) (k : ℕ) → ((a : ℕ) → a < k → (n : ℕ) × ((b : ℕ) → n ≤ b → Q a b)) → (n : ℕ) × ((b : ℕ) → n ≤ b → (a : ℕ) → a < k → Q a b)
@@ -43,7 +42,3 @@ not_many {r} rule every xs many =
     let (d, near) = apart j last i less in
     d.1 (at_run (xs i) (xs j) s (l + (r.width - 1)) (same-run (xs i) (xs j) s s (l + (r.width - 1)) (sym (c.back (z i) (is i)).1 ∙ ap c.at same ∙ (c.back (z j) (is j)).1)) d.0 (omega (arith, ints)) (omega (arith, ints)))) in
     omega (arith, more, count_of-surjective rule every w (IsWord-run (IsConfig-image rule (xs 0)) (s -ℤ r.offset) l))
-
--- a rule is surjective exactly if no more configurations than nodes have one image
-pub IsSurjective-few_to_one : {r : LocalRule} → IsRule r → IsSurjective r ↔ ((xs : ℕ → Config) → ¬ AreMany r (node_count r) xs)
-IsSurjective-few_to_one {r} rule = (not_many rule, IsSurjective-few rule (node_count r))

@@ -3,7 +3,7 @@ use Rattle.std.proofs.Common.{◌≡◌, ℕ, zero, suc, ◌+◌, ◌-◌, ◌<�
 use Rattle.word_image.proofs.Common.{cases_eq, ints, LocalRule, IsRule, IsRightAhead}
 use Rattle.tail_config.proofs.Common.{Config, IsConfig, run, image_of, run-same, same-run, run-push, image_of-window}
 use Rattle.config_laws.proofs.Dense.{Matches}
-use Rattle.config_laws.proofs.Longer.{behind, longer}
+use Rattle.config_laws.proofs.Longer.{behind, IsPut, puts, IsPut-puts, said-next, comes_back}
 
 -- how many letters of the image are enough to go on
 abbrev pub enough : LocalRule → ℕ → ℕ
@@ -15,9 +15,13 @@ next_match : {r : LocalRule} {n : ℕ} {x y : Config} → IsRule r → IsRightAh
 next_match {r} {n} {x} {y} rule ahead hx hy i agree =
     let l : ℕ = enough r n in
     let e : ℤ = i +ℤ pos l in
-    let (z, hz, left, same) = longer rule ahead hx i l (y e) (omega (arith, rule.shape.least_width)) (hy e) in
-    let runs : run (image_of r z) i (l + 1) ≡ run y i (l + 1) = sym same ∙ ap (λ (w : List ℕ). w ++ y e ∷ []) (run-same (image_of r x) y i i l agree) ∙ sym (run-push y i e l refl) in
-    (record { x = z; config = hz; equal = same-run (image_of r z) y i i (l + 1) runs }, left)
+    let start : IsPut r i x (x, y e) = record { config = hx; letter = hy e; left = λ j h. refl } in
+    let (t, same) = comes_back rule ahead start l (omega (arith, rule.shape.least_width)) in
+    let h = IsPut-puts rule start l (suc t) in
+    let z : Config = (puts r i l (x, y e) (suc t)).0 in
+    let runs : run (image_of r z) i (l + 1) ≡ run y i (l + 1) =
+    sym (same ∙ said-next r i l (puts r i l (x, y e) t)) ∙ ap (λ (w : List ℕ). w ++ y e ∷ []) (run-same (image_of r x) y i i l agree) ∙ sym (run-push y i e l refl) in
+    (record { x = z; config = h.config; equal = same-run (image_of r z) y i i (l + 1) runs }, h.left)
 
 -- one place further on
 step : {r : LocalRule} {n : ℕ} {y : Config} → IsRule r → IsRightAhead r n → IsConfig r.states y → (i : ℤ) (t : ℕ) (m : Matches r y (i +ℤ pos t) (enough r n + 1))

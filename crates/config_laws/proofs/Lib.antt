@@ -1,9 +1,7 @@
 pub mod Images
 pub mod Joined
-pub mod Injective
-pub mod Closing
+pub mod Everywhere
 pub mod Flips
-pub mod Preinjective
 pub mod Dense
 pub mod Longer
 pub mod GoesOn

@@ -64,22 +64,22 @@ inserted-injective {r} {n} {x} {y} rule ahead hx hy i l a b enough ha hb agree s
     )
 
 -- a configuration with a letter put in behind the first node under place i, and the letter of its image l places after i, which is put in next
-abbrev next_put : LocalRule → ℤ → ℕ → Config × ℕ → Config × ℕ
+abbrev pub next_put : LocalRule → ℤ → ℕ → Config × ℕ → Config × ℕ
 next_put r i l s = (inserted s.0 (behind r i) s.1, image_of r (inserted s.0 (behind r i) s.1) (i +ℤ pos l))
 
 -- the same t times
-abbrev puts : LocalRule → ℤ → ℕ → Config × ℕ → ℕ → Config × ℕ
+abbrev pub puts : LocalRule → ℤ → ℕ → Config × ℕ → ℕ → Config × ℕ
 puts r i l s zero = s
 puts r i l s (suc t) = next_put r i l (puts r i l s t)
 
 -- a configuration over the rule's letters that is equal to x up to the first node under place i, and a letter
-record IsPut (r : LocalRule) (i : ℤ) (x : Config) (s : Config × ℕ) : Type 0 where
-  config : IsConfig r.states s.0
-  letter : s.1 < r.states
-  left : (j : ℤ) → j <ℤ behind r i → s.0 j ≡ x j
+pub record IsPut (r : LocalRule) (i : ℤ) (x : Config) (s : Config × ℕ) : Type 0 where
+  pub config : IsConfig r.states s.0
+  pub letter : s.1 < r.states
+  pub left : (j : ℤ) → j <ℤ behind r i → s.0 j ≡ x j
 
 -- letters that are put in change nothing before their place
-IsPut-puts : {r : LocalRule} {i : ℤ} {x : Config} {s : Config × ℕ} → IsRule r → IsPut r i x s → (l t : ℕ) → IsPut r i x (puts r i l s t)
+pub IsPut-puts : {r : LocalRule} {i : ℤ} {x : Config} {s : Config × ℕ} → IsRule r → IsPut r i x s → (l t : ℕ) → IsPut r i x (puts r i l s t)
 IsPut-puts rule h l zero = h
 IsPut-puts {r} {i} {s = s} rule h l (suc t) =
     let before = IsPut-puts rule h l t in
@@ -91,11 +91,11 @@ IsPut-puts {r} {i} {s = s} rule h l (suc t) =
     }
 
 -- the l letters of the image from place i on, and then the letter that is put in next
-abbrev said : LocalRule → ℤ → ℕ → Config × ℕ → List ℕ
+abbrev pub said : LocalRule → ℤ → ℕ → Config × ℕ → List ℕ
 said r i l s = run (image_of r s.0) i l ++ s.1 ∷ []
 
 -- once a letter was put in, these are l + 1 letters of the image
-said-next : (r : LocalRule) (i : ℤ) (l : ℕ) (s : Config × ℕ) → said r i l (next_put r i l s) ≡ run (image_of r (inserted s.0 (behind r i) s.1)) i (l + 1)
+pub said-next : (r : LocalRule) (i : ℤ) (l : ℕ) (s : Config × ℕ) → said r i l (next_put r i l s) ≡ run (image_of r (inserted s.0 (behind r i) s.1)) i (l + 1)
 said-next r i l s = sym (run-push (image_of r (inserted s.0 (behind r i) s.1)) i (i +ℤ pos l) l refl)
 
 -- what comes back first is what was said first
@@ -113,7 +113,7 @@ said-back {r} {i = i} {s = s} rule ahead h l enough (suc t) e same =
     said-back rule ahead h l enough t e (ap₂ (λ (w : List ℕ) (c : ℕ). w ++ c ∷ []) (run-same (image_of r p.0) (image_of r q.0) i i l parts.0) parts.1)
 
 -- since there are finitely many words, some later configuration says what the first one says
-comes_back : {r : LocalRule} {n : ℕ} {i : ℤ} {x : Config} {s : Config × ℕ} → IsRule r → IsRightAhead r n → IsPut r i x s → (l : ℕ) → r.width - 1 + n ≤ l + 1 → (e : ℕ) × (said r i l s ≡ said r i l (puts r i l s (suc e)))
+pub comes_back : {r : LocalRule} {n : ℕ} {i : ℤ} {x : Config} {s : Config × ℕ} → IsRule r → IsRightAhead r n → IsPut r i x s → (l : ℕ) → r.width - 1 + n ≤ l + 1 → (e : ℕ) × (said r i l s ≡ said r i l (puts r i l s (suc e)))
 comes_back {r} {i = i} {s = s} rule ahead h l enough =
     let (t, u, less, most, same) = twice_below (r.states ^ suc l) (λ t. value r.states (said r i l (puts r i l s t))) (λ t g.
     subst (λ j. value r.states (said r i l (puts r i l s t)) < r.states ^ j) (word t).1 (value-below r.states _ (word t).0)) in
@@ -124,12 +124,3 @@ comes_back {r} {i = i} {s = s} rule ahead h l enough =
     word t =
         let p : Config × ℕ = puts r i l s t in
         (All-push (λ a. a < r.states) (run (image_of r p.0) i l) p.1 (IsWord-run (IsConfig-image rule p.0) i l) (IsPut-puts rule h l t).letter, omega (arith, length_push (run (image_of r p.0) i l) p.1, length-run (image_of r p.0) i l))
-
--- if l letters are enough, some configuration that is equal up to the first node under place i has an image with these letters from place i on and then the letter b
-pub longer : {r : LocalRule} {n : ℕ} {x : Config} → IsRule r → IsRightAhead r n → IsConfig r.states x → (i : ℤ) (l b : ℕ) → r.width - 1 + n ≤ l + 1 → b < r.states
-    → (z : Config) × IsConfig r.states z × ((j : ℤ) → j <ℤ behind r i → z j ≡ x j) × (run (image_of r x) i l ++ b ∷ [] ≡ run (image_of r z) i (l + 1))
-longer {r} {n} {x} rule ahead hx i l b enough hb =
-    let start : IsPut r i x (x, b) = record { config = hx; letter = hb; left = λ j h. refl } in
-    let (e, same) = comes_back rule ahead start l enough in
-    let h = IsPut-puts rule start l (suc e) in
-    ((puts r i l (x, b) (suc e)).0, h.config, h.left, same ∙ said-next r i l (puts r i l (x, b) e))

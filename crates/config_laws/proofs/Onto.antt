@@ -1,5 +1,5 @@
 -- If every word has a preimage each configuration has one, if one of two tests passes: of the middles of configurations whose images agree with it further and further out, one goes on for ever (Hedlund 1969).
-use Rattle.std.proofs.Common.{◌≡◌, ◌⊎◌, ℕ, zero, suc, ◌+◌, ◌-◌, ◌^◌, ◌<◌, ◌↔◌, refl, inl, inr, ⊎_elim, List, ℤ, pos, ◌+ℤ◌, ◌-ℤ◌, unsigned_abs, sym, ap, ◌∙◌, arith}
+use Rattle.std.proofs.Common.{◌≡◌, ◌⊎◌, ℕ, zero, suc, ◌+◌, ◌-◌, ◌^◌, ◌<◌, refl, inl, inr, ⊎_elim, List, ℤ, pos, ◌+ℤ◌, ◌-ℤ◌, unsigned_abs, sym, ap, ◌∙◌, arith}
 use Rattle.std.proofs.Math.Path.{fun_ext}
 use Rattle.word_image.proofs.Common.{cases_eq, ints, LocalRule, IsRule, value, IsSurjective, value-injective, decide_both, some_letter}
 use Rattle.tail_config.proofs.Common.{Config, IsConfig, run, image_of, zeros, length-run, IsWord-run, run-same, same-run, at_run, image_of-window}
@@ -76,7 +76,7 @@ levels {r} {y} rule one every hy zero = record {
 levels rule one every hy (suc n) = (next_level rule one n (levels rule one every hy n)).0
 
 -- under a surjective rule each configuration is an image
-IsOntoMap-surjective : {r : LocalRule} → IsRule r → OneOfTwo → IsSurjective r → IsOntoMap r
+pub IsOntoMap-surjective : {r : LocalRule} → IsRule r → OneOfTwo → IsSurjective r → IsOntoMap r
 IsOntoMap-surjective {r} rule one every y hy = (
   limit,
   λ j. (at (suc (unsigned_abs j))).config j,
@@ -98,7 +98,3 @@ IsOntoMap-surjective {r} rule one every y hy = (
 -- if each configuration is an image, every word is
 pub IsSurjective-onto : {r : LocalRule} → IsRule r → IsOntoMap r → IsSurjective r
 IsSurjective-onto rule onto = (IsSurjective-everywhere rule).1 (λ y n hy. let found = onto y hy in (found.0, found.1, λ i low high. ap (λ (z : Config). z i) found.2))
-
--- a rule is surjective exactly if each configuration is an image
-pub IsSurjective-compact : {r : LocalRule} → IsRule r → OneOfTwo → IsSurjective r ↔ IsOntoMap r
-IsSurjective-compact rule one = (IsOntoMap-surjective rule one, IsSurjective-onto rule)

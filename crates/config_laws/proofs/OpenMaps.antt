@@ -3,12 +3,12 @@ use Rattle.std.proofs.Common.{◌≡◌, ℕ, zero, suc, ◌+◌, ◌<◌, ◌�
 use Rattle.std.proofs.Math.IntN.{neg_ℤ-neg_ℤ}
 use Rattle.std.proofs.Math.Path.{fun_ext}
 use Rattle.word_image.proofs.Common.{cases_eq, cases_lt, ints, by_lt_z, LocalRule, IsRule, node_count, mirrored, IsSurjective, some_letter, IsRule-mirrored}
-use Rattle.tail_config.proofs.Common.{IsRightClosing, IsLeftClosing, IsOpen, Config, IsConfig, AgreeWithin, AgreeFarLeft, run, image_of, zeros, image_of-window}
+use Rattle.tail_config.proofs.Common.{IsRightClosing, IsOpen, Config, IsConfig, AgreeWithin, AgreeFarLeft, run, image_of, zeros, image_of-window}
 use Rattle.tail_laws.proofs.Common.{IsLeftClosing-mirrored}
 use Rattle.config_laws.specs.Maps.{Differ, AreMany, IsNear, IsOpenMap, IsEvenlyOpenMap}
 use Rattle.config_laws.proofs.Images.{IsConfig-image, image_of-moved}
 use Rattle.config_laws.proofs.Joined.{meeting, meeting-left, meeting-right, IsConfig-meeting, image_of-behind, written, joined-left, IsConfig-written, run-written}
-use Rattle.config_laws.proofs.Closing.{IsRightClosing-everywhere}
+use Rattle.config_laws.proofs.Everywhere.{IsRightClosing-everywhere}
 use Rattle.config_laws.proofs.Flips.{flip, flip-flip, image_of-flip}
 use Rattle.config_laws.proofs.Dense.{preimage_inside}
 use Rattle.config_laws.proofs.BothSides.{IsEvenlyOpenMap-closing}
@@ -102,17 +102,16 @@ IsOpenMap-mirrored {r} rule open_map x n hx =
           ),
     )
 
--- an open rule is left-closing
-IsLeftClosing-open : {r : LocalRule} → IsRule r → IsOpenMap r → IsLeftClosing r
-IsLeftClosing-open rule open_map = (IsLeftClosing-mirrored rule).1 (IsRightClosing-open (IsRule-mirrored rule) (IsOpenMap-mirrored rule open_map))
-
 -- what is open evenly is open
 IsOpenMap-evenly : (r : LocalRule) → IsEvenlyOpenMap r → IsOpenMap r
 IsOpenMap-evenly r evenly x n hx = let near = evenly n in (near.0, near.1 x hx)
 
 -- a rule is closing on both sides exactly if it is open
 pub IsOpen-everywhere : {r : LocalRule} → IsRule r → IsOpen r ↔ IsOpenMap r
-IsOpen-everywhere {r} rule = (λ closing. IsOpenMap-evenly r (IsEvenlyOpenMap-closing rule closing), λ open_map. (IsRightClosing-open rule open_map, IsLeftClosing-open rule open_map))
+IsOpen-everywhere {r} rule = (
+  λ closing. IsOpenMap-evenly r (IsEvenlyOpenMap-closing rule closing),
+  λ open_map. (IsRightClosing-open rule open_map, (IsLeftClosing-mirrored rule).1 (IsRightClosing-open (IsRule-mirrored rule) (IsOpenMap-mirrored rule open_map))),
+)
 
 -- a rule is closing on both sides exactly if it is open evenly
 pub IsOpen-evenly : {r : LocalRule} → IsRule r → IsOpen r ↔ IsEvenlyOpenMap r

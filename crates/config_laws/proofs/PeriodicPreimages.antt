@@ -1,5 +1,5 @@
 -- A rule is surjective exactly if all preimages of periodic configurations are periodic: else more configurations than nodes have one image.
-use Rattle.std.proofs.Common.{◌≡◌, ℕ, zero, suc, ◌*◌, ◌≤◌, ◌↔◌, ⊎_elim, length, ℤ, pos, ◌+ℤ◌, ◌-ℤ◌, unsigned_abs, refl, sym, ap, ◌∙◌, subst, arith, ◌<ℤ◌, ◌≤ℤ◌}
+use Rattle.std.proofs.Common.{◌≡◌, ℕ, zero, suc, ◌-◌, ◌*◌, ◌≤◌, ◌↔◌, ⊎_elim, length, ℤ, pos, ◌+ℤ◌, ◌-ℤ◌, unsigned_abs, refl, sym, ap, ◌∙◌, subst, arith, ◌<ℤ◌, ◌≤ℤ◌}
 use Rattle.word_image.proofs.Common.{cases_eq, ints, by_lt_z, mul-le, LocalRule, IsRule, node_count, IsSurjective}
 use Rattle.garden_laws.proofs.GardenOfEden.{garden_of_eden}
 use Rattle.tail_config.proofs.Common.{Config, IsConfig, image_of, RepeatsLeft-times, RepeatsRight, same_right-back}
@@ -44,7 +44,7 @@ RepeatsRight-loop {r} {x} {y} {i} {p} rule every hx image period h j l = at (j +
     turns = HasPeriod-rounds x s h.some
 
     one : image_of r (meeting c x s) ≡ y
-    one = image_of-meeting r c x i (λ a k. rounds-loop h a (omega arith)) (image_of-rounds h period) image
+    one = image_of-meeting r c x i (rounds-loop h (r.width - 1) (omega arith)) (image_of-rounds h period) image
 
     at : (k : ℤ) → s ≤ℤ k → x k ≡ c k
     at k g =
