@@ -66,15 +66,6 @@ next_level {r} {y} rule one n h =
           ),
         ))
 
--- such configurations one after another
-abbrev levels : {r : LocalRule} {y : Config} → IsRule r → OneOfTwo → IsSurjective r → IsConfig r.states y → (n : ℕ) → Level r y n
-levels {r} {y} rule one every hy zero = record {
-  x = zeros;
-  config = λ j. some_letter rule;
-  over = λ m. let (z, hz, agree) = (IsSurjective-everywhere rule).0 every y m hy in (z, hz, λ j l. absurd (omega arith), λ j l. agree j (omega (arith, ints)) (omega (arith, ints)));
-}
-levels rule one every hy (suc n) = (next_level rule one n (levels rule one every hy n)).0
-
 -- under a surjective rule each configuration is an image
 pub IsOntoMap-surjective : {r : LocalRule} → IsRule r → OneOfTwo → IsSurjective r → IsOntoMap r
 IsOntoMap-surjective {r} rule one every y hy = (
@@ -90,7 +81,12 @@ IsOntoMap-surjective {r} rule one every y hy = (
 )
   where
     at : (n : ℕ) → Level r y n
-    at = levels rule one every hy
+    at zero = record {
+      x = zeros;
+      config = λ j. some_letter rule;
+      over = λ m. let (z, hz, agree) = (IsSurjective-everywhere rule).0 every y m hy in (z, hz, λ j l. absurd (omega arith), λ j l. agree j (omega (arith, ints)) (omega (arith, ints)));
+    }
+    at (suc n) = (next_level rule one n (at n)).0
 
     limit : Config
     limit j = (at (suc (unsigned_abs j))).x j
