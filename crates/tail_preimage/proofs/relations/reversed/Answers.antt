@@ -1,11 +1,11 @@
 use Rattle.std.proofs.Common.{◌<◌, refl, subst, arith}
 use Rattle.word_image.proofs.Common.{IsSetOf-same, HasBit}
 use Rattle.pair_laws.proofs.Common.{IsBitSet-shl}
-use Rattle.tail_preimage.proofs.Rows.{AreRowsFilled-none, AreRowsFilled-more, AreRowsFilled-all}
+use Rattle.tail_preimage.proofs.Rows.{AreRowsFilled-more}
 use Rattle.tail_preimage.proofs.relations.reversed.Goals as goal
 
 pub loop-u-init : goal.loop-u-init
-loop-u-init c = AreRowsFilled-none c.args.graph.now (λ u v. HasBit c.args.relation.now v u) _ refl
+loop-u-init c = record { long = refl; each = λ v l. absurd (omega arith) }
 
 pub loop-u-preserved : goal.loop-u-preserved
 loop-u-preserved c =
@@ -20,4 +20,4 @@ loop-u-preserved c =
     )) c.sources.ensures)
 
 pub returns : goal.returns
-returns c = AreRowsFilled-all (omega arith) c.loop-u.invariant
+returns c = record { rows = λ u l. c.loop-u.invariant.each u (omega arith) }
