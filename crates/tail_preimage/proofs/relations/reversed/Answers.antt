@@ -4,9 +4,6 @@ use Rattle.pair_laws.proofs.Common.{IsBitSet-shl}
 use Rattle.tail_preimage.proofs.Rows.{AreRowsFilled-more}
 use Rattle.tail_preimage.proofs.relations.reversed.Goals as goal
 
-pub loop-u-init : goal.loop-u-init
-loop-u-init c = record { long = refl; each = λ v l. absurd (omega arith) }
-
 pub loop-u-preserved : goal.loop-u-preserved
 loop-u-preserved c =
     let u = c.loop-u.u in
@@ -18,6 +15,3 @@ loop-u-preserved c =
       (λ (w, row, one). subst (HasBit table v) ((IsBitSet-shl u w few).0 one) row),
       (λ row. (u, row, (IsBitSet-shl u u few).1 refl)),
     )) c.sources.ensures)
-
-pub returns : goal.returns
-returns c = record { rows = λ u l. c.loop-u.invariant.each u (omega arith) }
