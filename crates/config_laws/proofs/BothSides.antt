@@ -31,7 +31,8 @@ GoesBack-flip {r} {x} {y} {e} rule i across g =
     }
 
 -- the mirrored rule makes of x read backwards what agrees with y read backwards where the image of x agrees with y
-pub agree-flip : {r : LocalRule} {x : Config} → IsRule r → IsConfig r.states x → (y : Config) (i : ℤ) (a : ℕ) → image_of r x (i -ℤ pos a) ≡ y (i -ℤ pos a) → image_of (mirrored r) (flip x) (neg_ℤ i +ℤ pos a) ≡ flip y (neg_ℤ i +ℤ pos a)
+pub agree-flip : {r : LocalRule} {x : Config} → IsRule r → IsConfig r.states x → (y : Config) (i : ℤ) (a : ℕ)
+    → image_of r x (i -ℤ pos a) ≡ y (i -ℤ pos a) → image_of (mirrored r) (flip x) (neg_ℤ i +ℤ pos a) ≡ flip y (neg_ℤ i +ℤ pos a)
 agree-flip {r} {x} rule hx y i a e =
     let place : neg_ℤ (neg_ℤ i +ℤ pos a) ≡ i -ℤ pos a = omega (arith, ints) in
     ap (λ (u : Config). u (neg_ℤ i +ℤ pos a)) (image_of-flip rule hx) ∙ ap (image_of r x) place ∙ e ∙ sym (ap y place)

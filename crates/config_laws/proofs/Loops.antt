@@ -16,7 +16,8 @@ pub record IsLoop (r : LocalRule) (x y : Config) (i : ℤ) (p : ℕ) : Type 0 wh
   pub again : RepeatsRight p y i
 
 -- the letters of a loop, again and again, are those of the configuration on the loop and on m - 1 places more
-pub rounds-loop : {r : LocalRule} {x y : Config} {i : ℤ} {p : ℕ} → IsLoop r x y i p → (n : ℕ) → n ≤ p + (r.width - 1) → (a : ℕ) → a < n → rounds x (i +ℤ r.offset) p (i +ℤ r.offset +ℤ pos a) ≡ x (i +ℤ r.offset +ℤ pos a)
+pub rounds-loop : {r : LocalRule} {x y : Config} {i : ℤ} {p : ℕ} → IsLoop r x y i p
+    → (n : ℕ) → n ≤ p + (r.width - 1) → (a : ℕ) → a < n → rounds x (i +ℤ r.offset) p (i +ℤ r.offset +ℤ pos a) ≡ x (i +ℤ r.offset +ℤ pos a)
 rounds-loop h zero most a l = absurd (omega arith)
 rounds-loop {r} {x} {i = i} {p = p} h (suc n) most a l =
     let s : ℤ = i +ℤ r.offset in

@@ -56,7 +56,8 @@ AreMany-more {r} {n} {k} {xs} apart u v hu hv other near_u near_v same near = (z
     differ (suc i) (suc j) less most = far (apart j (omega arith) i (omega arith)) ((next i).3 (omega arith)) ((next j).3 (omega arith))
 
 -- under an open rule, if two different configurations that agree far to the left have one image, as many configurations as are wanted have one image: far to the right of those that are found the letters of both may follow
-many_open : {r : LocalRule} {x y : Config} → IsRule r → IsOpenMap r → IsConfig r.states x → IsConfig r.states y → image_of r x ≡ image_of r y → AgreeFarLeft x y → Differ y x → (n : ℕ) → (xs : ℕ → Config) × AreMany r n xs
+many_open : {r : LocalRule} {x y : Config} → IsRule r → IsOpenMap r → IsConfig r.states x → IsConfig r.states y
+    → image_of r x ≡ image_of r y → AgreeFarLeft x y → Differ y x → (n : ℕ) → (xs : ℕ → Config) × AreMany r n xs
 many_open {x = x} rule open_map hx hy same left other zero = (λ i. x, record { configs = λ i. hx; differ = λ i j l h. absurd (omega arith); one_image = λ i. refl })
 many_open {r} {x} {y} rule open_map hx hy same (p, left) (d, other) (suc n) =
     let (xs, many) = many_open rule open_map hx hy same (p, left) (d, other) n in
