@@ -7,19 +7,15 @@ use Rattle.tail_laws.proofs.Common.{IsInjective-window}
 use Rattle.garden_laws.proofs.Preinjective.{IsSurjective-injective}
 use Rattle.config_laws.specs.Maps.{IsBijectiveMap}
 use Rattle.config_laws.proofs.Images.{IsConfig-image}
-use Rattle.config_laws.proofs.Injective.{IsInjective-everywhere}
+use Rattle.config_laws.proofs.Everywhere.{IsInjective-everywhere}
 use Rattle.config_laws.proofs.Inverses.{IsOntoMap-injective}
-
--- an injective rule takes one configuration to each, and no other
-pub one_preimage : {r : LocalRule} → IsRule r → IsInjective r → IsBijectiveMap r
-one_preimage {r} rule injective y hy =
-    let found = IsOntoMap-injective rule injective y hy in
-    (found.0, found.1, found.2, λ z hz same. (IsInjective-everywhere rule).0 injective z found.0 hz found.1 (same ∙ sym found.2))
 
 -- a rule is injective exactly if it takes one configuration to each, and no other
 pub IsInjective-bijective : {r : LocalRule} → IsRule r → IsInjective r ↔ IsBijectiveMap r
 IsInjective-bijective {r} rule = (
-  one_preimage rule,
+  λ injective y hy.
+      let (x, hx, image) = IsOntoMap-injective rule injective y hy in
+      (x, hx, image, λ z hz same. (IsInjective-everywhere rule).0 injective z x hz hx (same ∙ sym image)),
   λ bijective. (IsInjective-everywhere rule).1 (λ x y hx hy same.
       let found = bijective (image_of r x) (IsConfig-image rule x) in
       found.3 x hx refl ∙ sym (found.3 y hy (sym same))),

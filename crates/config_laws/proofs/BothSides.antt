@@ -2,11 +2,11 @@
 use Rattle.std.proofs.Common.{◌≡◌, ℕ, ◌+◌, ◌-◌, ◌<◌, ℤ, pos, ◌+ℤ◌, ◌-ℤ◌, neg_ℤ, unsigned_abs, sym, ap, ◌∙◌, subst, arith, ◌<ℤ◌, ◌≤ℤ◌}
 use Rattle.std.proofs.Math.IntN.{neg_ℤ-neg_ℤ}
 use Rattle.std.proofs.Math.Path.{fun_ext}
-use Rattle.word_image.proofs.Common.{ints, by_lt_z, LocalRule, IsRule, mirrored, IsRightAhead, IsLeftAhead, IsSurjective, IsRule-mirrored, mirrored-mirrored}
+use Rattle.word_image.proofs.Common.{ints, by_lt_z, LocalRule, IsRule, mirrored, IsRightAhead, IsLeftAhead, IsRule-mirrored, mirrored-mirrored}
 use Rattle.tail_config.proofs.Common.{IsRightClosing, IsLeftClosing, IsOpen, Config, IsConfig, image_of, image_of-window}
 use Rattle.tail_laws.proofs.Common.{IsRightClosing-window, IsLeftClosing-window}
 use Rattle.garden_laws.proofs.Preinjective.{IsSurjective-right_closing}
-use Rattle.config_laws.specs.Maps.{IsNear, IsEvenlyOpenMap, IsOntoMap, IsRightContinuingMap, IsLeftContinuingMap}
+use Rattle.config_laws.specs.Maps.{IsEvenlyOpenMap, IsOntoMap, IsRightContinuingMap, IsLeftContinuingMap}
 use Rattle.config_laws.proofs.Flips.{flip, image_of-flip}
 use Rattle.config_laws.proofs.GoesOn.{enough, GoesOn, goes_on, image_of-before}
 use Rattle.config_laws.proofs.Dense.{Matches, matches-at, matches}
@@ -31,7 +31,8 @@ GoesBack-flip {r} {x} {y} {e} rule i across g =
     }
 
 -- the mirrored rule makes of x read backwards what agrees with y read backwards where the image of x agrees with y
-pub agree-flip : {r : LocalRule} {x : Config} → IsRule r → IsConfig r.states x → (y : Config) (i : ℤ) (a : ℕ) → image_of r x (i -ℤ pos a) ≡ y (i -ℤ pos a) → image_of (mirrored r) (flip x) (neg_ℤ i +ℤ pos a) ≡ flip y (neg_ℤ i +ℤ pos a)
+pub agree-flip : {r : LocalRule} {x : Config} → IsRule r → IsConfig r.states x → (y : Config) (i : ℤ) (a : ℕ)
+    → image_of r x (i -ℤ pos a) ≡ y (i -ℤ pos a) → image_of (mirrored r) (flip x) (neg_ℤ i +ℤ pos a) ≡ flip y (neg_ℤ i +ℤ pos a)
 agree-flip {r} {x} rule hx y i a e =
     let place : neg_ℤ (neg_ℤ i +ℤ pos a) ≡ i -ℤ pos a = omega (arith, ints) in
     ap (λ (u : Config). u (neg_ℤ i +ℤ pos a)) (image_of-flip rule hx) ∙ ap (image_of r x) place ∙ e ∙ sym (ap y place)
@@ -74,32 +75,27 @@ between {r} {n} {l} {x} {y} rule right left hx hy p q order agree =
 abbrev most : LocalRule → ℕ → ℕ → ℕ → ℕ
 most r n k l = n + unsigned_abs r.offset + r.width + enough r k + enough r l
 
--- under two look-aheads what is near the image of x is the image of what is near x
-IsNear-ahead : {r : LocalRule} {k l : ℕ} {x : Config} → IsRule r → IsRightAhead r k → IsLeftAhead r l → IsConfig r.states x → (n : ℕ) → IsNear r x n (most r n k l)
-IsNear-ahead {r} {k} {l} {x} rule right left hx n y hy agree =
-    let far : ℤ = pos (most r n k l) in
-    let b = between rule right left hx hy (pos (enough r l) -ℤ far) (far -ℤ pos (enough r k)) (omega (arith, ints)) (λ j low high. agree j (omega (arith, ints)) (omega (arith, ints))) in
-    (b.z, b.config, (λ j low high. sym (b.inside j (omega (arith, ints)) (omega (arith, ints)))), b.image)
-
 -- a rule that is closing on both sides is open, evenly
 pub IsEvenlyOpenMap-closing : {r : LocalRule} → IsRule r → IsOpen r → IsEvenlyOpenMap r
 IsEvenlyOpenMap-closing {r} rule closing n =
-    let right = (IsRightClosing-window rule).0 closing.0 in
-    let left = (IsLeftClosing-window rule).0 closing.1 in
-    (most r n right.0 left.0, λ x hx. IsNear-ahead rule right.1 left.1 hx n)
-
--- a surjective rule with two look-aheads takes some configuration to each
-IsOntoMap-ahead : {r : LocalRule} {k l : ℕ} → IsRule r → IsSurjective r → IsRightAhead r k → IsLeftAhead r l → IsOntoMap r
-IsOntoMap-ahead {r} {k} {l} rule every right left y hy =
-    let m : Matches r y (pos 0) (enough r l + enough r k) = matches rule every hy (pos 0) (enough r l + enough r k) in
-    let p : ℤ = pos (enough r l) in
-    let b = between rule right left m.config hy p p (omega (arith, ints)) (λ j low high. matches-at m j (omega (arith, ints)) (omega (arith, ints))) in
-    (b.z, b.config, b.image)
+    let (k, right) = (IsRightClosing-window rule).0 closing.0 in
+    let (l, left) = (IsLeftClosing-window rule).0 closing.1 in (
+      most r n k l,
+      λ x hx y hy agree.
+          let far : ℤ = pos (most r n k l) in
+          let b = between rule right left hx hy (pos (enough r l) -ℤ far) (far -ℤ pos (enough r k)) (omega (arith, ints)) (λ j low high. agree j (omega (arith, ints)) (omega (arith, ints))) in
+          (b.z, b.config, (λ j low high. sym (b.inside j (omega (arith, ints)) (omega (arith, ints)))), b.image),
+    )
 
 -- a rule that is closing on both sides takes some configuration to each
 pub IsOntoMap-closing : {r : LocalRule} → IsRule r → IsOpen r → IsOntoMap r
-IsOntoMap-closing rule closing =
-    IsOntoMap-ahead rule (IsSurjective-right_closing rule closing.0) ((IsRightClosing-window rule).0 closing.0).1 ((IsLeftClosing-window rule).0 closing.1).1
+IsOntoMap-closing {r} rule closing y hy =
+    let (k, right) = (IsRightClosing-window rule).0 closing.0 in
+    let (l, left) = (IsLeftClosing-window rule).0 closing.1 in
+    let m : Matches r y (pos 0) (enough r l + enough r k) = matches rule (IsSurjective-right_closing rule closing.0) hy (pos 0) (enough r l + enough r k) in
+    let p : ℤ = pos (enough r l) in
+    let b = between rule right left m.config hy p p (omega (arith, ints)) (λ j low high. matches-at m j (omega (arith, ints)) (omega (arith, ints))) in
+    (b.z, b.config, b.image)
 
 -- a rule that is right-closing is right-continuing
 pub IsRightContinuingMap-closing : {r : LocalRule} → IsRule r → IsRightClosing r → IsRightContinuingMap r

@@ -1,21 +1,18 @@
 -- Which verdicts one rule after another has, from those of both.
-use Rattle.std.proofs.Common.{◌≡◌, ℕ, ◌+◌, ◌-◌, ◌≤◌, ◌↔◌, List, length, ℤ, pos, ◌+ℤ◌, ◌-ℤ◌, refl, sym, ap, ◌∙◌, subst, arith, ◌<ℤ◌, ◌≤ℤ◌}
+use Rattle.std.proofs.Common.{◌≡◌, ℕ, ◌+◌, ◌-◌, ◌≤◌, ◌↔◌, List, length, ℤ, pos, ◌+ℤ◌, ◌-ℤ◌, unsigned_abs, refl, sym, ap, ◌∙◌, subst, arith}
 use Rattle.std.proofs.Math.Path.{fun_ext}
-use Rattle.word_image.proofs.Common.{ints, by_lt_z, LocalRule, IsRule, IsWord, image, IsSurjective, IsConserving, mirrored, IsRule-mirrored}
-use Rattle.tail_config.proofs.Common.{Config, IsConfig, run, image_of, AgreeFarLeft, AgreeFarRight, IsInjective, IsRightClosing, IsLeftClosing, IsOpen, length-run, IsWord-run, image-run, same-run, image_of-window}
-use Rattle.tail_laws.proofs.Common.{IsRightClosing-window, IsLeftClosing-mirrored}
-use Rattle.garden_laws.proofs.Preinjective.{IsSurjective-right_closing}
+use Rattle.word_image.proofs.Common.{ints, by_lt_z, LocalRule, IsRule, IsWord, image, IsSurjective, mirrored, IsRule-mirrored, some_letter}
+use Rattle.tail_config.proofs.Common.{Config, IsConfig, run, image_of, zeros, AgreeFarLeft, AgreeFarRight, IsInjective, IsRightClosing, IsLeftClosing, IsOpen, length-run, IsWord-run, image-run, same-run, image_of-window}
+use Rattle.tail_laws.proofs.Common.{IsLeftClosing-mirrored}
 use Rattle.config_laws.specs.Maps.{IsRightClosingMap}
 use Rattle.config_laws.specs.Composed.{IsOneAfter, IsUndoneBy}
 use Rattle.config_laws.proofs.Images.{IsConfig-image}
-use Rattle.config_laws.proofs.Injective.{IsInjective-everywhere}
-use Rattle.config_laws.proofs.Closing.{IsRightClosing-everywhere}
+use Rattle.config_laws.proofs.Joined.{meeting, meeting-left, meeting-right, IsConfig-meeting, image_of-behind}
+use Rattle.config_laws.proofs.Everywhere.{IsInjective-everywhere, IsRightClosing-everywhere, IsSurjective-preinjective_map}
 use Rattle.config_laws.proofs.Flips.{flip, flip-flip, image_of-flip}
-use Rattle.config_laws.proofs.Preinjective.{IsSurjective-preinjective_map}
-use Rattle.config_laws.proofs.Dense.{IsSurjective-everywhere, Matches, matches}
-use Rattle.config_laws.proofs.GoesOn.{enough, GoesOn, goes_on, image_of-before}
+use Rattle.config_laws.proofs.Dense.{IsSurjective-everywhere}
+use Rattle.config_laws.proofs.BothSides.{IsRightContinuingMap-closing}
 use Rattle.config_laws.proofs.Inverses.{IsOntoMap-injective}
-use Rattle.config_laws.proofs.RingImages.{IsConserving-undone}
 
 -- the letters are those of the other rule
 over : {k l : ℕ} {x : Config} → k ≡ l → IsConfig k x → IsConfig l x
@@ -33,96 +30,74 @@ agree_left_image r {x} {y} (p, left) = (p -ℤ r.offset -ℤ pos r.width, λ i l
 agree_right_image : (r : LocalRule) {x y : Config} → AgreeFarRight x y → AgreeFarRight (image_of r x) (image_of r y)
 agree_right_image r {x} {y} (p, right) = (p -ℤ r.offset, λ i l. image_of-window r x y i i (λ a h. right (i +ℤ r.offset +ℤ pos a) (omega (arith, ints))))
 
--- configurations with one image under the first rule have one under both
-same_after : {r s t : LocalRule} {x y : Config} → IsOneAfter r s t → IsConfig r.states x → IsConfig r.states y → image_of r x ≡ image_of r y → image_of t x ≡ image_of t y
-same_after {r} {s} {t} {x} {y} c hx hy same = c.image x hx ∙ ap (image_of s) same ∙ sym (c.image y hy)
+-- two configurations of some kind are equal if they have one image
+abbrev Tells : (Config → Config → Type 0) → LocalRule → Type 0
+Tells Kind r = (x y : Config) → IsConfig r.states x → IsConfig r.states y → image_of r x ≡ image_of r y → Kind x y → x ≡ y
+
+-- one rule after another tells configurations of some kind apart exactly if both do, if images of this kind are of it, and if the second rule does where the first and both together do
+Tells-after : {r s t : LocalRule} {Kind : Config → Config → Type 0} → IsRule r → IsOneAfter r s t → ((x y : Config) → Kind x y → Kind (image_of r x) (image_of r y))
+    → (Tells Kind r → Tells Kind t → Tells Kind s) → Tells Kind t ↔ (Tells Kind r × Tells Kind s)
+Tells-after {r} {s} {t} {Kind} rule c images second = (
+  λ whole.
+      let inner : Tells Kind r = λ x y hx hy same. whole x y (over (sym c.states) hx) (over (sym c.states) hy) (c.image x hx ∙ ap (image_of s) same ∙ sym (c.image y hy)) in
+      (inner, second inner whole),
+  λ (inner, outer) x y hx hy same kind.
+      let gx = over c.states hx in
+      let gy = over c.states hy in
+      inner x y gx gy (outer (image_of r x) (image_of r y) (IsConfig-between rule c x) (IsConfig-between rule c y) (sym (c.image x gx) ∙ same ∙ c.image y gy) (images x y kind)) kind,
+)
+
+-- what is said of a composition and of both rules may be said in other words
+in_words : {A B C P Q R : Type 0} → A ↔ P → B ↔ Q → C ↔ R → P ↔ (Q × R) → A ↔ (B × C)
+in_words a b c h = (λ whole. let (inner, outer) = h.0 (a.0 whole) in (b.1 inner, c.1 outer), λ (inner, outer). a.1 (h.1 (b.0 inner, c.0 outer)))
+
+-- a rule is injective exactly if it tells all configurations apart
+IsInjective-tells : {r : LocalRule} → IsRule r → IsInjective r ↔ Tells (λ x y. Unit {0}) r
+IsInjective-tells rule = (λ injective x y hx hy same kind. (IsInjective-everywhere rule).0 injective x y hx hy same, λ tells. (IsInjective-everywhere rule).1 (λ x y hx hy same. tells x y hx hy same tt))
 
 -- one after the other is injective exactly if both are
 pub IsInjective-after : {r s t : LocalRule} → IsRule r → IsRule s → IsRule t → IsOneAfter r s t → IsInjective t ↔ (IsInjective r × IsInjective s)
 IsInjective-after {r} {s} {t} first second both c =
-    let of_r = IsInjective-everywhere first in
-    let of_s = IsInjective-everywhere second in
-    let of_t = IsInjective-everywhere both in (
-      λ injective.
-          let inner : IsInjective r = of_r.1 (λ x y hx hy same. of_t.0 injective x y (over (sym c.states) hx) (over (sym c.states) hy) (same_after c hx hy same)) in (
-            inner,
-            of_s.1 (λ u v hu hv same.
-                let x = IsOntoMap-injective first inner u (over c.second hu) in
-                let y = IsOntoMap-injective first inner v (over c.second hv) in
-                let one : image_of t x.0 ≡ image_of t y.0 = c.image x.0 x.1 ∙ ap (image_of s) x.2 ∙ same ∙ sym (ap (image_of s) y.2) ∙ sym (c.image y.0 y.1) in
-                sym x.2 ∙ ap (image_of r) (of_t.0 injective x.0 y.0 (over (sym c.states) x.1) (over (sym c.states) y.1) one) ∙ y.2),
-          ),
-      λ (inner, outer). of_t.1 (λ x y hx hy same.
-          let gx = over c.states hx in
-          let gy = over c.states hy in
-          of_r.0 inner x y gx gy (of_s.0 outer (image_of r x) (image_of r y) (IsConfig-between first c x) (IsConfig-between first c y) (sym (c.image x gx) ∙ same ∙ c.image y gy))),
-    )
+    in_words (IsInjective-tells both) (IsInjective-tells first) (IsInjective-tells second) (Tells-after first c (λ x y kind. kind) (λ inner whole u v hu hv same kind.
+    let onto = IsOntoMap-injective first ((IsInjective-tells first).1 inner) in
+    let (x, hx, is_u) = onto u (over c.second hu) in
+    let (y, hy, is_v) = onto v (over c.second hv) in
+    sym is_u ∙ ap (image_of r) (whole x y (over (sym c.states) hx) (over (sym c.states) hy) (c.image x hx ∙ ap (image_of s) is_u ∙ same ∙ sym (c.image y hy ∙ ap (image_of s) is_v)) kind) ∙ is_v))
+
+-- a rule is surjective exactly if it tells configurations apart that agree far to the left and far to the right
+IsSurjective-tells : {r : LocalRule} → IsRule r → IsSurjective r ↔ Tells (λ x y. AgreeFarLeft x y × AgreeFarRight x y) r
+IsSurjective-tells rule =
+    let law = IsSurjective-preinjective_map rule in
+    (λ every x y hx hy same kind. law.0 every x y hx hy same kind.0 kind.1, λ tells. law.1 (λ x y hx hy same left right. tells x y hx hy same (left, right)))
 
 -- one after the other is surjective exactly if both are
 pub IsSurjective-after : {r s t : LocalRule} → IsRule r → IsRule s → IsRule t → IsOneAfter r s t → IsSurjective t ↔ (IsSurjective r × IsSurjective s)
 IsSurjective-after {r} {s} {t} first second both c =
-    let of_r = IsSurjective-preinjective_map first in
-    let of_s = IsSurjective-preinjective_map second in
-    let of_t = IsSurjective-preinjective_map both in (
-      λ every. (
-        of_r.1 (λ x y hx hy same. of_t.0 every x y (over (sym c.states) hx) (over (sym c.states) hy) (same_after c hx hy same)),
-        (IsSurjective-everywhere second).1 (λ y n hy.
-            let found = (IsSurjective-everywhere both).0 every y n (over (c.second ∙ sym c.states) hy) in (
-              image_of r found.0,
-              IsConfig-between first c found.0,
-              λ i low high. sym (ap (λ (z : Config). z i) (c.image found.0 (over c.states found.1))) ∙ found.2 i low high,
-            )),
-      ),
-      λ (inner, outer). of_t.1 (λ x y hx hy same left right.
-          let gx = over c.states hx in
-          let gy = over c.states hy in
-          of_r.0 inner x y gx gy (of_s.0 outer (image_of r x) (image_of r y) (IsConfig-between first c x) (IsConfig-between first c y)
-          (sym (c.image x gx) ∙ same ∙ c.image y gy) (agree_left_image r left) (agree_right_image r right)) left right),
-    )
+    in_words (IsSurjective-tells both) (IsSurjective-tells first) (IsSurjective-tells second) (Tells-after first c (λ x y kind. (agree_left_image r kind.0, agree_right_image r kind.1)) (λ inner whole.
+    (IsSurjective-tells second).0 ((IsSurjective-everywhere second).1 (λ y n hy.
+    let (x, hx, agree) = (IsSurjective-everywhere both).0 ((IsSurjective-tells both).1 whole) y n (over (c.second ∙ sym c.states) hy) in
+    (image_of r x, IsConfig-between first c x, λ i low high. sym (ap (λ (z : Config). z i) (c.image x (over c.states hx))) ∙ agree i low high)))))
 
--- if the first rule is right-closing and one after the other is, so is the second: two configurations that agree to the left come from two that do
-second_closing : {r s t : LocalRule} → IsRule r → IsRule s → IsOneAfter r s t → IsRightClosing r → IsRightClosingMap t → IsRightClosingMap s
-second_closing {r} {s} {t} first second c inner whole u v hu hv same (p, left) =
-    let ahead = (IsRightClosing-window first).0 inner in
-    let n : ℕ = enough r ahead.0 in
-    let i : ℤ = p -ℤ pos n -ℤ pos s.width in
-    let gu = over c.second hu in
-    let gv = over c.second hv in
-    let m : Matches r u i n = matches first (IsSurjective-right_closing first inner) gu i n in
-    let at_u : GoesOn r m.x u i = goes_on first ahead.1 m.config gu i m.equal in
-    let at_v : GoesOn r m.x v i = goes_on first ahead.1 m.config gv i (λ a l. m.equal a l ∙ left (i +ℤ pos a) (omega (arith, ints))) in
-    joins i (omega (arith, ints)) at_u at_v
-  where
-    joins : {x : Config} (i : ℤ) → (i +ℤ pos s.width) ≤ℤ p → GoesOn r x u i → GoesOn r x v i → u ≡ v
-    joins {x} i far at_u at_v =
-        let before : (j : ℤ) → j <ℤ p → image_of r at_u.z j ≡ image_of r at_v.z j = λ j l. by_lt_z j i
-        (λ h. image_of-before at_u j h ∙ sym (image_of-before at_v j h))
-        (λ h. at_u.after j h ∙ left j l ∙ sym (at_v.after j h)) in
-        let one : image_of s (image_of r at_u.z) ≡ image_of s (image_of r at_v.z) = fun_ext (λ j. by_lt_z (j +ℤ s.offset) i
-        (λ h. image_of-window s (image_of r at_u.z) (image_of r at_v.z) j j (λ a l. before (j +ℤ s.offset +ℤ pos a) (omega (arith, ints))))
-        (λ h. image_of-window s (image_of r at_u.z) u j j (λ a l. at_u.after (j +ℤ s.offset +ℤ pos a) (omega (arith, ints)))
-        ∙ ap (λ (z : Config). z j) same
-        ∙ sym (image_of-window s (image_of r at_v.z) v j j (λ a l. at_v.after (j +ℤ s.offset +ℤ pos a) (omega (arith, ints)))))) in
-        let equal : at_u.z ≡ at_v.z = whole at_u.z at_v.z (over (sym c.states) at_u.config) (over (sym c.states) at_v.config)
-        (c.image at_u.z at_u.config ∙ one ∙ sym (c.image at_v.z at_v.config))
-        (i +ℤ r.offset, λ j l. at_u.before j (omega (arith, ints)) ∙ sym (at_v.before j (omega (arith, ints)))) in
-        fun_ext (λ j. by_lt_z j i (λ l. left j (omega (arith, ints))) (λ l. sym (at_u.after j l) ∙ ap (λ (z : Config). image_of r z j) equal ∙ at_v.after j l))
+-- if the first rule is right-closing and one after the other is, so is the second: two configurations that agree to the left come, but for what is far to the left, from two that do
+second_closing : {r s t : LocalRule} → IsRule r → IsOneAfter r s t → IsRightClosing r → IsRightClosingMap t → IsRightClosingMap s
+second_closing {r} {s} {t} rule c inner whole u v hu hv same (p, left) =
+    let i : ℤ = p -ℤ pos s.width in
+    let w : Config = image_of r zeros in
+    let lift = λ (z : Config) (hz : IsConfig s.states z). IsRightContinuingMap-closing rule inner zeros (meeting w z i) (λ j. some_letter rule)
+    (IsConfig-meeting (IsConfig-image rule zeros) (over c.second hz) i) (i, λ j l. sym (meeting-left w z i j l)) in
+    let (x, hx, (a, before_x), is_u) = lift u hu in
+    let (y, hy, (b, before_y), is_v) = lift v hv in
+    let one : image_of s (image_of r x) ≡ image_of s (image_of r y) = ap (image_of s) is_u ∙ image_of-behind s w u v i (λ j l. left j (omega (arith, ints))) same ∙ sym (ap (image_of s) is_v) in
+    let equal : x ≡ y = whole x y (over (sym c.states) hx) (over (sym c.states) hy) (c.image x hx ∙ one ∙ sym (c.image y hy))
+    (a -ℤ pos (unsigned_abs (b -ℤ a)), λ j l. sym (before_x j (omega (arith, ints))) ∙ before_y j (omega (arith, ints))) in
+    fun_ext (λ j. by_lt_z j i (λ l. left j (omega (arith, ints)))
+    (λ l. sym (meeting-right w u i j l) ∙ ap (λ (z : Config). z j) (sym is_u ∙ ap (image_of r) equal ∙ is_v) ∙ meeting-right w v i j l))
 
 -- one after the other is right-closing exactly if both are
 pub IsRightClosing-after : {r s t : LocalRule} → IsRule r → IsRule s → IsRule t → IsOneAfter r s t → IsRightClosing t ↔ (IsRightClosing r × IsRightClosing s)
-IsRightClosing-after {r} {s} {t} first second both c =
-    let of_r = IsRightClosing-everywhere first in
-    let of_s = IsRightClosing-everywhere second in
-    let of_t = IsRightClosing-everywhere both in (
-      λ closing.
-          let inner : IsRightClosing r = of_r.1 (λ x y hx hy same. of_t.0 closing x y (over (sym c.states) hx) (over (sym c.states) hy) (same_after c hx hy same)) in
-          (inner, of_s.1 (second_closing first second c inner (of_t.0 closing))),
-      λ (inner, outer). of_t.1 (λ x y hx hy same left.
-          let gx = over c.states hx in
-          let gy = over c.states hy in
-          of_r.0 inner x y gx gy (of_s.0 outer (image_of r x) (image_of r y) (IsConfig-between first c x) (IsConfig-between first c y)
-          (sym (c.image x gx) ∙ same ∙ c.image y gy) (agree_left_image r left)) left),
-    )
+IsRightClosing-after {r} first second both c =
+    in_words (IsRightClosing-everywhere both) (IsRightClosing-everywhere first) (IsRightClosing-everywhere second)
+    (Tells-after first c (λ x y kind. agree_left_image r kind) (λ inner. second_closing first c ((IsRightClosing-everywhere first).1 inner)))
 
 -- the mirrored rules are one after the other
 IsOneAfter-mirrored : {r s t : LocalRule} → IsRule r → IsRule s → IsRule t → IsOneAfter r s t → IsOneAfter (mirrored r) (mirrored s) (mirrored t)
@@ -140,13 +115,8 @@ IsOneAfter-mirrored {r} {s} {t} first second both c = record {
 -- one after the other is left-closing exactly if both are
 pub IsLeftClosing-after : {r s t : LocalRule} → IsRule r → IsRule s → IsRule t → IsOneAfter r s t → IsLeftClosing t ↔ (IsLeftClosing r × IsLeftClosing s)
 IsLeftClosing-after {r} {s} {t} first second both c =
-    let of_r = IsLeftClosing-mirrored first in
-    let of_s = IsLeftClosing-mirrored second in
-    let of_t = IsLeftClosing-mirrored both in
-    let right = IsRightClosing-after (IsRule-mirrored first) (IsRule-mirrored second) (IsRule-mirrored both) (IsOneAfter-mirrored first second both c) in (
-      λ closing. let found = right.0 (of_t.0 closing) in (of_r.1 found.0, of_s.1 found.1),
-      λ (inner, outer). of_t.1 (right.1 (of_r.0 inner, of_s.0 outer)),
-    )
+    in_words (IsLeftClosing-mirrored both) (IsLeftClosing-mirrored first) (IsLeftClosing-mirrored second)
+    (IsRightClosing-after (IsRule-mirrored first) (IsRule-mirrored second) (IsRule-mirrored both) (IsOneAfter-mirrored first second both c))
 
 -- one after the other is open exactly if both are
 pub IsOpen-after : {r s t : LocalRule} → IsRule r → IsRule s → IsRule t → IsOneAfter r s t → IsOpen t ↔ (IsOpen r × IsOpen s)
@@ -169,10 +139,6 @@ IsUndoneBy-turned {r} {s} rule u = record {
       let x = IsOntoMap-injective rule (IsInjective-undone rule u) y (over u.states hy) in
       ap (image_of r) (sym (ap (image_of s) x.2) ∙ u.back x.0 x.1) ∙ x.2;
 }
-
--- two rules that undo each other conserve the same
-pub IsConserving-both_ways : {r s : LocalRule} → IsRule r → IsRule s → IsUndoneBy r s → (weight : ℕ → ℕ) → IsConserving weight r ↔ IsConserving weight s
-IsConserving-both_ways first second u weight = (IsConserving-undone second (IsUndoneBy-turned first u) weight, IsConserving-undone first u weight)
 
 -- what one after the other does with words, it does with configurations
 pub IsOneAfter-words : {r s t : LocalRule} → IsRule r → IsRule s → IsRule t → t.states ≡ r.states → s.states ≡ r.states → t.width ≡ r.width + s.width - 1 → t.offset ≡ r.offset +ℤ s.offset

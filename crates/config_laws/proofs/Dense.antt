@@ -18,21 +18,16 @@ matches-at {r} {y} {i} {n} m j low high =
     let here : i +ℤ pos (unsigned_abs (j -ℤ i)) ≡ j = omega (arith, ints) in
     sym (ap (image_of r m.x) here) ∙ m.equal (unsigned_abs (j -ℤ i)) (omega (arith, ints)) ∙ ap y here
 
--- a preimage of a run that is written under it makes a configuration that matches there
-pub matches_written : {r : LocalRule} {y : Config} → IsRule r → (i : ℤ) (n : ℕ) (w : List ℕ) → IsPreimage r (run y i n) w → (m : Matches r y i n) × (run m.x (i +ℤ r.offset) (length w) ≡ w)
-matches_written {r} {y} rule i n w p = (
-  record {
-    x = written zeros (i +ℤ r.offset) w;
-    config = IsConfig-written (some_letter rule) (λ j. some_letter rule) (i +ℤ r.offset) w p.word;
-    equal = λ a l. image_of-written rule zeros i w a (omega (arith, p.long, length-run y i n))
-        ∙ ap (λ u. get_or u a 0) p.maps ∙ get_or-run y i (i +ℤ pos a) n a l refl;
-  },
-  run-written zeros (i +ℤ r.offset) w,
-)
-
--- if every word has a preimage, each configuration is matched on any run
+-- if every word has a preimage, each configuration is matched on any run: a preimage of the run is written under it
 pub matches : {r : LocalRule} {y : Config} → IsRule r → IsSurjective r → IsConfig r.states y → (i : ℤ) (n : ℕ) → Matches r y i n
-matches {r} {y} rule every hy i n = let found = every (run y i n) (IsWord-run hy i n) in (matches_written rule i n found.0 found.1).0
+matches {r} {y} rule every hy i n =
+    let (w, p) = every (run y i n) (IsWord-run hy i n) in
+    record {
+      x = written zeros (i +ℤ r.offset) w;
+      config = IsConfig-written (some_letter rule) (λ j. some_letter rule) (i +ℤ r.offset) w p.word;
+      equal = λ a l. image_of-written rule zeros i w a (omega (arith, p.long, length-run y i n))
+          ∙ ap (λ u. get_or u a 0) p.maps ∙ get_or-run y i (i +ℤ pos a) n a l refl;
+    }
 
 -- the images of a surjective rule are dense
 IsDenseMap-surjective : {r : LocalRule} → IsRule r → IsSurjective r → IsDenseMap r
@@ -42,17 +37,17 @@ IsDenseMap-surjective {r} rule every y n hy =
     (m.x, m.config, λ i low high. matches-at m i low (omega (arith, ints)))
 
 -- a word that stands in an image has a preimage
-pub preimage_inside : {r : LocalRule} {x : Config} → IsRule r → IsConfig r.states x → (w : List ℕ) → run (image_of r x) (pos 0) (length w) ≡ w → (z : List ℕ) × IsPreimage r w z
-preimage_inside {r} {x} rule hx w same =
-    let z : List ℕ = run x (pos 0 +ℤ r.offset) (length w + (r.width - 1)) in
-    (z, subst (λ v. IsPreimage r v z) same (IsPreimage-run rule hx (pos 0) (pos 0 +ℤ r.offset) (length w) refl))
+pub preimage_inside : {r : LocalRule} {x : Config} → IsRule r → IsConfig r.states x → (i : ℤ) (w : List ℕ) → run (image_of r x) i (length w) ≡ w → (z : List ℕ) × IsPreimage r w z
+preimage_inside {r} {x} rule hx i w same =
+    let z : List ℕ = run x (i +ℤ r.offset) (length w + (r.width - 1)) in
+    (z, subst (λ v. IsPreimage r v z) same (IsPreimage-run rule hx i (i +ℤ r.offset) (length w) refl))
 
 -- if the images are dense, every word has a preimage
 IsSurjective-dense : {r : LocalRule} → IsRule r → IsDenseMap r → IsSurjective r
 IsSurjective-dense {r} rule dense w hw =
     let y : Config = between_zeros w in
     let found = dense y (length w) (IsConfig-written (some_letter rule) (λ i. some_letter rule) (pos 0) w hw) in
-    preimage_inside rule found.1 w
+    preimage_inside rule found.1 (pos 0) w
     (run-same (image_of r found.0) y (pos 0) (pos 0) (length w) (λ a l. found.2 (pos 0 +ℤ pos a) (omega (arith, ints)) (omega (arith, ints))) ∙ run-written zeros (pos 0) w)
 
 -- a rule is surjective exactly if the images are dense

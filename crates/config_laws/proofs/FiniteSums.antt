@@ -1,7 +1,6 @@
 -- If finite configurations weigh as much as their images, or finitely many new letters change both alike, rings keep their sums.
-use Rattle.std.proofs.Common.{◌≡◌, ℕ, zero, suc, ◌+◌, ◌-◌, ◌*◌, ◌<◌, ◌≤◌, ◌↔◌, ⊎_elim, List, [], ◌∷◌, All, length, get_or, replicate, sum_by, ℤ, pos, ◌+ℤ◌, ◌-ℤ◌, neg_ℤ, unsigned_abs, refl, sym, ap, ◌∙◌, arith, suc-mul, ◌<ℤ◌, ◌≤ℤ◌}
-use Rattle.std.proofs.lemmas.List.Folds.{sum_by-replicate}
-use Rattle.word_image.proofs.Common.{cases_lt, get_or_past, length-replicate, sum_by-cons, sum_by-le, All-head, All-tail, All-replicate, ints, by_lt_z, LocalRule, IsRule, image, IsRing, ring_letter, ring_image, IsConserving, some_letter, ring_letter-below, ring_letter-turn}
+use Rattle.std.proofs.Common.{◌≡◌, ℕ, zero, suc, ◌+◌, ◌-◌, ◌*◌, ◌<◌, ◌≤◌, ◌↔◌, ⊎_elim, List, [], ◌∷◌, length, get_or, sum_by, ℤ, pos, ◌+ℤ◌, ◌-ℤ◌, neg_ℤ, unsigned_abs, refl, sym, ap, ◌∙◌, arith, suc-mul, add-one, ◌<ℤ◌, ◌≤ℤ◌}
+use Rattle.word_image.proofs.Common.{cases_lt, get_or_past, All-cons, All-nil, ints, by_lt_z, LocalRule, IsRule, image, IsRing, ring_letter, ring_image, IsConserving, some_letter, ring_letter-below, ring_letter-turn}
 use Rattle.ring_laws.proofs.Rings.{IsWord-ring_image, sum_by-ring_image}
 use Rattle.tail_config.proofs.Common.{Config, IsConfig, run, image_of, zeros, length-run, get_or-run, IsWord-run, run-same, image-run, image_of-window}
 use Rattle.config_laws.specs.Sums.{weight_on, weight_within, IsFinite, KeepsFiniteSums, KeepsChanges}
@@ -90,28 +89,27 @@ greatest f (suc k) =
     (λ not_more. (a, omega arith, λ b l. ⊎_elim (λ g. most b g) (λ g. let e : b ≡ suc k = omega arith in omega (arith, ap f e)) (cases_lt b (suc k))))
     (cases_lt (f a) (f (suc k)))
 
--- a word of letters that weigh m or more weighs m for each letter or more
-sum_by-ge : (f : ℕ → ℕ) (m : ℕ) (w : List ℕ) → All (λ a. m ≤ f a) w → length w * m ≤ sum_by f w
-sum_by-ge f m [] h = omega arith
-sum_by-ge f m (a ∷ w) h = omega (arith, sum_by-cons f a w, All-head (λ b. m ≤ f b) a w h, sum_by-ge f m w (All-tail (λ b. m ≤ f b) a w h), suc-mul (length w) m)
+-- a run of one letter n times weighs n times as much
+weight_on-constant : (weight : ℕ → ℕ) (x : Config) (i : ℤ) (c : ℕ) → ((j : ℤ) → x j ≡ c) → (n : ℕ) → weight_on weight x i n ≡ n * weight c
+weight_on-constant weight x i c same zero = omega arith
+weight_on-constant weight x i c same (suc n) =
+    omega (arith, ap (weight_on weight x i) (add-one n), weight_on-append weight x i _ n 1 refl, weight_on-constant weight x i c same n, ap weight (same (i +ℤ pos n +ℤ pos 0)), suc-mul n (weight c))
 
--- if finite configurations and their images differ alike, rings keep their sums: zeros gain nothing, since no ring weighs more than one of heaviest letters, or less than one of lightest
+-- if finite configurations and their images differ alike, rings keep their sums: zeros gain nothing, since no ring of one letter weighs more than the heaviest letter, or less than the lightest
 IsConserving-finite : {r : LocalRule} → IsRule r → (weight : ℕ → ℕ) → KeepsFiniteChanges weight r → IsConserving weight r
 IsConserving-finite {r} rule weight keeps p ring =
-    let n : ℕ = length p in
     let k : ℕ = r.states - 1 in
     let (a, ha, most) = greatest weight k in
     let (b, hb, fewest) = greatest (λ c. weight a - weight c) k in
-    let same : (c : ℕ) → c < suc k → (sum_by weight (ring_image r (replicate n c)) + weight_on weight zeros (pos 0) n ≡ n * weight c + weight_on weight (image_of r zeros) (pos 0) n) = λ c l.
-    let gains = ring_sum {p = replicate n c} rule weight keeps (record { word = All-replicate (λ d. d < r.states) n c (omega (arith, l)); some = omega (arith, ring.some, length-replicate n c) }) in
-    omega (arith, gains, sum_by-replicate weight n c, ap (weight_on weight zeros (pos 0)) (length-replicate n c), ap (weight_on weight (image_of r zeros) (pos 0)) (length-replicate n c)) in
-    let long : (c : ℕ) → length (ring_image r (replicate n c)) ≡ n = λ c. length-ring_image r (replicate n c) ∙ length-replicate n c in
-    let letter : (c i d : ℕ) → i < length (ring_image r (replicate n c)) → get_or (ring_image r (replicate n c)) i d < suc k = λ c i d l. omega (arith, IsWord-ring_image rule (replicate n c) i d l) in
-    let above = sum_by-le weight (weight a) (ring_image r (replicate n a)) (λ i d l. most (get_or (ring_image r (replicate n a)) i d) (letter a i d l)) in
-    let below = sum_by-ge weight (weight b) (ring_image r (replicate n b)) (λ i d l.
-    let e : ℕ = get_or (ring_image r (replicate n b)) i d in
-    omega (arith, most e (letter b i d l), fewest e (letter b i d l), most b hb)) in
-    omega (arith, same a ha, same b hb, above, below, ap (λ l. l * weight a) (long a), ap (λ l. l * weight b) (long b), ring_sum rule weight keeps ring)
+    let f : ℕ → ℕ = λ c. get_or (ring_image r (c ∷ [])) 0 0 in
+    let zero_image : ℕ = image_of r zeros (pos 0) in
+    let of_zeros = weight_on-constant weight zeros (pos 0) 0 (λ j. refl) in
+    let of_images = weight_on-constant weight (image_of r zeros) (pos 0) zero_image (λ j. image_of-window r zeros zeros j (pos 0) (λ c l. refl)) in
+    let letter : (c : ℕ) → f c < suc k = λ c. omega (arith, IsWord-ring_image rule (c ∷ []) 0 0 (omega (arith, length-ring_image r (c ∷ [])))) in
+    let same : (c : ℕ) → c < suc k → weight (f c) + weight 0 ≡ weight c + weight zero_image = λ c l.
+    omega (arith, ring_sum {p = c ∷ []} rule weight keeps (record { word = All-cons (λ d. d < r.states) c [] (omega (arith, l)) (All-nil (λ d. d < r.states)); some = omega arith }), of_zeros 1, of_images 1) in
+    let alike : weight 0 ≡ weight zero_image = omega (arith, same a ha, same b hb, most (f a) (letter a), most (f b) (letter b), fewest (f b) (letter b), most b hb) in
+    omega (arith, ring_sum rule weight keeps ring, of_zeros (length p), of_images (length p), ap (λ w. length p * w) alike)
 
 -- a rule keeps the sums of rings exactly if it keeps those of finite configurations
 pub IsConserving-sums : {r : LocalRule} → IsRule r → (weight : ℕ → ℕ) → IsConserving weight r ↔ KeepsFiniteSums weight r

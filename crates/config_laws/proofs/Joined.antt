@@ -63,6 +63,15 @@ image_of-meeting r x z i node first second =
     ∙ ap (λ (u : Config). u j) first)
     (λ l. image_of-window r (meeting x z e) z j j (λ a g. meeting-right x z e (j +ℤ r.offset +ℤ pos a) (omega (arith, ints))) ∙ ap (λ (u : Config). u j) second))
 
+-- two configurations with one image that are equal before place e and m places more have one image, too, with other letters before place e
+pub image_of-behind : (r : LocalRule) (w x y : Config) (e : ℤ) → ((j : ℤ) → j <ℤ (e +ℤ pos r.width) → x j ≡ y j) → image_of r x ≡ image_of r y → image_of r (meeting w x e) ≡ image_of r (meeting w y e)
+image_of-behind r w x y e left same = fun_ext (λ j. by_lt_z (j +ℤ r.offset) e
+    (λ h. image_of-window r (meeting w x e) (meeting w y e) j j (λ a l. let q : ℤ = j +ℤ r.offset +ℤ pos a in by_lt_z q e
+    (λ g. meeting-left w x e q g ∙ sym (meeting-left w y e q g))
+    (λ g. meeting-right w x e q g ∙ left q (omega (arith, ints)) ∙ sym (meeting-right w y e q g))))
+    (λ h. image_of-window r (meeting w x e) x j j (λ a l. meeting-right w x e _ (omega (arith, ints))) ∙ ap (λ (z : Config). z j) same
+    ∙ sym (image_of-window r (meeting w y e) y j j (λ a l. meeting-right w y e _ (omega (arith, ints))))))
+
 -- the letters of x left of place e, those of a word from there on, and then zeros
 abbrev pub written : Config → ℤ → List ℕ → Config
 written x e w = joined x e (λ a. get_or w a 0)

@@ -1,14 +1,11 @@
 pub mod Images
 pub mod Joined
-pub mod Injective
-pub mod Closing
+pub mod Everywhere
 pub mod Flips
-pub mod Preinjective
 pub mod Dense
 pub mod Longer
 pub mod GoesOn
 pub mod BothSides
-pub mod Branches
 pub mod OpenMaps
 pub mod Endless
 pub mod Onto

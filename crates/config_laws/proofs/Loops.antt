@@ -1,12 +1,12 @@
 -- Loops: a preimage of enough periods passes one node twice, and can go round between for ever.
-use Rattle.std.proofs.Common.{◌≡◌, ℕ, zero, suc, ◌+◌, ◌-◌, ◌*◌, ◌%◌, ◌<◌, ◌≤◌, ⊎_elim, List, length, ℤ, pos, ◌+ℤ◌, sym, ap, ◌∙◌, arith, mod-eq_of_lt, ◌≤ℤ◌, add-mul}
-use Rattle.word_image.proofs.Common.{mod-eq-sub-mod, cases_lt, ints, by_lt_z, mul-le, LocalRule, IsRule, IsWord, value, node_count, value-injective, value-node, twice_below}
+use Rattle.std.proofs.Common.{◌≡◌, ℕ, zero, suc, ◌+◌, ◌-◌, ◌*◌, ◌<◌, ◌≤◌, ⊎_elim, List, length, ℤ, pos, ◌+ℤ◌, sym, ap, ◌∙◌, arith, ◌≤ℤ◌, add-mul}
+use Rattle.word_image.proofs.Common.{cases_lt, ints, by_lt_z, mul-le, LocalRule, IsRule, IsWord, value, node_count, value-injective, value-node, twice_below}
 use Rattle.tail_config.proofs.Common.{RepeatsRight, RepeatsRight-times, same_right-period, at_run, Config, IsConfig, run, image_of, length-run, IsWord-run, same-run, image_of-window}
 use Rattle.config_laws.specs.Repeating.{RepeatsFarRight}
 use Rattle.config_laws.proofs.Joined.{meeting, meeting-left, meeting-right, IsConfig-meeting}
 use Rattle.config_laws.proofs.GoesOn.{GoesOn}
 use Rattle.config_laws.specs.Periodic.{HasPeriod}
-use Rattle.config_laws.proofs.Periods.{RepeatsRight-period, same_periodic, IsConfig-rounds, HasPeriod-image, rounds, HasPeriod-rounds, rounds-letter}
+use Rattle.config_laws.proofs.Periods.{RepeatsRight-period, same_periodic, IsConfig-rounds, HasPeriod-image, rounds, HasPeriod-rounds, rounds-first}
 
 -- p places from place i on, after which x has the same node under it, and over which its image is that of y, which repeats there
 pub record IsLoop (r : LocalRule) (x y : Config) (i : ℤ) (p : ℕ) : Type 0 where
@@ -15,22 +15,19 @@ pub record IsLoop (r : LocalRule) (x y : Config) (i : ℤ) (p : ℕ) : Type 0 wh
   pub image : (a : ℕ) → a < p → image_of r x (i +ℤ pos a) ≡ y (i +ℤ pos a)
   pub again : RepeatsRight p y i
 
--- the letters of a loop, and m - 1 more, are those of one turn
-pub one_turn : {r : LocalRule} {x y : Config} {i : ℤ} {p : ℕ} → IsLoop r x y i p → (n t : ℕ) → t < n → t < p + (r.width - 1) → x (i +ℤ r.offset +ℤ pos t) ≡ x (i +ℤ r.offset +ℤ pos (t % p))
-one_turn h zero t l within = absurd (omega arith)
-one_turn {r} {x} {y} {i} {p} h (suc n) t l within =
-    let s : ℤ = i +ℤ r.offset in
-    ⊎_elim (λ less. ap (λ j. x (s +ℤ pos j)) (sym (mod-eq_of_lt {n = t} less)))
-    (λ more.
-    let all : t ≡ p + (t - p) = omega arith in
-    ap (λ j. x (s +ℤ pos j)) all ∙ h.node (t - p) (omega arith) ∙ one_turn h n (t - p) (omega (arith, h.some)) (omega arith)
-    ∙ ap (λ j. x (s +ℤ pos j)) (sym (mod-eq-sub-mod more)))
-    (cases_lt t p)
-
 -- the letters of a loop, again and again, are those of the configuration on the loop and on m - 1 places more
-pub rounds-loop : {r : LocalRule} {x y : Config} {i : ℤ} {p : ℕ} → IsLoop r x y i p → (a : ℕ) → a < p + (r.width - 1) → rounds x (i +ℤ r.offset) p (i +ℤ r.offset +ℤ pos a) ≡ x (i +ℤ r.offset +ℤ pos a)
-rounds-loop {r} {x} {y} {i} {p} h a l =
-    rounds-letter x (i +ℤ r.offset) p a h.some ∙ sym (one_turn h (a + 1) a (omega arith) l)
+pub rounds-loop : {r : LocalRule} {x y : Config} {i : ℤ} {p : ℕ} → IsLoop r x y i p
+    → (n : ℕ) → n ≤ p + (r.width - 1) → (a : ℕ) → a < n → rounds x (i +ℤ r.offset) p (i +ℤ r.offset +ℤ pos a) ≡ x (i +ℤ r.offset +ℤ pos a)
+rounds-loop h zero most a l = absurd (omega arith)
+rounds-loop {r} {x} {i = i} {p = p} h (suc n) most a l =
+    let s : ℤ = i +ℤ r.offset in
+    ⊎_elim (rounds-first x s p a)
+    (λ more.
+    let all : p + (a - p) ≡ a = omega arith in
+    let turn : s +ℤ pos a ≡ s +ℤ pos (a - p) +ℤ pos p = omega (arith, ints) in
+    ap (rounds x s p) turn ∙ (HasPeriod-rounds x s h.some).again (s +ℤ pos (a - p)) ∙ rounds-loop h n (omega arith) (a - p) (omega (arith, h.some))
+    ∙ sym (h.node (a - p) (omega arith)) ∙ ap (λ b. x (s +ℤ pos b)) all)
+    (cases_lt a p)
 
 -- the letters of a loop, again and again, have the image y on the loop
 image_of-turn : {r : LocalRule} {x y : Config} {i : ℤ} {p : ℕ} → IsLoop r x y i p → (a : ℕ) → a < p → image_of r (rounds x (i +ℤ r.offset) p) (i +ℤ pos a) ≡ y (i +ℤ pos a)
@@ -38,7 +35,7 @@ image_of-turn {r} {x} {y} {i} {p} h a l =
     let z : Config = rounds x (i +ℤ r.offset) p in
     image_of-window r z x (i +ℤ pos a) (i +ℤ pos a) (λ b g.
     let place : i +ℤ pos a +ℤ r.offset +ℤ pos b ≡ i +ℤ r.offset +ℤ pos (a + b) = omega (arith, ints) in
-    ap z place ∙ rounds-loop h (a + b) (omega arith) ∙ sym (ap x place))
+    ap z place ∙ rounds-loop h (p + (r.width - 1)) (omega arith) (a + b) (omega arith) ∙ sym (ap x place))
     ∙ h.image a l
 
 -- the letters of a loop, again and again, have the image y, if y has the period of the loop
@@ -60,7 +57,7 @@ loops_on {r} {x} {y} {i} {p} hx h =
       goes = record {
         z = meeting x c s;
         config = IsConfig-meeting hx (IsConfig-rounds hx h.some s) s;
-        before = λ j l. by_lt_z j s (meeting-left x c s j) (λ g. meeting-right x c s j g ∙ at_run c x s (p + (r.width - 1)) (rounds-loop h) j g (omega (arith, ints)));
+        before = λ j l. by_lt_z j s (meeting-left x c s j) (λ g. meeting-right x c s j g ∙ at_run c x s (p + (r.width - 1)) (rounds-loop h (p + (r.width - 1)) (omega arith)) j g (omega (arith, ints)));
         after = λ j l.
             image_of-window r (meeting x c s) c j j (λ a g. meeting-right x c s (j +ℤ r.offset +ℤ pos a) (omega (arith, ints)))
             ∙ same_right-period (image_of r c) y p i h.some (RepeatsRight-period (HasPeriod-image r turns) i) h.again (image_of-turn h) j l;

@@ -79,10 +79,10 @@ ring_over {r} {q} rule every ring =
 
 -- a rule is surjective if the configuration of each ring is an image
 IsSurjective-ring_configs : {r : LocalRule} → IsRule r → ((q : List ℕ) → IsRing r.states q → (x : Config) × IsConfig r.states x × (image_of r x ≡ ring_letter q)) → IsSurjective r
-IsSurjective-ring_configs {r} rule onto [] hw = preimage_inside {x = zeros} rule (λ i. some_letter rule) [] refl
+IsSurjective-ring_configs {r} rule onto [] hw = preimage_inside {x = zeros} rule (λ i. some_letter rule) (pos 0) [] refl
 IsSurjective-ring_configs {r} rule onto (a ∷ w) hw =
     let found = onto (a ∷ w) (record { word = hw; some = omega arith }) in
-    preimage_inside rule found.1 (a ∷ w) (ap (λ (x : Config). run x (pos 0) (length (a ∷ w))) found.2 ∙ run-ring (a ∷ w))
+    preimage_inside rule found.1 (pos 0) (a ∷ w) (ap (λ (x : Config). run x (pos 0) (length (a ∷ w))) found.2 ∙ run-ring (a ∷ w))
 
 -- a rule is surjective exactly if each ring, written a number of times, is the image of a ring
 pub IsSurjective-rings : {r : LocalRule} → IsRule r → IsSurjective r ↔ IsOntoRings r

@@ -42,10 +42,10 @@ Says a b = (gives a b ≡ 0 → a % 2 ≡ b % 2) × (gives a b ≡ 1 → a ≡ 2
 
 says : (a b : ℕ) → a < 4 → b < 4 → Says a b
 says a b ha hb = each_letter (λ a. Says a b)
-    (each_letter (λ b. Says 0 b) (λ e. refl, λ e. absurd (omega arith), λ e. absurd (omega arith)) (λ e. absurd (omega arith), λ e. absurd (omega arith), λ e. absurd (omega arith)) (λ e. refl, λ e. absurd (omega arith), λ e. absurd (omega arith)) (λ e. absurd (omega arith), λ e. absurd (omega arith), λ e. absurd (omega arith)) b hb)
-    (each_letter (λ b. Says 1 b) (λ e. absurd (omega arith), λ e. absurd (omega arith), λ e. absurd (omega arith)) (λ e. refl, λ e. absurd (omega arith), λ e. absurd (omega arith)) (λ e. absurd (omega arith), λ e. absurd (omega arith), λ e. absurd (omega arith)) (λ e. refl, λ e. absurd (omega arith), λ e. absurd (omega arith)) b hb)
-    (each_letter (λ b. Says 2 b) (λ e. absurd (omega arith), λ e. refl, λ e. absurd (omega arith)) (λ e. absurd (omega arith), λ e. refl, λ e. absurd (omega arith)) (λ e. absurd (omega arith), λ e. refl, λ e. absurd (omega arith)) (λ e. absurd (omega arith), λ e. refl, λ e. absurd (omega arith)) b hb)
-    (each_letter (λ b. Says 3 b) (λ e. absurd (omega arith), λ e. absurd (omega arith), λ e. refl) (λ e. absurd (omega arith), λ e. absurd (omega arith), λ e. refl) (λ e. absurd (omega arith), λ e. absurd (omega arith), λ e. refl) (λ e. absurd (omega arith), λ e. absurd (omega arith), λ e. refl) b hb)
+    (each_letter (λ b. Says 0 b) (grind arith) (grind arith) (grind arith) (grind arith) b hb)
+    (each_letter (λ b. Says 1 b) (grind arith) (grind arith) (grind arith) (grind arith) b hb)
+    (each_letter (λ b. Says 2 b) (grind arith) (grind arith) (grind arith) (grind arith) b hb)
+    (each_letter (λ b. Says 3 b) (grind arith) (grind arith) (grind arith) (grind arith) b hb)
     a ha
 
 -- all pairs of different letters are a pair list of the rule
@@ -94,10 +94,10 @@ OneOfTwo-excluded_middle decided p q down_p down_q either =
     (λ not_all. inr (λ n. ⊎_elim (λ h. h) (λ fails. absurd (not_all (passes_everywhere p q down_p down_q either n fails))) (cases_Bool (q n))))
     (decided p)
 
--- if each configuration is an image under this rule, one of two tests passes at all numbers
-pub OneOfTwo-onto : IsOntoMap parities → OneOfTwo
-OneOfTwo-onto onto p q down_p down_q either =
-    let found = onto (marks p q) (IsConfig-marks p q) in
+-- if each configuration is an image under each surjective rule, also under this one, then one of two tests passes at all numbers
+pub OneOfTwo-needed : ((r : LocalRule) → IsRule r → IsSurjective r → IsOntoMap r) → OneOfTwo
+OneOfTwo-needed onto p q down_p down_q either =
+    let found = onto parities IsRule-parities IsSurjective-parities (marks p q) (IsConfig-marks p q) in
     let x : Config = found.0 in
     let s : ℕ → ℕ = λ j. x (pos j) in
     let tells : (j : ℕ) → gives (s j) (s (suc j)) ≡ mark (p j) (q j) = λ j.
@@ -116,7 +116,3 @@ OneOfTwo-onto onto p q down_p down_q either =
     ⊎_elim (λ e. inr (λ n. ⊎_elim (λ h. h) (λ h. absurd (omega (arith, e, odd n h))) (cases_Bool (q n))))
     (λ other. inl (λ n. ⊎_elim (λ h. h) (λ h. absurd (other (even n h))) (cases_Bool (p n))))
     (cases_eq (s 0 % 2) 0)
-
--- if each configuration is an image under each surjective rule, one of two tests passes at all numbers
-pub OneOfTwo-needed : ((r : LocalRule) → IsRule r → IsSurjective r → IsOntoMap r) → OneOfTwo
-OneOfTwo-needed onto = OneOfTwo-onto (onto parities IsRule-parities IsSurjective-parities)

@@ -1,39 +1,26 @@
 -- A rule is surjective exactly if all preimages of periodic configurations are periodic: else more configurations than nodes have one image.
-use Rattle.std.proofs.Common.{◌≡◌, ℕ, zero, suc, ◌+◌, ◌-◌, ◌*◌, ◌≤◌, ◌↔◌, ⊎_elim, List, length, ℤ, pos, ◌+ℤ◌, ◌-ℤ◌, unsigned_abs, refl, sym, ap, ◌∙◌, subst, arith, mul_comm, add-mul, ◌<ℤ◌, ◌≤ℤ◌}
-use Rattle.std.proofs.Math.Path.{fun_ext}
-use Rattle.word_image.proofs.Common.{cases_eq, ints, by_lt_z, mul-le, LocalRule, IsRule, node_count, IsSurjective, IsErasable, ring_letter}
-use Rattle.garden_laws.proofs.Exchange.{IsErasable-long}
+use Rattle.std.proofs.Common.{◌≡◌, ℕ, zero, suc, ◌-◌, ◌*◌, ◌≤◌, ◌↔◌, ⊎_elim, length, ℤ, pos, ◌+ℤ◌, ◌-ℤ◌, unsigned_abs, refl, sym, ap, ◌∙◌, subst, arith, ◌<ℤ◌, ◌≤ℤ◌}
+use Rattle.word_image.proofs.Common.{cases_eq, ints, by_lt_z, mul-le, LocalRule, IsRule, node_count, IsSurjective}
 use Rattle.garden_laws.proofs.GardenOfEden.{garden_of_eden}
-use Rattle.tail_config.proofs.Common.{DifferAt, differ_at, Config, IsConfig, image_of, RepeatsRight, RepeatsRight-times, same_right-back}
+use Rattle.tail_config.proofs.Common.{Config, IsConfig, image_of, RepeatsLeft-times, RepeatsRight, same_right-back}
 use Rattle.config_laws.specs.Periodic.{HasPeriod, HasPeriodicPreimages}
-use Rattle.config_laws.proofs.Images.{image_of-moved}
 use Rattle.config_laws.proofs.Joined.{meeting, meeting-left, meeting-right, IsConfig-meeting, image_of-meeting}
 use Rattle.config_laws.proofs.Loops.{IsLoop, rounds-loop, image_of-rounds, SomeLoop, some_loop}
-use Rattle.config_laws.proofs.Exchange.{placed-inside, placed-behind, one_other, turn_letter, image_of-one_other, AreMany-erasable}
+use Rattle.config_laws.proofs.Exchange.{AreMany-moved, not_periodic, broken}
 use Rattle.config_laws.proofs.FewPreimages.{not_many}
-use Rattle.config_laws.proofs.Periods.{rounds, IsConfig-rounds, HasPeriod-rounds, RepeatsRight-period, HasPeriod-times, HasPeriod-image, HasPeriod-ring}
+use Rattle.config_laws.proofs.Periods.{rounds, IsConfig-rounds, HasPeriod-rounds, RepeatsLeft-period, RepeatsRight-period, HasPeriod-times}
 
--- under a surjective rule z has the letter of c at a place if it has the letters of c before it, and c and the image of z have one period: else z, moved by one period, by two and so on, is too many configurations with one image
+-- under a surjective rule z has the letter of c at a place if it has the letters of c before it, and c and the image of z have one period: else z breaks the period of its image
 same_next : {r : LocalRule} {z c : Config} {p : ℕ} → IsRule r → IsSurjective r → IsConfig r.states z → HasPeriod p (image_of r z) → HasPeriod p c
     → (i : ℤ) → ((j : ℤ) → j <ℤ i → z j ≡ c j) → z i ≡ c i
-same_next {r} {z} {c} {p} rule every hz image period i before = ⊎_elim (λ e. e) (λ other. absurd (not_many rule every (λ n j. z (j +ℤ pos (n * p))) (record {
-  configs = λ n j. hz (j +ℤ pos (n * p));
-  differ = λ m n l most. (
-    i -ℤ pos (n * p),
-    λ e.
-        let q : ℤ = i -ℤ pos (n * p) +ℤ pos (m * p) in
-        let far : 1 * 1 ≤ (n - m) * p = mul-le 1 1 (n - m) p (omega arith) period.some in
-        let all : n ≡ m + (n - m) = omega arith in
-        let turns : n * p ≡ m * p + (n - m) * p = ap (λ a. a * p) all ∙ add-mul m (n - m) p in
-        let here : i -ℤ pos (n * p) +ℤ pos (n * p) ≡ i = omega (arith, ints) in
-        let on : q +ℤ pos ((n - m) * p) ≡ i = omega (arith, ints) in
-        other (sym (ap z here) ∙ sym e ∙ before q (omega (arith, ints)) ∙ sym (RepeatsRight-times (n - m) p c q (RepeatsRight-period period q) q (omega (arith, ints))) ∙ ap c on),
-  );
-  one_image = λ n. fun_ext (λ j. moved n j ∙ sym (moved 0 j));
-}))) (cases_eq (z i) (c i))
-  where
-    moved : (n : ℕ) (j : ℤ) → image_of r (λ k. z (k +ℤ pos (n * p))) j ≡ image_of r z j
-    moved n j = image_of-moved r z (pos (n * p)) j ∙ RepeatsRight-times n p (image_of r z) j (RepeatsRight-period image j) j (omega (arith, ints))
+same_next {r} {z} {c} {p} rule every hz image period i before = ⊎_elim (λ e. e) (λ other. absurd (not_many rule every _ (AreMany-moved hz image (record {
+  place = i;
+  letter = c i;
+  other = other;
+  before = λ k some.
+      let far : 1 * 1 ≤ k * p = mul-le 1 1 k p some period.some in
+      before _ (omega (arith, ints, far)) ∙ RepeatsLeft-times k p c (i +ℤ pos 1) (RepeatsLeft-period period (i +ℤ pos 1)) i (omega (arith, ints));
+}) (node_count r)))) (cases_eq (z i) (c i))
 
 -- under a surjective rule z has the letters of c if it has them before some place, and c and the image of z have one period
 same_up_to : {r : LocalRule} {z c : Config} {p : ℕ} → IsRule r → IsSurjective r → IsConfig r.states z → HasPeriod p (image_of r z) → HasPeriod p c
@@ -57,7 +44,7 @@ RepeatsRight-loop {r} {x} {y} {i} {p} rule every hx image period h j l = at (j +
     turns = HasPeriod-rounds x s h.some
 
     one : image_of r (meeting c x s) ≡ y
-    one = image_of-meeting r c x i (λ a k. rounds-loop h a (omega arith)) (image_of-rounds h period) image
+    one = image_of-meeting r c x i (rounds-loop h (r.width - 1) (omega arith)) (image_of-rounds h period) image
 
     at : (k : ℤ) → s ≤ℤ k → x k ≡ c k
     at k g =
@@ -87,27 +74,11 @@ HasPeriod-preimage {r} {x} {p} rule every hx period =
         same_right-back (λ k. x (k +ℤ pos q)) x t t (before.place +ℤ r.offset) (at.place +ℤ r.offset) before.loop.some before.loop.some moved (repeats before)
         (λ k l. repeats at k (omega (arith, ints))) j (omega (arith, ints, before.within))
 
--- one word of an erasable pair again and again, but for one block, isn't periodic
-one_other-aperiodic : {r : LocalRule} {x y : List ℕ} → IsErasable r x y → 1 ≤ length x → (i p : ℕ) → ¬ HasPeriod p (one_other x y i)
-one_other-aperiodic {r} {x} {y} h some i p period =
-    let n : ℕ = length x in
-    let s : ℤ = pos (i * n) in
-    let d : DifferAt x y = differ_at x y h.one_length h.different in
-    let a : ℕ = d.place in
-    let far : 1 * n ≤ p * n = mul-le 1 n p n period.some (omega arith) in
-    let place : s +ℤ pos (a + p * n) ≡ s +ℤ pos a +ℤ pos (p * n) = omega (arith, ints) in
-    let turns : HasPeriod (p * n) (one_other x y i) = subst (λ q. HasPeriod q (one_other x y i)) (mul_comm n p) (HasPeriod-times n some period) in
-    d.other (turn_letter x i a d.within
-    ∙ sym ((HasPeriod-times p period.some (HasPeriod-ring x some)).again (s +ℤ pos a)) ∙ sym (ap (ring_letter x) place)
-    ∙ sym (placed-behind (ring_letter x) s y (a + p * n) (omega (arith, far, h.one_length))) ∙ ap (one_other x y i) place
-    ∙ turns.again (s +ℤ pos a) ∙ placed-inside (ring_letter x) s y a (omega (arith, d.within, h.one_length)))
-
 -- a rule is surjective exactly if each preimage of a periodic configuration is periodic
 pub IsSurjective-periodic_preimages : {r : LocalRule} → IsRule r → IsSurjective r ↔ HasPeriodicPreimages r
 IsSurjective-periodic_preimages {r} rule = (
   λ every x hx (p, period). let (l, some, few, times) = HasPeriod-preimage rule every hx period in (l * p, times),
   λ keeps. (garden_of_eden rule).1 (λ x y h.
-      let some : 1 ≤ length x = omega (arith, IsErasable-long h) in
-      let (p, period) = keeps (one_other x y 0) ((AreMany-erasable rule h 0).configs 0) (length x, subst (HasPeriod (length x)) (sym (image_of-one_other rule h 0)) (HasPeriod-image r (HasPeriod-ring x some))) in
-      one_other-aperiodic h some 0 p period),
+      let (z, hz, period, breaks) = broken rule h in
+      not_periodic breaks (keeps z hz (length x, period)).1),
 )

@@ -1,11 +1,11 @@
 -- Periodic configurations: their multiple periods, their images, when two are equal, and the letters of a run again and again.
-use Rattle.std.proofs.Common.{◌≡◌, ℕ, ◌*◌, ◌<◌, ◌≤◌, List, length, ℤ, pos, ◌+ℤ◌, ◌-ℤ◌, unsigned_abs, refl, sym, ap, ◌∙◌, subst, arith, mul-one, ◌%◌, slice_index, mod-lt, mod-eq_of_lt}
+use Rattle.std.proofs.Common.{◌≡◌, ℕ, ◌*◌, ◌<◌, ◌≤◌, List, length, ℤ, pos, ◌+ℤ◌, ◌-ℤ◌, unsigned_abs, refl, sym, ap, ◌∙◌, subst, arith, mul-one, ◌%◌, slice_index, mod-eq_of_lt}
 use Rattle.std.proofs.Math.Path.{fun_ext}
 use Rattle.word_image.proofs.Common.{ints, mul-le, LocalRule, IsRule, IsRing, ring_letter, ring_letter-turn, ring_letter-below}
 use Rattle.tail_config.proofs.Common.{RepeatsLeft, RepeatsRight, RepeatsRight-times, same_right-period, Config, IsConfig, IsInjective, run, image_of, length-run, get_or-run, IsWord-run}
 use Rattle.config_laws.specs.Periodic.{HasPeriod}
 use Rattle.config_laws.proofs.Images.{image_of-moved}
-use Rattle.config_laws.proofs.Injective.{IsInjective-everywhere}
+use Rattle.config_laws.proofs.Everywhere.{IsInjective-everywhere}
 
 -- a periodic configuration repeats on the right of any place
 pub RepeatsRight-period : {p : ℕ} {x : Config} → HasPeriod p x → (a : ℤ) → RepeatsRight p x a
@@ -68,15 +68,11 @@ HasPeriod-rounds {p} x s some = record {
       ap (ring_letter (run x s p)) place ∙ ring_letter-turn (run x s p) (i -ℤ s) (omega (arith, length-run x s p));
 }
 
--- p letters again and again have at each place the letter that stands there, counted round
-pub rounds-letter : (x : Config) (s : ℤ) (p a : ℕ) → 1 ≤ p → rounds x s p (s +ℤ pos a) ≡ x (s +ℤ pos (a % p))
-rounds-letter x s p a some =
-    let place : s +ℤ pos a -ℤ s ≡ pos a = omega (arith, ints) in
-    ap (ring_letter (run x s p)) place ∙ ap (λ n. slice_index (run x s p) (a % n)) (length-run x s p) ∙ get_or-run x s (s +ℤ pos (a % p)) p (a % p) (mod-lt a some) refl
-
 -- p letters again and again are the letters that stand there on the first p places
 pub rounds-first : (x : Config) (s : ℤ) (p a : ℕ) → a < p → rounds x s p (s +ℤ pos a) ≡ x (s +ℤ pos a)
-rounds-first x s p a l = rounds-letter x s p a (omega arith) ∙ ap (λ b. x (s +ℤ pos b)) (mod-eq_of_lt l)
+rounds-first x s p a l =
+    let place : s +ℤ pos a -ℤ s ≡ pos a = omega (arith, ints) in
+    ap (ring_letter (run x s p)) place ∙ ap (λ n. slice_index (run x s p) (a % n)) (length-run x s p) ∙ ap (slice_index (run x s p)) (mod-eq_of_lt l) ∙ get_or-run x s (s +ℤ pos a) p a l refl
 
 -- a periodic configuration is the letters of one period, again and again
 pub rounds-period : {p : ℕ} {x : Config} → HasPeriod p x → (s : ℤ) → rounds x s p ≡ x

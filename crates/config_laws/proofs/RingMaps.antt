@@ -5,8 +5,8 @@ use Rattle.tail_config.proofs.Common.{Config, IsInjective, run, length-run}
 use Rattle.tail_laws.proofs.Certainty.{IsInjective-no_twins}
 use Rattle.config_laws.specs.Periodic.{HasPeriod}
 use Rattle.config_laws.specs.RingMaps.{IsBijectiveOnRings}
-use Rattle.config_laws.proofs.Bijective.{one_preimage}
-use Rattle.config_laws.proofs.Injective.{IsInjective-everywhere}
+use Rattle.config_laws.proofs.Bijective.{IsInjective-bijective}
+use Rattle.config_laws.proofs.Everywhere.{IsInjective-everywhere}
 use Rattle.config_laws.proofs.Periods.{IsRing-run, HasPeriod-ring, HasPeriod-injective}
 use Rattle.config_laws.proofs.RingImages.{ring_image-run, length-ring_image, IsRing-ring_image, run-ring, image_of-ring}
 
@@ -14,7 +14,7 @@ use Rattle.config_laws.proofs.RingImages.{ring_image-run, length-ring_image, IsR
 some_ring : {r : LocalRule} → IsRule r → IsInjective r → (q : List ℕ) → IsRing r.states q → (p : List ℕ) × IsRing r.states p × (length p ≡ length q) × (ring_image r p ≡ q)
 some_ring {r} rule injective q ring =
     let n : ℕ = length q in
-    let (x, hx, image, only) = one_preimage rule injective (ring_letter q) (ring_letter-below ring) in
+    let (x, hx, image, only) = (IsInjective-bijective rule).0 injective (ring_letter q) (ring_letter-below ring) in
     let period : HasPeriod n x = HasPeriod-injective rule injective hx (subst (HasPeriod n) (sym image) (HasPeriod-ring q ring.some)) in
     (run x (pos 0) n, IsRing-run hx ring.some (pos 0), length-run x (pos 0) n, ring_image-run r period ∙ ap (λ (y : Config). run y (pos 0) n) image ∙ run-ring q)
 

@@ -1,5 +1,5 @@
 -- Under a surjective rule each configuration that repeats far out is the image of one that does: a preimage of many periods passes one node twice, and goes round between for ever.
-use Rattle.std.proofs.Common.{◌≡◌, ℕ, ◌+◌, ◌*◌, ◌<◌, ◌↔◌, length, ℤ, pos, ◌+ℤ◌, ◌-ℤ◌, neg_ℤ, unsigned_abs, refl, sym, ap, ◌∙◌, arith, ◌<ℤ◌, ◌≤ℤ◌}
+use Rattle.std.proofs.Common.{◌≡◌, ℕ, ◌+◌, ◌*◌, ◌<◌, length, ℤ, pos, ◌+ℤ◌, ◌-ℤ◌, neg_ℤ, unsigned_abs, refl, sym, ap, ◌∙◌, arith, ◌<ℤ◌, ◌≤ℤ◌}
 use Rattle.word_image.proofs.Common.{ints, by_lt_z, LocalRule, IsRule, node_count, mirrored, IsSurjective, IsRule-mirrored, some_letter}
 use Rattle.tail_config.proofs.Common.{RepeatsRight, Config, IsConfig, run, image_of, zeros}
 use Rattle.config_laws.specs.Sums.{IsFinite}
@@ -87,7 +87,7 @@ pub repeats_from : {y : Config} → (e : ℤ) → RepeatsFarRight y → (h : Rep
 repeats_from {y} e right = let h = RepeatsFarRight-behind {x = y} {z = y} e (λ j l. refl) right in (h, omega (arith, ints))
 
 -- under a surjective rule each configuration that repeats far out is the image of one that does
-IsOntoTails-surjective : {r : LocalRule} → IsRule r → IsSurjective r → IsOntoTails r
+pub IsOntoTails-surjective : {r : LocalRule} → IsRule r → IsSurjective r → IsOntoTails r
 IsOntoTails-surjective {r} rule every y hy (left, first) =
     let (right, order) = repeats_from left.place first in
     let l : ℕ = node_count r * left.period in
@@ -104,11 +104,7 @@ HasTails-finite {x} ((p, left), (q, right)) = (
 )
 
 -- a rule that takes configurations that repeat far out to all of them takes some word to each
-IsSurjective-tails : {r : LocalRule} → IsRule r → IsOntoTails r → IsSurjective r
+pub IsSurjective-tails : {r : LocalRule} → IsRule r → IsOntoTails r → IsSurjective r
 IsSurjective-tails {r} rule onto w hw =
     let (x, hx, tails, same) = onto (between_zeros w) (IsConfig-written (some_letter rule) (λ j. some_letter rule) (pos 0) w hw) (HasTails-finite (IsFinite-between w)) in
-    preimage_inside rule hx w (ap (λ z. run z (pos 0) (length w)) same ∙ run-written zeros (pos 0) w)
-
--- a rule is surjective exactly if each configuration that repeats far out is the image of one that does
-pub IsSurjective-repeating : {r : LocalRule} → IsRule r → IsSurjective r ↔ IsOntoTails r
-IsSurjective-repeating rule = (IsOntoTails-surjective rule, IsSurjective-tails rule)
+    preimage_inside rule hx (pos 0) w (ap (λ z. run z (pos 0) (length w)) same ∙ run-written zeros (pos 0) w)

@@ -1,15 +1,13 @@
 -- Where what is read around a place tells which nodes the preimages of a configuration have there.
-use Rattle.std.proofs.Common.{◌≡◌, ◌⊎◌, ℕ, ◌+◌, ◌-◌, ◌*◌, inl, inr, ⊎_elim, List, length, take, drop, ℤ, pos, ◌+ℤ◌, ◌-ℤ◌, unsigned_abs, refl, sym, ap, ◌∙◌, arith, ◌<ℤ◌, ◌≤ℤ◌}
-use Rattle.word_image.proofs.Common.{ints, LocalRule, IsRule, IsWord, node_count, image, decide_both}
-use Rattle.tail_config.proofs.Common.{Config, IsConfig, IsOpen, run, image_of, length-run, IsWord-run, run-same, take-run, drop-run, image-run}
+use Rattle.std.proofs.Common.{◌≡◌, ◌⊎◌, ℕ, ◌+◌, ◌-◌, ◌*◌, inl, inr, ⊎_elim, List, ℤ, pos, ◌+ℤ◌, ◌-ℤ◌, unsigned_abs, sym, ap, ◌∙◌, arith, ◌<ℤ◌, ◌≤ℤ◌}
+use Rattle.word_image.proofs.Common.{ints, LocalRule, IsRule, node_count, decide_both, some_letter}
+use Rattle.tail_config.proofs.Common.{Config, IsConfig, IsOpen, run, image_of, run-same, same-run, at_run, image_of-window}
 use Rattle.tail_laws.proofs.Common.{IsRightClosing-window, IsLeftClosing-window}
 use Rattle.config_laws.specs.Repeating.{RepeatsFarLeft, HasTails}
-use Rattle.config_laws.proofs.Dense.{matches-at, matches_written}
 use Rattle.config_laws.proofs.GoesOn.{enough}
 use Rattle.config_laws.proofs.BothSides.{Between, between}
 use Rattle.config_laws.proofs.Tails.{between_tails, repeats_from}
-use Rattle.config_laws.proofs.Onto.{same_word}
-use Rattle.config_laws.proofs.Endless.{decide_word}
+use Rattle.config_laws.proofs.Endless.{same_word, decide_config}
 
 -- the node with which the window of place i begins
 abbrev pub node_under : LocalRule → Config → ℤ → List ℕ
@@ -51,37 +49,18 @@ IsFollowed-tails {r} {y} rule (first, last) i =
       λ x hx agree. Through-between (between_tails rule hx left right (omega (arith, ints)) (λ j low high. agree j (omega (arith, ints)) (omega (arith, ints)))).0 i (omega (arith, ints)) order,
     )
 
--- the letters under the places from i - n to i + n
-abbrev under : LocalRule → Config → ℤ → ℕ → List ℕ
-under r x i n = run x (i -ℤ pos n +ℤ r.offset) (n + n + 1 + (r.width - 1))
-
--- the node under place i stands in the middle of them
-node-under : (r : LocalRule) (x : Config) (i : ℤ) (n : ℕ) → take (r.width - 1) (drop n (under r x i n)) ≡ node_under r x i
-node-under r x i n =
-    let all : n + n + 1 + (r.width - 1) ≡ n + (n + 1 + (r.width - 1)) = omega arith in
-    ap (λ l. take (r.width - 1) (drop n (run x (i -ℤ pos n +ℤ r.offset) l))) all
-    ∙ ap (take (r.width - 1)) (drop-run x (i -ℤ pos n +ℤ r.offset) (i +ℤ r.offset) n (n + 1 + (r.width - 1)) (omega (arith, ints)))
-    ∙ take-run x (i +ℤ r.offset) (n + 1 + (r.width - 1)) (r.width - 1) (omega arith)
-
 -- if some places around i are enough, it can be decided whether there is a preimage with a node under place i
 pub through_or_not : {r : LocalRule} {y : Config} → IsRule r → (i : ℤ) (n : ℕ) → IsFollowed r y i n → (w : List ℕ) → Through r y i w ⊎ ¬ Through r y i w
 through_or_not {r} {y} rule i n followed w =
-    ⊎_elim (λ (z, word, long, is). inl (through z word long is.0 is.1)) (λ none. inr (λ (z, hz, maps, node). none (
-      under r z i n,
-      IsWord-run hz s (n + n + 1 + (r.width - 1)),
-      length-run z s (n + n + 1 + (r.width - 1)),
-      (image-run rule z (i -ℤ pos n) s (n + n + 1) refl ∙ ap (λ (c : Config). run c (i -ℤ pos n) (n + n + 1)) maps, node-under r z i n ∙ node),
+    let s : ℤ = i -ℤ pos n in
+    let l : ℕ = n + n + 1 in
+    ⊎_elim (λ (x, hx, (same, node)).
+    let (z, hz, maps, is) = followed x hx (λ j low high. at_run (image_of r x) y s l (same-run (image_of r x) y s s l same) j low (omega (arith, ints))) in
+    inl (z, hz, maps, is ∙ node))
+    (λ none. inr (λ (z, hz, maps, node). none (z, hz, (ap (λ (c : Config). run c s l) maps, node))))
+    (decide_config (some_letter rule) (unsigned_abs i + n + unsigned_abs r.offset + r.width) (λ z. (run (image_of r z) s l ≡ run y s l) × (node_under r z i ≡ w))
+    (λ z. decide_both (same_word (run (image_of r z) s l) (run y s l)) (same_word (node_under r z i) w))
+    (λ x z agree (same, node). (
+      run-same (image_of r z) (image_of r x) s s l (λ a h. image_of-window r z x _ _ (λ b k. sym (agree (s +ℤ pos a +ℤ r.offset +ℤ pos b) (omega (arith, ints)) (omega (arith, ints))))) ∙ same,
+      run-same z x _ _ (r.width - 1) (λ a h. sym (agree (i +ℤ r.offset +ℤ pos a) (omega (arith, ints)) (omega (arith, ints)))) ∙ node,
     )))
-    (decide_word r.states (n + n + 1 + (r.width - 1)) (λ z. (image r z ≡ read) × (take (r.width - 1) (drop n z) ≡ w)) (λ z. decide_both (same_word (image r z) read) (same_word (take (r.width - 1) (drop n z)) w)))
-  where
-    s : ℤ
-    s = i -ℤ pos n +ℤ r.offset
-
-    read : List ℕ
-    read = run y (i -ℤ pos n) (n + n + 1)
-
-    through : (z : List ℕ) → IsWord r.states z → length z ≡ n + n + 1 + (r.width - 1) → image r z ≡ read → take (r.width - 1) (drop n z) ≡ w → Through r y i w
-    through z word long maps node =
-        let (m, whole) = matches_written rule (i -ℤ pos n) (n + n + 1) z (record { word = word; long = long ∙ ap (λ l. l + (r.width - 1)) (sym (length-run y (i -ℤ pos n) (n + n + 1))); maps = maps }) in
-        let found = followed m.x m.config (λ j low high. matches-at m j low (omega (arith, ints))) in
-        (found.0, found.1, found.2, found.3 ∙ sym (node-under r m.x i n) ∙ ap (λ u. take (r.width - 1) (drop n u)) (ap (run m.x s) (sym long) ∙ whole) ∙ node)

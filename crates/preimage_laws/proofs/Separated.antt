@@ -3,8 +3,7 @@ use Rattle.std.proofs.Common.{◌≡◌, ◌-◌, ◌↔◌, ℤ, pos, ◌+ℤ�
 use Rattle.word_image.proofs.Common.{ints, LocalRule, IsRule}
 use Rattle.tail_config.proofs.Common.{Config, IsConfig, run, image_of, IsOpen, run-same, same-run}
 use Rattle.config_laws.proofs.Joined.{meeting, meeting-left, meeting-right, IsConfig-meeting, image_of-meeting}
-use Rattle.config_laws.proofs.Closing.{IsRightClosing-everywhere}
-use Rattle.config_laws.proofs.Flips.{IsLeftClosing-everywhere}
+use Rattle.config_laws.proofs.Everywhere.{IsRightClosing-everywhere, IsLeftClosing-everywhere}
 use Rattle.preimage_laws.specs.PreimageCounts.{HasSeparatedPreimages}
 
 -- the left part of one preimage and the right part of another make a third, if they have the same m - 1 letters where they meet

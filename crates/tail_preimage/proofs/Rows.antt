@@ -8,10 +8,6 @@ pub record AreRowsFilled (r : LocalRule) (Related : ℕ → ℕ → Type 0) (n :
   pub long : length rows ≡ 16
   pub each : (v : ℕ) → v < n → IsNodeSet r (Related v) (slice_index rows v)
 
--- at the beginning no row is filled
-pub AreRowsFilled-none : (r : LocalRule) (Related : ℕ → ℕ → Type 0) (rows : List ℕ) → length rows ≡ 16 → AreRowsFilled r Related 0 rows
-AreRowsFilled-none r Related rows long = record { long = long; each = λ v l. absurd (omega arith) }
-
 -- one row more is filled
 pub AreRowsFilled-more : {r : LocalRule} {Related : ℕ → ℕ → Type 0} {u row : ℕ} {rows : List ℕ} (place : ℕ) → IsRule r → u < node_count r → place ≡ u → AreRowsFilled r Related u rows → IsNodeSet r (Related u) row
     → AreRowsFilled r Related (u + 1) (set rows place row)
@@ -19,10 +15,6 @@ AreRowsFilled-more {r} {Related} {u} {row} {rows} place rule l e h here = record
   long = length-set rows place row ∙ h.long;
   each = set_more (λ v set. IsNodeSet r (Related v) set) rows u place 0 row (omega (arith, rule.shape.most_nodes, h.long)) e h.each here;
 }
-
--- all rows are filled
-pub AreRowsFilled-all : {r : LocalRule} {Related : ℕ → ℕ → Type 0} {n : ℕ} {rows : List ℕ} → n ≡ node_count r → AreRowsFilled r Related n rows → IsRelation r Related rows
-AreRowsFilled-all e h = record { rows = λ u l. h.each u (omega arith) }
 
 -- relations that have the same pairs of nodes have the same table
 pub IsRelation-same : {r : LocalRule} {P Q : ℕ → ℕ → Type 0} {table : List ℕ} → ((u v : ℕ) → u < node_count r → v < node_count r → (P u v ↔ Q u v)) → IsRelation r P table → IsRelation r Q table

@@ -1,7 +1,6 @@
 use Rattle.std.proofs.Common.{refl}
 use Rattle.tail_laws.proofs.Common.{ahead_letter}
-use Rattle.config_laws.proofs.Closing.{IsRightClosing-everywhere}
-use Rattle.config_laws.proofs.Flips.{IsLeftClosing-everywhere}
+use Rattle.config_laws.proofs.Everywhere.{IsRightClosing-everywhere, IsLeftClosing-everywhere}
 use Rattle.config_laws.proofs.LeftAhead.{letter_before}
 use Rattle.config_laws.proofs.closing_everywhere.Goals as goal
 

@@ -1,6 +1,6 @@
 use Rattle.std.proofs.Common.{refl}
 use Rattle.tail_laws.proofs.Common.{determined_letter}
-use Rattle.config_laws.proofs.Injective.{IsInjective-everywhere}
+use Rattle.config_laws.proofs.Everywhere.{IsInjective-everywhere}
 use Rattle.config_laws.proofs.injective_everywhere.Goals as goal
 
 pub returns-clause-exactly : goal.returns-clause-exactly

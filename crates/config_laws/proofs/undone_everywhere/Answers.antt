@@ -1,5 +1,5 @@
-use Rattle.config_laws.proofs.Composed.{IsUndoneBy-turned, IsInjective-undone, IsConserving-both_ways}
-use Rattle.config_laws.proofs.RingImages.{ring_image-undone}
+use Rattle.config_laws.proofs.Composed.{IsUndoneBy-turned, IsInjective-undone}
+use Rattle.config_laws.proofs.RingImages.{ring_image-undone, IsConserving-undone}
 use Rattle.config_laws.proofs.undone_everywhere.Goals as goal
 
 pub returns-clause-turned : goal.returns-clause-turned
@@ -9,7 +9,7 @@ pub returns-clause-injective : goal.returns-clause-injective
 returns-clause-injective c r s rule u = IsInjective-undone rule u
 
 pub returns-clause-conserving : goal.returns-clause-conserving
-returns-clause-conserving c weight r s first second u = IsConserving-both_ways first second u weight
+returns-clause-conserving c weight r s first second u = (IsConserving-undone second (IsUndoneBy-turned first u) weight, IsConserving-undone first u weight)
 
 pub returns-clause-rings : goal.returns-clause-rings
 returns-clause-rings c r s p u ring = ring_image-undone u p ring

@@ -13,7 +13,7 @@ use Rattle.tail_preimage.specs.declared.shapes.PartRelations.{PartRelations}
 use Rattle.tail_preimage.proofs.laws.Walks.{IsWalk-first}
 use Rattle.tail_preimage.proofs.laws.Steps.{Open-rounds}
 use Rattle.tail_preimage.proofs.laws.PlacedWalks.{IsPreimage-stretch}
-use Rattle.tail_preimage.proofs.laws.Parts.{SomeRounds-periods, walks-Starts, IsOrphan-PassesThrough, PassesThrough-IsOrphan}
+use Rattle.tail_preimage.proofs.laws.Parts.{SomeRounds-periods, walks-Starts, IsOrphan-PassesThrough}
 use Rattle.tail_preimage.proofs.laws.LeastPreimages.{IsLeastPreimage-unique}
 
 -- where 16 right periods lead through any number of them does
@@ -25,13 +25,13 @@ PassesThrough-any {parts = parts} h b a (v, w, v_node, w_node, before, row, lead
 -- the first numbers of periods that lead nowhere are the least gap
 pub IsGap-first : {r : LocalRule} {t : TailConfig} {parts : PartRelations} → IsTail r.states t → AreTailParts r t parts → (b a : ℕ) → IsFirstGap r parts b a → IsGap r t b a (stretch t b a)
 IsGap-first {r} {t} ht h b a gap =
-    let orphan : IsOrphan r (stretch t b a) = PassesThrough-IsOrphan ht h b a gap.closed in
+    let orphan : IsOrphan r (stretch t b a) = (IsOrphan-PassesThrough ht h b a).1 gap.closed in
     record {
       least = record {
         word = refl;
         orphan = orphan;
-        before_least = λ i j other. ⊎_elim (λ l. absurd (gap.before_least i l (λ passes. IsOrphan-PassesThrough h i j other (PassesThrough-any h i j passes)))) (λ l. l) (cases_lt i b);
-        after_least = λ j other. ⊎_elim (λ l. absurd (gap.after_least j l (IsOrphan-PassesThrough h b j other))) (λ l. l) (cases_lt j a);
+        before_least = λ i j other. ⊎_elim (λ l. absurd (gap.before_least i l (λ passes. (IsOrphan-PassesThrough ht h i j).0 other (PassesThrough-any h i j passes)))) (λ l. l) (cases_lt i b);
+        after_least = λ j other. ⊎_elim (λ l. absurd (gap.after_least j l ((IsOrphan-PassesThrough ht h b j).0 other))) (λ l. l) (cases_lt j a);
       };
       before_few = gap.before_few;
       after_few = gap.after_few;

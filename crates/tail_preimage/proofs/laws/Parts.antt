@@ -6,7 +6,7 @@ use Rattle.tail_config.proofs.Common.{TailConfig, IsTail}
 use Rattle.tail_preimage.specs.Walks.{HasWalk}
 use Rattle.tail_preimage.specs.Preimages.{Shape, stretch}
 use Rattle.tail_preimage.specs.Relations.{IsRelation, Steps, Open, SomeRounds, Meets}
-use Rattle.tail_preimage.specs.Parts.{ArePeriods, AreTailParts, PassesThrough, Starts, IsPossible}
+use Rattle.tail_preimage.specs.Parts.{ArePeriods, AreTailParts, PassesThrough, Starts}
 use Rattle.tail_preimage.specs.FirstWalks.{AreLoopWalks}
 use Rattle.tail_preimage.specs.declared.periods.Periods.{Periods}
 use Rattle.tail_preimage.specs.declared.shapes.PartRelations.{PartRelations}
@@ -87,24 +87,16 @@ walks-Starts {s = s} {v = v} {w = w} {x = x} {y = y} {z = z} h walks =
     let turn = (Steps-repeat h.rule h.right s.on w w (IsWalk-last walks.middle)).1 (z, walks.right) in
     ((Steps-reversed h.rule h.left s.back v v (IsWalk-first walks.left)).1 (x, walks.left), (u, u_node, lefts, (n, n_node, middle, (w, rights, turn))))
 
--- a shape is possible where three walks have it
-pub walks-IsPossible : {r : LocalRule} {t : TailConfig} {parts : PartRelations} {s : Shape} {v w : ℕ} {x y z : List ℕ} → AreTailParts r t parts → AreLoopWalks r t s v w x y z → IsPossible r parts s
-walks-IsPossible {v = v} h walks = record { back_some = walks.back_some; on_some = walks.on_some; node = v; below = IsWalk-first walks.left; starts = walks-Starts h walks }
-
--- periods lead through where some walk leads along them, and nowhere else
-pub PassesThrough-walk : {r : LocalRule} {t : TailConfig} {parts : PartRelations} → AreTailParts r t parts → (b a : ℕ) → PassesThrough r parts b a → (u : ℕ) × (s : ℕ) × HasWalk r (stretch t b a) u s
-PassesThrough-walk h b a (v, w, v_node, w_node, (u, lefts), middle, (s, rights)) = (u, s, (HasWalk-stretch h b a u s).1 (v, w, v_node, w_node, lefts, middle, rights))
-
-pub walk-PassesThrough : {r : LocalRule} {t : TailConfig} {parts : PartRelations} {u s : ℕ} → AreTailParts r t parts → (b a : ℕ) → HasWalk r (stretch t b a) u s → PassesThrough r parts b a
-walk-PassesThrough {u = u} {s = s} h b a walk =
-    let (v, w, v_node, w_node, lefts, middle, rights) = (HasWalk-stretch h b a u s).0 walk in (v, w, v_node, w_node, (u, lefts), middle, (s, rights))
-
--- where a stretch is an orphan, its periods and the middle lead nowhere
-pub IsOrphan-PassesThrough : {r : LocalRule} {t : TailConfig} {parts : PartRelations} → AreTailParts r t parts → (b a : ℕ) → IsOrphan r (stretch t b a) → ¬ PassesThrough r parts b a
-IsOrphan-PassesThrough h b a orphan passes = let (u, s, (x, walk)) = PassesThrough-walk h b a passes in orphan.none x walk.preimage
-
-pub PassesThrough-IsOrphan : {r : LocalRule} {t : TailConfig} {parts : PartRelations} → IsTail r.states t → AreTailParts r t parts → (b a : ℕ) → ¬ PassesThrough r parts b a → IsOrphan r (stretch t b a)
-PassesThrough-IsOrphan ht h b a none = IsOrphan-none (IsWord-stretch ht b a) (λ u s walk. none (walk-PassesThrough h b a walk))
+-- a stretch is an orphan exactly where its periods and the middle lead nowhere
+pub IsOrphan-PassesThrough : {r : LocalRule} {t : TailConfig} {parts : PartRelations} → IsTail r.states t → AreTailParts r t parts → (b a : ℕ) → IsOrphan r (stretch t b a) ↔ ¬ PassesThrough r parts b a
+IsOrphan-PassesThrough ht h b a = (
+  λ orphan (v, w, v_node, w_node, (u, lefts), middle, (s, rights)).
+      let (x, walk) = (HasWalk-stretch h b a u s).1 (v, w, v_node, w_node, lefts, middle, rights) in
+      orphan.none x walk.preimage,
+  λ none. IsOrphan-none (IsWord-stretch ht b a) (λ u s walk.
+      let (v, w, v_node, w_node, lefts, middle, rights) = (HasWalk-stretch h b a u s).0 walk in
+      none (v, w, v_node, w_node, (u, lefts), middle, (s, rights))),
+)
 
 -- where 16 periods lead somewhere, few lead to a loop
 pub SomeRounds-periods : {r : LocalRule} {E : ℕ → ℕ → Type 0} {table : List ℕ} {u : ℕ} → IsRule r → IsRelation r E table → u < node_count r → Open (HasBit table) 16 u

@@ -1,5 +1,5 @@
 use Rattle.std.proofs.Common.{◌≡◌, ◌↔◌, ℕ, ◌/◌, ◌^◌, sym, subst, arith, slice_index, bit_and}
-use Rattle.word_image.proofs.Common.{one_shl, bit_set_by_shift, IsSetTo-take, IsSetTo-skip, IsSetTo-all, HasBit}
+use Rattle.word_image.proofs.Common.{one_shl, bit_set_by_shift, IsSetTo-take, IsSetTo-skip, HasBit}
 use Rattle.tail_preimage.proofs.relations.returning.Goals as goal
 use Rattle.tail_preimage.proofs.relations.returning.Goals.{then-rows-from-eq1, else-rows-from-eq1}
 
@@ -14,6 +14,3 @@ loop-u-preserved c =
           (IsSetTo-take Holds c.loop-u.invariant (omega arith) (one_shl u 16 (omega (arith, c.nodes-u-end.ensures.rule.shape.most_nodes))) (lowest.0 w.if-rows-from-eq1.true))
       | else-rows-from-eq1 w ↦ rw w.set-is (IsSetTo-skip Holds c.loop-u.invariant (λ bit. w.if-rows-from-eq1.false (lowest.1 bit)))
     ]
-
-pub returns : goal.returns
-returns c = IsSetTo-all (λ i. HasBit c.args.rows.now i i) (omega arith) c.loop-u.invariant

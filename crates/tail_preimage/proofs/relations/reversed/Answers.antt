@@ -1,11 +1,8 @@
 use Rattle.std.proofs.Common.{◌<◌, refl, subst, arith}
 use Rattle.word_image.proofs.Common.{IsSetOf-same, HasBit}
 use Rattle.pair_laws.proofs.Common.{IsBitSet-shl}
-use Rattle.tail_preimage.proofs.Rows.{AreRowsFilled-none, AreRowsFilled-more, AreRowsFilled-all}
+use Rattle.tail_preimage.proofs.Rows.{AreRowsFilled-more}
 use Rattle.tail_preimage.proofs.relations.reversed.Goals as goal
-
-pub loop-u-init : goal.loop-u-init
-loop-u-init c = AreRowsFilled-none c.args.graph.now (λ u v. HasBit c.args.relation.now v u) _ refl
 
 pub loop-u-preserved : goal.loop-u-preserved
 loop-u-preserved c =
@@ -18,6 +15,3 @@ loop-u-preserved c =
       (λ (w, row, one). subst (HasBit table v) ((IsBitSet-shl u w few).0 one) row),
       (λ row. (u, row, (IsBitSet-shl u u few).1 refl)),
     )) c.sources.ensures)
-
-pub returns : goal.returns
-returns c = AreRowsFilled-all (omega arith) c.loop-u.invariant

@@ -11,7 +11,7 @@ use Rattle.tail_preimage.specs.FirstWalks.{AreLoopWalks, AreFirstWalks}
 use Rattle.tail_preimage.specs.declared.shapes.PartRelations.{PartRelations}
 use Rattle.tail_preimage.proofs.laws.Walks.{IsWalk-first, IsWalk-last}
 use Rattle.tail_preimage.proofs.laws.Stretches.{IsWord-stretch}
-use Rattle.tail_preimage.proofs.laws.Parts.{Steps-repeat, Starts-walks, walks-IsPossible}
+use Rattle.tail_preimage.proofs.laws.Parts.{Steps-repeat, Starts-walks, walks-Starts}
 use Rattle.tail_preimage.proofs.laws.LeastPreimages.{IsFrom-first}
 use Rattle.tail_preimage.proofs.laws.Answers.{Starts-least}
 use Rattle.tail_preimage.proofs.room.PreimageRoom.first_placed.Goals as goal
@@ -80,6 +80,7 @@ returns c =
       middle = rw c.set_stretch.ensures.word at c.least_walk-end.ensures.walk;
       right = rw c.right.ensures.right at c.first_loop-2.ensures.walk;
     } in
-    let first = IsFrom-first h.rule (is_tail (goal.at.returns c).After-left) c.requires.shape.small (λ v n q a b d other. c.requires.shape.least v (walks-IsPossible h other)) walks in
+    let first = IsFrom-first h.rule (is_tail (goal.at.returns c).After-left) c.requires.shape.small (λ v n q a b d other.
+    c.requires.shape.least v (record { back_some = other.back_some; on_some = other.on_some; node = n; below = IsWalk-first other.left; starts = walks-Starts h other })) walks in
     let place = to_z-of_z w64 c.place_of.result (search rules) ∙ c.place_of.ensures in
     rw (place, c.without_node.ensures, c.without_node-2.ensures, c.without_node-3.ensures, c.deref.ensures.value, c.deref-2.ensures.value, c.deref-3.ensures.value) first

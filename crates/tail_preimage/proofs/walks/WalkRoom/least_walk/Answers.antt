@@ -24,9 +24,6 @@ loop-n-init c =
       capacity = c.write_node.ensures.capacity;
     }
 
-pub ends-requires-clause-node : goal.ends-requires-clause-node
-ends-requires-clause-node c = c.loop-n.invariant.begun.node
-
 pub least_node-node-requires : goal.least_node-node-requires
 least_node-node-requires c =
     some_edge_on (rw c.rule-rule.ensures at c.m-last.ensures.rule) c.loop-n-test.true c.loop-n.invariant.begun c.ends.ensures (open-after (sets (goal.at.least_node-node-requires c).After-write_node) c.loop-n-test.true)
