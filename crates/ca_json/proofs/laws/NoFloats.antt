@@ -1,25 +1,23 @@
 -- The JSON of a reply has no float.
 use Rattle.std.proofs.Common.{◌≡◌, ℕ, List, [], ◌∷◌, ◌++◌, codes, map, take, drop, ◌*◌, Option, Some, None, false, refl, ℤ, pos, negsuc}
-use Rattle.word_image.proofs.Common.{range_with_len, LocalRule}
+use Rattle.word_image.proofs.Common.{range_with_len}
 use Rattle.serde_json.specs.Data.{Data}
 use Rattle.serde_json.specs.View.{items_of}
 use Rattle.serde_json.specs.Written.{has_float, items_have_float, members_have_float}
-use Rattle.tail_config.proofs.Common.{WindowMap}
 use Rattle.image_minimal.specs.ImageLanguages.{Automaton}
-use Rattle.cert_conditions.specs.declared.verdicts.Verdicts.{Verdicts}
 use Rattle.cert_values.proofs.Common.{InjectiveEvidence, SideEvidence, SumEvidence, Window, Twins, Ahead, Split, Flux, Ring, array_from, whole_value, signed_value, claim_value}
 use Rattle.cert_format.proofs.laws.PlainValues.{IsPlain-certificate}
 use Rattle.certificate_laws.specs.LeastEvidence.{Evidence}
 use Rattle.rule_text.specs.PrintedRules.{number_found}
 use Rattle.ca_questions.proofs.Common.{Finding, Unfit, Reply}
 use Rattle.ca_json.specs.Values.{members_of, numbers_json, number_or_null, word_or_null, surjective_json, injective_json, side_json, conserving_json}
-use Rattle.ca_json.specs.Findings.{rule_or_null, pair_or_null, report_json, inverse_json, row_json, automaton_json, finding_json}
+use Rattle.ca_json.specs.Findings.{rule_or_null, pair_or_null, report_json, row_json, automaton_json, finding_json}
 use Rattle.ca_json.specs.Causes.{unfit_json, operand_json, named, places_json, parts_json}
 use Rattle.rule_text.specs.FaultTexts.{fault_name, fault_place}
 use Rattle.cert_conditions.specs.declared.refusal_parts.RefusalNumbers.{RefusalNumbers}
 use Rattle.cert_conditions.specs.declared.refusal_parts.RefusalNumbers.TheVariants as numbers
 use Rattle.cert_conditions.specs.RefusalParts.{SaidParts, parts_of}
-use Rattle.ca_json.specs.Replies.{verdicts_json, json_of}
+use Rattle.ca_json.specs.Replies.{json_of}
 
 -- a JSON value has no float
 abbrev pub NoFloat : Data → Type 0
