@@ -17,9 +17,10 @@ use Rattle.ca_commands.specs.Asked.{IsAsked}
 use Rattle.ca_cli.specs.Inputs.{most_input}
 use Rattle.ca_cli.specs.RightAnswers.{IsReply, IsReplyOf}
 use Rattle.ca_cli.specs.Statuses.{reply_status}
-use Rattle.ca_cli.specs.RightAnswers.IsReply.{Found, NoFit, RuleFault, Accepted, Refused, TooLong}
+use Rattle.ca_cli.specs.RightAnswers.IsReply.{Found, Accepted}
 use Rattle.ca_commands.proofs.laws.Asked.{IsAsked-unique, IsAsked-reads_nothing}
-use Rattle.answer_laws.proofs.CheckAnswers.{accepted_exactly}
+use Rattle.answer_laws.proofs.Replies.{ReadsOne-told, reply_exactly}
+use Rattle.answer_laws.proofs.CheckAnswers.{accepted_right}
 
 -- what is said of a text that is a written certificate
 abbrev IsAcceptedAs : LocalRule → List ℕ → List ℕ → Type 0
@@ -36,7 +37,7 @@ written_accepted : {version : CertVersion} {r : LocalRule} {weights out : List �
 written_accepted {out = out} c written is =
     let accepted : IsAccepted out (verdicts_of c) = subst (λ b. IsAccepted b (verdicts_of c)) (sym is) written.accepted in
     let short : length out ≤ most_input = omega (arith, ap length is, written.short) in
-    (verdicts_of c, written.parts.least.rule, written.parts.weights_are, AreTrue-accepted accepted, λ s lines. accepted_exactly check_is short accepted)
+    (verdicts_of c, written.parts.least.rule, written.parts.weights_are, AreTrue-accepted accepted, λ s lines. reply_exactly check_is (λ check. ReadsOne-told out) (accepted_right short accepted))
 
 -- what is found for a question that asks for a certificate is a certificate
 certificate_found : {version : CertVersion} {r : LocalRule} {weights : Option (List ℕ)} {f : Finding} → IsFinding (Question.Certify version r weights) f
@@ -48,11 +49,8 @@ said_accepted : {input : Option (List ℕ)} {c : Command} {version : CertVersion
     → IsAsked c (Question.Certify version r weights) → IsReply input c reply → status.Done ≡ reply_status reply → out ≡ reply_text reply → IsAcceptedAs r (weights_by weights r) out
 said_accepted asked (Found c q f also right) done text =
     let (cert, written, is) = certificate_found (subst (λ p. IsFinding p f) (IsAsked-unique also asked) right) in written_accepted cert written (text ∙ is)
-said_accepted asked (NoFit c q u also unfits) done text = absurd cc
-said_accepted asked (RuleFault c i f fault) done text = absurd cc
 said_accepted asked (Accepted c bytes v check whole accepted are_true) done text = absurd (IsAsked-reads_nothing asked check)
-said_accepted asked (Refused c bytes f check whole refused) done text = absurd cc
-said_accepted asked (TooLong c check long) done text = absurd cc
+said_accepted asked _ done text = absurd cc
 
 pub certified_accepted : {input : Option (List ℕ)} {c : Command} {version : CertVersion} {r : LocalRule} {weights : Option (List ℕ)} {out : List ℕ}
     → IsAsked c (Question.Certify version r weights) → IsReplyOf input c status.Done out → IsAcceptedAs r (weights_by weights r) out

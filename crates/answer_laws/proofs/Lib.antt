@@ -10,7 +10,6 @@ pub mod Inverses
 pub mod Findings
 pub mod Asked
 pub mod RightAnswers
-pub mod CheckAnswers
-pub mod OneStatus
-pub mod Certified
 pub mod Replies
+pub mod CheckAnswers
+pub mod Certified

@@ -1,3 +1,4 @@
 pub mod NextRules
 pub mod LetterRows
 pub mod Reports
+pub mod Filled

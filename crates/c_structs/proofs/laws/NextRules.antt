@@ -1,5 +1,5 @@
 -- What is handed back of the rules of a shape, in the words of the code.
-use Rattle.std.proofs.Common.{◌≡◌, ◌≢◌, ℕ, ◌^◌, ◌<◌, ◌≤◌, Bool, List, length, Some, None, pos, sym, ap, ap₂, subst, subst₂, ◌∙◌}
+use Rattle.std.proofs.Common.{◌≡◌, ◌≢◌, ℕ, ◌^◌, ◌<◌, ◌≤◌, Bool, List, length, Some, None, pos, sym, ◌∙◌}
 use Rattle.word_image.proofs.Common.{LocalRule, IsRule, rule_fault, shape_fault}
 use Rattle.word_image.specs.declared.local_rule.RuleFault.{RuleFault}
 use Rattle.rule_lists.specs.Ranks.{IsOrder}
@@ -13,67 +13,52 @@ use Rattle.c_structs.specs.NextRules.{property_number, fixed_letters, IsToCome, 
 -- the number of a fault of the shape
 pub IsWindowOrder-fault : {number states width code : ℕ} {before : List ℕ} {f : RuleFault} → Some f ≡ shape_fault states width (pos 0) → code ≡ fault_code (Some f)
     → IsWindowOrder number states width before code before
-IsWindowOrder-fault {number} {states} {width} {code} {before} {f} fault coded =
-    subst (λ (n : ℕ). IsWindowOrder number states width before n before) (sym coded) (IsWindowOrder.NoShape f (sym fault))
+IsWindowOrder-fault {f = f} fault coded = rw coded (IsWindowOrder.NoShape f (sym fault))
 
 -- the number of the fault that there isn't one byte for each window
 pub IsWindowOrder-length : (property : Property) {number states width i j size code : ℕ} {before : List ℕ} → None ≡ shape_fault states width (pos 0) → number ≡ property_number property
     → size ≡ i ^ j → i ≡ states → j ≡ width → length before ≢ size → code ≡ 5 → IsWindowOrder number states width before code before
-IsWindowOrder-length property {number} {states} {width} {i} {j} {size} {code} {before} shape numbered windows same_states same_width other coded =
-    let all : size ≡ states ^ width = windows ∙ ap₂ (λ (a b : ℕ). a ^ b) same_states same_width in
-    subst (λ (n : ℕ). IsWindowOrder number states width before n before) (sym coded) (IsWindowOrder.NoLength property (sym shape) numbered (λ same. other (same ∙ sym all)))
+IsWindowOrder-length property shape numbered windows same_states same_width other coded =
+    rw coded (IsWindowOrder.NoLength property (sym shape) numbered (λ same. other (same ∙ sym (rw (same_states, same_width) at windows))))
 
 -- the order of the windows of a rule of the shape
 pub IsWindowOrder-order : (property : Property) {number states width i j : ℕ} {before order : List ℕ} → None ≡ shape_fault states width (pos 0) → number ≡ property_number property
     → i ≡ states → j ≡ width → IsOrderFor property i j order → IsWindowOrder number states width before 0 order
-IsWindowOrder-order property {number} {states} {width} {i} {j} {before} {order} shape numbered same_states same_width ordered =
-    IsWindowOrder.Order property order (sym shape) numbered (subst₂ (λ (k m : ℕ). IsOrderFor property k m order) same_states same_width ordered)
+IsWindowOrder-order property {order = order} shape numbered same_states same_width ordered =
+    IsWindowOrder.Order property order (sym shape) numbered (rw (same_states, same_width) at ordered)
 
 -- the rule of a table has as many windows as its states to the power of its width
 pub size-rule_of_table : (states width : ℕ) (table : List ℕ) {size : ℕ} {r : LocalRule} → size ≡ r.states ^ r.width → r ≡ rule_of_table states width table → size ≡ states ^ width
-size-rule_of_table states width table windows same = windows ∙ ap (λ (r : LocalRule). r.states ^ r.width) same
+size-rule_of_table states width table windows same = rw same at windows
 
 -- the code of a fault of the table is handed back, and the table as it was
 pub IsNext-fault : {number states width code : ℕ} {order begin before : List ℕ} {after : Bool} {f : RuleFault} → Some f ≡ rule_fault states width (pos 0) before → code ≡ fault_code (Some f)
     → IsNext number states width order begin after before code before
-IsNext-fault {number} {states} {width} {code} {order} {begin} {before} {after} {f} fault coded =
-    subst (λ (n : ℕ). IsNext number states width order begin after before n before) (sym coded) (IsNext.NoTable f (sym fault))
+IsNext-fault {f = f} fault coded = rw coded (IsNext.NoTable f (sym fault))
 
 -- where the windows are in no order, code 11 is handed back
 pub IsNext-no_order : (property : Property) {number states width size : ℕ} {order begin before : List ℕ} {after : Bool} → IsRule (rule_of_table states width before) → number ≡ property_number property
     → size ≡ states ^ width → ¬ IsOrder size order → IsNext number states width order begin after before 11 before
-IsNext-no_order property {order = order} rule numbered windows none =
-    IsNext.NoOrder property rule numbered (λ ordered. none (subst (λ (n : ℕ). IsOrder n order) (sym windows) ordered))
+IsNext-no_order property rule numbered windows none = IsNext.NoOrder property rule numbered (λ ordered. none (rw windows ordered))
 
 -- where more letters are fixed than there are windows, code 12 is handed back
 pub IsNext-no_beginning : (property : Property) {number states width size : ℕ} {order begin before : List ℕ} {after : Bool} → IsRule (rule_of_table states width before) → number ≡ property_number property
     → size ≡ states ^ width → IsOrder size order → size < length begin → IsNext number states width order begin after before 12 before
-IsNext-no_beginning property {order = order} {begin = begin} rule numbered windows ordered more =
-    IsNext.NoBeginning property rule numbered (subst (λ (n : ℕ). IsOrder n order) windows ordered) (subst (λ (n : ℕ). n < length begin) windows more)
+IsNext-no_beginning property rule numbered windows ordered more = IsNext.NoBeginning property rule numbered (rw windows at ordered) (rw windows at more)
 
 -- a question, by the number of windows
 pub IsQuestion-size : {number states width size : ℕ} {order begin before : List ℕ} {property : Property} → IsRule (rule_of_table states width before) → number ≡ property_number property
     → size ≡ states ^ width → IsOrder size order → length begin ≤ size → IsQuestion property number states width order begin before
-IsQuestion-size {order = order} {begin = begin} rule numbered windows ordered within = record {
-  rule = rule;
-  numbered = numbered;
-  ordered = subst (λ (n : ℕ). IsOrder n order) windows ordered;
-  within = subst (λ (n : ℕ). length begin ≤ n) windows within;
-}
+IsQuestion-size rule numbered windows ordered within = record { rule = rule; numbered = numbered; ordered = rw windows at ordered; within = rw windows at within }
 
 -- no rule is to come behind that of the table
 pub IsNext-none : {number states width : ℕ} {order begin before letters : List ℕ} {after : Bool} {property : Property} {last : LocalRule} → IsQuestion property number states width order begin before
     → last ≡ rule_of_table states width before → letters ≡ fixed_letters begin → NoneIs property last.states last.width letters (IsToCome after last.states order last.table)
     → IsNext number states width order begin after before 13 before
-IsNext-none {states = states} {width = width} {order = order} {before = before} {letters = letters} {after = after} {property = property} question same fixed none =
-    IsNext.NoRule property question (subst (λ (xs : List ℕ). NoneIs property states width xs (IsToCome after states order before)) fixed
-    (subst (λ (q : LocalRule). NoneIs property q.states q.width letters (IsToCome after q.states order q.table)) same none))
+IsNext-none {property = property} question same fixed none = IsNext.NoRule property question (rw (same, fixed) at none)
 
 -- the table of the first rule behind that of the table before
 pub IsNext-rule : {number states width : ℕ} {order begin before letters table : List ℕ} {after : Bool} {property : Property} {last r : LocalRule} → IsQuestion property number states width order begin before
     → last ≡ rule_of_table states width before → letters ≡ fixed_letters begin → IsFirst property last.states last.width letters order (IsToCome after last.states order last.table) r → table ≡ r.table
     → IsNext number states width order begin after before 0 table
-IsNext-rule {number} {states} {width} {order} {begin} {before} {letters} {table} {after} {property} {last} {r} question same fixed first written =
-    subst (λ (t : List ℕ). IsNext number states width order begin after before 0 t) (sym written)
-    (IsNext.Rule property r question (subst (λ (xs : List ℕ). IsFirst property states width xs order (IsToCome after states order before) r) fixed
-    (subst (λ (q : LocalRule). IsFirst property q.states q.width letters order (IsToCome after q.states order q.table) r) same first)))
+IsNext-rule {property = property} {r = r} question same fixed first written = rw written (IsNext.Rule property r question (rw (same, fixed) at first))

@@ -1,5 +1,5 @@
 -- What a report says, where letters are added behind its words, and what comes of the question for a report.
-use Rattle.std.proofs.Common.{◌≡◌, ℕ, ◌≤◌, List, ◌++◌, length, drop, Option, Some, None, sym, ap, subst, subst₂, ◌∙◌, [], arith}
+use Rattle.std.proofs.Common.{◌≡◌, ℕ, ◌≤◌, List, ◌++◌, length, drop, Option, Some, None, sym, ap, [], arith}
 use Rattle.word_image.proofs.Common.{LocalRule, IsRule, rule_fault}
 use Rattle.word_image.specs.declared.local_rule.RuleFault.{RuleFault}
 use Rattle.cert_values.specs.Evidence.{Window, Twins, Ahead, Split}
@@ -36,30 +36,23 @@ SaysSide-grown letters after holds ahead split (Split x y) grown h = (h.0, h.1, 
 -- the report that is written is the right one
 pub IsReported-written : {r : LocalRule} {weights : Option (List ℕ)} {e : Evidence} {v : RuleReport} {letters : List ℕ} → IsRule r → IsFinding (Question.Report r weights) (Finding.Report e)
     → letters ≡ letters_in e → IsReportOf letters e v → IsReported r weights v letters
-IsReported-written {r} {weights} {e} {v} rule fits same says =
-    subst (IsReported r weights v) (sym same) (IsReported.Found e v rule fits (subst (λ (xs : List ℕ). IsReportOf xs e v) same says))
+IsReported-written {e = e} {v = v} rule fits same says = rw same (IsReported.Found e v rule fits (rw same at says))
 
 -- there is no report where there isn't one weight for each letter
 pub IsReported-none : {r : LocalRule} {weights : Option (List ℕ)} {v : RuleReport} {letters : List ℕ} → IsRule r → ¬ AreFor weights r → v ≡ no_report 18 → letters ≡ [] → IsReported r weights v letters
-IsReported-none {r} {weights} rule none same empty = subst₂ (IsReported r weights) (sym same) (sym empty) (IsReported.NoWeights rule none)
+IsReported-none rule none same empty = rw (same, empty) (IsReported.NoWeights rule none)
 
 -- there is no report where there is no rule
 pub IsReported-fault : (r : LocalRule) {weights : Option (List ℕ)} {v : RuleReport} {letters : List ℕ} {code : ℕ} (f : RuleFault) → Some f ≡ rule_fault r.states r.width r.offset r.table
     → code ≡ fault_code (Some f) → v ≡ no_report code → letters ≡ [] → IsReported r weights v letters
-IsReported-fault r {weights} f fault coded same empty =
-    subst₂ (IsReported r weights) (sym (same ∙ ap no_report coded)) (sym empty) (IsReported.NoRule f (sym fault))
+IsReported-fault r f fault coded same empty = rw (same, empty, coded) (IsReported.NoRule f (sym fault))
 
 -- the report is handed back, and all letters
 pub IsReportCall-whole : {r : LocalRule} {weights : Option (List ℕ)} {was v : RuleReport} {before after letters bytes : List ℕ} {len : ℕ} → IsReported r weights v letters → len ≡ length letters
     → bytes ≡ letters → length bytes ≤ length before → after ≡ bytes ++ drop (length bytes) before → IsReportCall r weights was before 0 len v after
-IsReportCall-whole {r} {weights} {was} {v} {before} {after} {letters} {bytes} {len} made long same fits put =
-    let begins : after ≡ letters ++ drop (length letters) before = put ∙ ap (λ (b : List ℕ). b ++ drop (length b) before) same in
-    subst₂ (λ (n : ℕ) (xs : List ℕ). IsReportCall r weights was before 0 n v xs) (sym long) (sym begins)
-    (IsReportCall.Whole v letters made (subst (λ (b : List ℕ). length b ≤ length before) same fits))
+IsReportCall-whole {v = v} {letters = letters} made long same fits put = rw (long, put, same) (IsReportCall.Whole v letters made (rw same at fits))
 
 -- the length of letters that don't fit
 pub IsReportCall-short : {r : LocalRule} {weights : Option (List ℕ)} {was v : RuleReport} {before after letters bytes : List ℕ} {len : ℕ} → IsReported r weights v letters → len ≡ length letters
     → bytes ≡ letters → ¬ (length bytes ≤ length before) → after ≡ before → IsReportCall r weights was before 10 len was after
-IsReportCall-short {r} {weights} {was} {v} {before} {after} {letters} {bytes} {len} made long same over kept =
-    subst₂ (λ (n : ℕ) (xs : List ℕ). IsReportCall r weights was before 10 n was xs) (sym long) (sym kept)
-    (IsReportCall.Short v letters made (omega (arith, over, ap length same)))
+IsReportCall-short {v = v} {letters = letters} made long same over kept = rw (long, kept) (IsReportCall.Short v letters made (omega (arith, over, ap length same)))

@@ -1,30 +1,34 @@
--- Which words stand behind a name.
-use Rattle.std.proofs.Common.{◌≡◌, ℕ, List, [], ◌∷◌, ◌++◌, length, sym, ap, ◌∙◌, subst, drop}
+-- Which words stand behind the name of a command with one rule, and with weights or none.
+use Rattle.std.proofs.Common.{◌≡◌, ◌≢◌, ℕ, List, [], ◌∷◌, ◌++◌, length, sym, ap, ◌∙◌, arith}
+use Rattle.std.specs.Bool.{⊤}
 use Rattle.ca_commands.specs.declared.names.Name.{Name}
-use Rattle.ca_commands.specs.Commands.{AreOperands, Command, IsCommand, form_of, rule_count, word_of}
+use Rattle.ca_commands.specs.Commands.{AreOperands, Command, Form, IsCommand, form_of, rule_count, word_of}
+use Rattle.ca_commands.specs.WeightTexts.{AreWeightTexts}
 use Rattle.ca_commands.proofs.laws.Names.{word_of-injective}
 
--- the first of some words
-first : List (List ℕ) → List ℕ
-first [] = []
-first (w ∷ ws) = w
+-- the words are one, or two of which the second lists weights
+abbrev AreWeightWords : List (List ℕ) → Type 0
+AreWeightWords (text ∷ []) = ⊤
+AreWeightWords (text ∷ list ∷ []) = AreWeightTexts list
+AreWeightWords _ = ⊥
 
--- what words behind a name are, where they are a command of it
-pub record AreBehind (n : Name) (rest : List (List ℕ)) : Type 0 where
-  pub rules : List (List ℕ)
-  pub operands : List (List ℕ)
-  pub rest_is : rest ≡ rules ++ operands
-  pub many : length rules ≡ rule_count n
-  pub are : AreOperands (form_of n) operands
+AreWeightWords-operands : (rules operands : List (List ℕ)) → length rules ≡ 1 → AreOperands Form.Weights operands → AreWeightWords (rules ++ operands)
+AreWeightWords-operands (text ∷ []) [] one are = tt
+AreWeightWords-operands (text ∷ []) (list ∷ []) one are = are
+AreWeightWords-operands (text ∷ []) (a ∷ b ∷ c ∷ d ∷ []) one are = absurd are.2
+AreWeightWords-operands (text ∷ []) _ one are = absurd are
+AreWeightWords-operands _ _ one are = absurd (omega (arith, one))
 
-pub behind : {n : Name} {rest : List (List ℕ)} {c : Command} → IsCommand (word_of n ∷ rest) c → AreBehind n rest
-unfolding first
-behind {n} {rest} {c} is =
-    let same : n ≡ c.name = word_of-injective n c.name (ap first is.words_are) in
-    record {
-      rules = c.rules;
-      operands = c.operands;
-      rest_is = ap (drop 1) is.words_are;
-      many = is.rules ∙ ap rule_count (sym same);
-      are = subst (λ m. AreOperands (form_of m) c.operands) (sym same) is.operands;
-    }
+-- behind the name of such a command stand a rule, and weights or nothing
+pub AreWeightWords-behind : (n : Name) {rest : List (List ℕ)} {c : Command} → rule_count n ≡ 1 → form_of n ≡ Form.Weights → IsCommand (word_of n ∷ rest) c → AreWeightWords rest
+AreWeightWords-behind n {rest} {c} one form is =
+    let same : c.name ≡ n = sym (word_of-injective n c.name cc) in
+    let split : rest ≡ c.rules ++ c.operands = cc in
+    rw split (AreWeightWords-operands c.rules c.operands (is.rules ∙ ap rule_count same ∙ one) (rw (ap form_of same ∙ form) at is.operands))
+
+-- such words are one or two
+pub AreWeightWords-few : (rest : List (List ℕ)) → AreWeightWords rest → length rest ≢ 1 → length rest ≡ 2
+AreWeightWords-few [] are other = absurd are
+AreWeightWords-few (a ∷ []) are other = absurd (omega (arith, other))
+AreWeightWords-few (a ∷ b ∷ []) are other = omega arith
+AreWeightWords-few (a ∷ b ∷ c ∷ rest) are other = absurd are

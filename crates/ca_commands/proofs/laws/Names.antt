@@ -26,31 +26,13 @@ name_in-word _ = refl
 pub word_of-injective : (n m : Name) → word_of n ≡ word_of m → n ≡ m
 word_of-injective n m same = sym (name_in-word n) ∙ ap name_in same ∙ name_in-word m
 
--- the first word of a list, and the others
-head : List (List ℕ) → List ℕ
-head [] = []
-head (w ∷ ws) = w
-
--- what one list of words says of two commands
-pub record HaveSameParts (n m : Name) (rs ss xs ys : List (List ℕ)) : Type 0 where
-  pub names : n ≡ m
-  pub rules : rs ≡ ss
-  pub operands : xs ≡ ys
-
-pub same_parts : {n m : Name} (rs ss xs ys : List (List ℕ)) → word_of n ∷ rs ++ xs ≡ word_of m ∷ ss ++ ys → length rs ≡ rule_count n → length ss ≡ rule_count m → HaveSameParts n m rs ss xs ys
-unfolding head
-same_parts {n} {m} rs ss xs ys same first second =
-    let names : n ≡ m = word_of-injective n m (ap head same) in
-    let rest : rs ++ xs ≡ ss ++ ys = ap (drop 1) same in
-    let long : length rs ≡ length ss = first ∙ ap rule_count names ∙ sym second in
-    record {
-      names = names;
-      rules = sym (take-append_seam rs xs) ∙ ap₂ take long rest ∙ take-append_seam ss ys;
-      operands = sym (drop-append_seam rs xs) ∙ ap₂ drop long rest ∙ drop-append_seam ss ys;
-    }
-
 -- words are those of one command
 pub IsCommand-unique : {words : List (List ℕ)} {c d : Command} → IsCommand words c → IsCommand words d → c ≡ d
 IsCommand-unique {c = c} {d = d} here also =
-    let same = same_parts c.rules d.rules c.operands d.operands (sym here.words_are ∙ also.words_are) here.rules also.rules in
-    ap₂ (λ n (p : List (List ℕ) × List (List ℕ)). record { name = n; rules = p.0; operands = p.1 }) same.names (ap₂ (λ (rs xs : List (List ℕ)). (rs, xs)) same.rules same.operands)
+    let same : word_of c.name ∷ c.rules ++ c.operands ≡ word_of d.name ∷ d.rules ++ d.operands = sym here.words_are ∙ also.words_are in
+    let names : c.name ≡ d.name = word_of-injective c.name d.name cc in
+    let rest : c.rules ++ c.operands ≡ d.rules ++ d.operands = cc in
+    let long : length c.rules ≡ length d.rules = here.rules ∙ ap rule_count names ∙ sym also.rules in
+    let rules : c.rules ≡ d.rules = sym (take-append_seam c.rules c.operands) ∙ ap₂ take long rest ∙ take-append_seam d.rules d.operands in
+    let operands : c.operands ≡ d.operands = sym (drop-append_seam c.rules c.operands) ∙ ap₂ drop long rest ∙ drop-append_seam d.rules d.operands in
+    λ i. record { name = names i; rules = rules i; operands = operands i }

@@ -12,38 +12,17 @@ record HasFewRules (n : Name) : Type 0 where
 
 -- each name has at most two rules, and none if its operands say where many rules begin
 few_rules : (n : Name) → HasFewRules n
-few_rules name.Decide = record { most = omega arith; none = λ text begins. absurd begins }
-few_rules name.Orphan = record { most = omega arith; none = λ text begins. absurd begins }
-few_rules name.Number = record { most = omega arith; none = λ text begins. absurd begins }
-few_rules name.Certify = record { most = omega arith; none = λ text begins. absurd begins }
-few_rules name.Brief = record { most = omega arith; none = λ text begins. absurd begins }
-few_rules name.Reflect = record { most = omega arith; none = λ text begins. absurd begins }
-few_rules name.Trim = record { most = omega arith; none = λ text begins. absurd begins }
-few_rules name.Shift = record { most = omega arith; none = λ text begins. absurd begins }
-few_rules name.Widen = record { most = omega arith; none = λ text begins. absurd begins }
-few_rules name.Permute = record { most = omega arith; none = λ text begins. absurd begins }
-few_rules name.Compose = record { most = omega arith; none = λ text begins. absurd begins }
-few_rules name.Least = record { most = omega arith; none = λ text begins. absurd begins }
-few_rules name.Lift = record { most = omega arith; none = λ text begins. absurd begins }
-few_rules name.Unlift = record { most = omega arith; none = λ text begins. absurd begins }
-few_rules name.Inverse = record { most = omega arith; none = λ text begins. absurd begins }
-few_rules name.Language = record { most = omega arith; none = λ text begins. absurd begins }
-few_rules name.Same = record { most = omega arith; none = λ text begins. absurd begins }
-few_rules name.Erase = record { most = omega arith; none = λ text begins. absurd begins }
-few_rules name.Preimage = record { most = omega arith; none = λ text begins. absurd begins }
 few_rules name.Survey = record { most = omega arith; none = λ text begins. refl }
 few_rules name.Sample = record { most = omega arith; none = λ text begins. refl }
 few_rules name.Classes = record { most = omega arith; none = λ text begins. refl }
-few_rules name.Check = record { most = omega arith; none = λ text begins. absurd begins }
+few_rules _ = record { most = omega arith; none = λ text begins. absurd begins }
 
 -- the rules and the operands of a command are at most four words
 few_words : (n : Name) (operands : List (List ℕ)) → AreOperands (form_of n) operands → rule_count n + length operands ≤ 4
 few_words n [] are = omega (arith, (few_rules n).most)
 few_words n (text ∷ []) are = omega (arith, (few_rules n).most)
 few_words n (states ∷ width ∷ from ∷ count ∷ []) are = omega (arith, (few_rules n).none from are.2)
-few_words n (a ∷ b ∷ []) are = absurd are
-few_words n (a ∷ b ∷ c ∷ []) are = absurd are
-few_words n (a ∷ b ∷ c ∷ d ∷ e ∷ more) are = absurd are
+few_words n _ are = absurd are
 
 -- a command has at most five words
 pub IsCommand-short : {words : List (List ℕ)} {c : Command} → IsCommand words c → length words ≤ 5

@@ -1,7 +1,7 @@
 -- Texts cut at their commas, and the weights that they list.
-use Rattle.std.proofs.Common.{◌≡◌, ℕ, zero, suc, ◌+◌, ◌<◌, ◌≤◌, true, false, cond, List, [], ◌∷◌, length, take, drop, All, refl, sym, ap, subst, arith, ◌↔◌, ◌==◌, not, nat_lt, Some, None, position, unwrap_or}
+use Rattle.std.proofs.Common.{◌≡◌, ℕ, suc, ◌+◌, ◌<◌, ◌≤◌, true, false, cond, List, [], ◌∷◌, length, take, drop, All, refl, sym, ap, subst, arith, ◌↔◌, ◌==◌, not, nat_lt, Some, None, position, unwrap_or}
 use Rattle.std.proofs.lemmas.Bool.{ltb-true, ltb-false}
-use Rattle.word_image.proofs.Common.{none-some, position_or_len}
+use Rattle.word_image.proofs.Common.{All-cons, All-tail, none-some, position_or_len}
 use Rattle.ca_commands.specs.WeightTexts.{put_first, pieces, IsWeightText}
 
 -- a text whose first comma stands at n is cut there; where none stands it is whole
@@ -67,17 +67,11 @@ pieces-some (b ∷ text) = elim (b == 44) as (λ t. 1 ≤ length (cond t ([] ∷
   | false ↦ put_first-some b (pieces text)
 ]
 
-all_rest : (piece : List ℕ) (more : List (List ℕ)) → All IsWeightText (piece ∷ more) → All IsWeightText more
-all_rest piece more h i d l = h (suc i) d (omega (arith, l))
-
-all_both : (piece : List ℕ) (more : List (List ℕ)) → IsWeightText piece → All IsWeightText more → All IsWeightText (piece ∷ more)
-all_both piece more first rest zero d l = first
-all_both piece more first rest (suc i) d l = rest i d (omega (arith, l))
-
+-- the first piece is a weight, so the pieces are weights if and only if the others are
 pub IsLeft-more : (text piece others : List ℕ) (i : ℕ) → pieces text ≡ piece ∷ pieces others → IsWeightText piece → IsLeft text i ↔ IsLeft others (i + 1)
 IsLeft-more text piece others i cut weight =
-    subst (λ cut. (All IsWeightText cut × (length cut + i ≤ 16)) ↔ IsLeft others (i + 1)) (sym cut)
-    ((λ left. (all_rest piece (pieces others) left.0, omega (arith, left.1))), (λ left. (all_both piece (pieces others) weight left.0, omega (arith, left.1))))
+    rw cut
+    ((λ left. (All-tail IsWeightText piece (pieces others) left.0, omega (arith, left.1))), (λ left. (All-cons IsWeightText piece (pieces others) weight left.0, omega (arith, left.1))))
 
 -- after sixteen pieces nothing that is left of a text is right
 pub IsLeft-none : (text : List ℕ) (i : ℕ) → 16 ≤ i → ¬ IsLeft text i

@@ -1,25 +1,23 @@
 -- The JSON of a reply has no float.
 use Rattle.std.proofs.Common.{◌≡◌, ℕ, List, [], ◌∷◌, ◌++◌, codes, map, take, drop, ◌*◌, Option, Some, None, false, refl, ℤ, pos, negsuc}
-use Rattle.word_image.proofs.Common.{range_with_len, LocalRule}
+use Rattle.word_image.proofs.Common.{range_with_len}
 use Rattle.serde_json.specs.Data.{Data}
 use Rattle.serde_json.specs.View.{items_of}
 use Rattle.serde_json.specs.Written.{has_float, items_have_float, members_have_float}
-use Rattle.tail_config.proofs.Common.{WindowMap}
 use Rattle.image_minimal.specs.ImageLanguages.{Automaton}
-use Rattle.cert_conditions.specs.declared.verdicts.Verdicts.{Verdicts}
 use Rattle.cert_values.proofs.Common.{InjectiveEvidence, SideEvidence, SumEvidence, Window, Twins, Ahead, Split, Flux, Ring, array_from, whole_value, signed_value, claim_value}
 use Rattle.cert_format.proofs.laws.PlainValues.{IsPlain-certificate}
 use Rattle.certificate_laws.specs.LeastEvidence.{Evidence}
 use Rattle.rule_text.specs.PrintedRules.{number_found}
 use Rattle.ca_questions.proofs.Common.{Finding, Unfit, Reply}
 use Rattle.ca_json.specs.Values.{members_of, numbers_json, number_or_null, word_or_null, surjective_json, injective_json, side_json, conserving_json}
-use Rattle.ca_json.specs.Findings.{rule_or_null, pair_or_null, report_json, inverse_json, row_json, automaton_json, finding_json}
+use Rattle.ca_json.specs.Findings.{rule_or_null, pair_or_null, report_json, row_json, automaton_json, finding_json}
 use Rattle.ca_json.specs.Causes.{unfit_json, operand_json, named, places_json, parts_json}
 use Rattle.rule_text.specs.FaultTexts.{fault_name, fault_place}
 use Rattle.cert_conditions.specs.declared.refusal_parts.RefusalNumbers.{RefusalNumbers}
 use Rattle.cert_conditions.specs.declared.refusal_parts.RefusalNumbers.TheVariants as numbers
 use Rattle.cert_conditions.specs.RefusalParts.{SaidParts, parts_of}
-use Rattle.ca_json.specs.Replies.{verdicts_json, json_of}
+use Rattle.ca_json.specs.Replies.{json_of}
 
 -- a JSON value has no float
 abbrev pub NoFloat : Data → Type 0
@@ -39,37 +37,20 @@ NoFloat-signed : (z : ℤ) → NoFloat (signed_value z)
 NoFloat-signed (pos n) = refl
 NoFloat-signed (negsuc n) = refl
 
--- a number or null has no float
-NoFloat-claim : (o : Option ℕ) → NoFloat (claim_value o)
-NoFloat-claim None = refl
-NoFloat-claim (Some n) = refl
-
--- the text of a number, or null, has no float
-NoFloat-number : (o : Option ℕ) → NoFloat (number_or_null o)
-NoFloat-number None = refl
-NoFloat-number (Some n) = refl
+-- a value that may be missing has no float if it has none in either case
+NoFloat-option : {A : Type 0} (f : Option A → Data) → NoFloat (f None) → ((x : A) → NoFloat (f (Some x))) → (o : Option A) → NoFloat (f o)
+NoFloat-option f none some None = none
+NoFloat-option f none some (Some x) = some x
 
 -- a word or null has no float
 NoFloat-word : (o : Option (List ℕ)) → NoFloat (word_or_null o)
-NoFloat-word None = refl
-NoFloat-word (Some w) = refl
+NoFloat-word = NoFloat-option word_or_null refl (λ w. refl)
 
--- two words or null have no float
-NoFloat-pair : (o : Option (List ℕ × List ℕ)) → NoFloat (pair_or_null o)
-NoFloat-pair None = refl
-NoFloat-pair (Some pair) = refl
-
--- a rule or null has no float
-NoFloat-rule : (o : Option LocalRule) → NoFloat (rule_or_null o)
-NoFloat-rule None = refl
-NoFloat-rule (Some r) = refl
+-- the text of a number, or null, has no float
+NoFloat-number : (o : Option ℕ) → NoFloat (number_or_null o)
+NoFloat-number = NoFloat-option number_or_null refl (λ n. refl)
 
 -- Of verdicts with their evidence
-
--- the JSON of whether a rule is surjective has no float
-NoFloat-surjective : (o : Option (List ℕ)) → NoFloat (surjective_json o)
-NoFloat-surjective None = refl
-NoFloat-surjective (Some w) = refl
 
 -- the JSON of whether a rule is injective has no float
 NoFloat-injective : (e : InjectiveEvidence) → NoFloat (injective_json e)
@@ -95,15 +76,11 @@ NoFloat-report e =
       NoFloat-side e.left,
       NoFloat-number (number_found e.rule),
       NoFloat-side e.right,
-      NoFloat-surjective e.orphan,
+      NoFloat-option surjective_json refl (λ w. refl) e.orphan,
       NoFloat-numbers e.weights,
     )
 
 -- Of what is found
-
--- the JSON of an inverse map has no float
-NoFloat-inverse : (n c : ℕ) (g : WindowMap) (rule : Option LocalRule) → NoFloat (inverse_json n c g rule)
-NoFloat-inverse n c g rule = rw (NoFloat-signed g.offset, NoFloat-rule rule)
 
 -- the JSON of the rows of an automaton has no float
 NoFloat-rows : (m : Automaton) → NoFloat (array_from (map (row_json m) (range_with_len 0 m.classes)))
@@ -111,7 +88,7 @@ NoFloat-rows m = NoFloat-array (row_json m) (λ i. NoFloat-numbers (take m.state
 
 -- the JSON of an automaton has no float
 NoFloat-automaton : (m : Automaton) → NoFloat (automaton_json m)
-NoFloat-automaton m = rw (NoFloat-claim m.dead, NoFloat-rows m)
+NoFloat-automaton m = rw (NoFloat-option claim_value refl (λ n. refl) m.dead, NoFloat-rows m)
 
 -- the JSON of what is found has no float
 NoFloat-finding : (f : Finding) → NoFloat (finding_json f)
@@ -119,40 +96,24 @@ NoFloat-finding (Finding.Report e) = rw (NoFloat-report e)
 NoFloat-finding (Finding.Written c) = rw ((IsPlain-certificate c).no_float)
 NoFloat-finding (Finding.Orphan orphan) = rw (NoFloat-word orphan)
 NoFloat-finding (Finding.Number n) = rw (NoFloat-number n)
-NoFloat-finding (Finding.Rule r) = refl
-NoFloat-finding (Finding.Inverse n c g rule) = rw (NoFloat-inverse n c g rule)
+NoFloat-finding (Finding.Inverse n c g rule) = rw (NoFloat-signed g.offset, NoFloat-option rule_or_null refl (λ r. refl) rule)
 NoFloat-finding (Finding.Language m) = rw (NoFloat-automaton m)
 NoFloat-finding (Finding.Same word) = rw (NoFloat-word word)
-NoFloat-finding (Finding.Erased pair) = rw (NoFloat-pair pair)
+NoFloat-finding (Finding.Erased pair) = rw (NoFloat-option pair_or_null refl (λ p. refl) pair)
 NoFloat-finding (Finding.Preimage p) = rw (NoFloat-signed p.at)
-NoFloat-finding (Finding.Gap before after w) = refl
-NoFloat-finding (Finding.Summary t) = refl
-NoFloat-finding (Finding.Classes t n) = refl
+NoFloat-finding _ = refl
 
 -- Of causes
 
 -- the JSON of why nothing fits has no float
 NoFloat-unfit : (u : Unfit) → NoFloat (unfit_json u)
 NoFloat-unfit (Unfit.Twins x y) = refl
-NoFloat-unfit (Unfit.Wide n) = refl
-NoFloat-unfit Unfit.Colours = refl
-NoFloat-unfit (Unfit.Lift f) = refl
-NoFloat-unfit (Unfit.Algebra f) = refl
-NoFloat-unfit (Unfit.Tail f) = refl
-NoFloat-unfit Unfit.Weights = refl
-NoFloat-unfit Unfit.States = refl
-
--- the JSON of the fault of an operand has no float
-NoFloat-operand : (operand : ℕ) (name : List ℕ) (place : Option ℕ) → NoFloat (operand_json operand name place)
-NoFloat-operand operand name None = refl
-NoFloat-operand operand name (Some place) = refl
+NoFloat-unfit _ = refl
 
 -- the numbers of a refusal have no float
 NoFloat-places : (ns : RefusalNumbers) → NoFloat (places_json ns)
 NoFloat-places numbers.None = refl
-NoFloat-places (numbers.One a) = refl
-NoFloat-places (numbers.Two a b) = refl
-NoFloat-places (numbers.Three a b c) = refl
+NoFloat-places _ = refl
 
 -- members without a float have none with a word under a key before them
 NoFloat-named : (key : List ℕ) (word : Option (List ℕ)) (rest : List (List ℕ × Data)) → members_have_float (members_of rest) ≡ false
@@ -166,16 +127,11 @@ NoFloat-parts p =
     rw (NoFloat-places p.numbers) (NoFloat-named (codes "because") p.because _
     (NoFloat-named (codes "fault") p.fault _ (NoFloat-named (codes "key") p.key _ (NoFloat-named (codes "side") p.side _ refl))))
 
--- the JSON of what an accepted certificate says has no float
-NoFloat-verdicts : (v : Verdicts) → NoFloat (verdicts_json v)
-NoFloat-verdicts v = rw (NoFloat-numbers v.weights)
-
 -- the JSON of a reply has no float
 pub NoFloat-reply : (reply : Reply) → NoFloat (json_of reply)
 NoFloat-reply (Reply.Found f) = rw (NoFloat-finding f)
 NoFloat-reply (Reply.NoFit u) = rw (NoFloat-unfit u)
-NoFloat-reply (Reply.RuleFault operand f) = NoFloat-operand operand (fault_name f) (fault_place f)
-NoFloat-reply (Reply.Accepted v) = rw (NoFloat-verdicts v)
+NoFloat-reply (Reply.RuleFault operand f) = NoFloat-option (operand_json operand (fault_name f)) refl (λ place. refl) (fault_place f)
+NoFloat-reply (Reply.Accepted v) = rw (NoFloat-numbers v.weights)
 NoFloat-reply (Reply.Refused f) = NoFloat-parts (parts_of f)
-NoFloat-reply Reply.TooLong = refl
-NoFloat-reply Reply.Usage = refl
+NoFloat-reply _ = refl

@@ -13,18 +13,11 @@ members_put at cause because fault key side =
 pub members_put-ascend : (at : Data) (cause : List ℕ) (because fault key side : Option (List ℕ)) → members_put at cause because fault key side
     ≡ members_of ((codes "at", at) ∷ (named (codes "because") because ++ ((codes "cause", string cause) ∷ (named (codes "fault") fault ++ (named (codes "key") key ++ (named (codes "side") side ++ (status (codes "refused") ∷ [])))))))
 members_put-ascend at cause None None None None = refl
-members_put-ascend at cause None None None (Some z) = refl
 members_put-ascend at cause None None (Some y) None = refl
-members_put-ascend at cause None None (Some y) (Some z) = refl
 members_put-ascend at cause None (Some x) None None = refl
-members_put-ascend at cause None (Some x) None (Some z) = refl
 members_put-ascend at cause None (Some x) (Some y) None = refl
-members_put-ascend at cause None (Some x) (Some y) (Some z) = refl
 members_put-ascend at cause (Some w) None None None = refl
-members_put-ascend at cause (Some w) None None (Some z) = refl
 members_put-ascend at cause (Some w) None (Some y) None = refl
-members_put-ascend at cause (Some w) None (Some y) (Some z) = refl
 members_put-ascend at cause (Some w) (Some x) None None = refl
-members_put-ascend at cause (Some w) (Some x) None (Some z) = refl
 members_put-ascend at cause (Some w) (Some x) (Some y) None = refl
-members_put-ascend at cause (Some w) (Some x) (Some y) (Some z) = refl
+members_put-ascend _ _ _ _ _ _ = refl

@@ -1,4 +1,6 @@
-use Rattle.std.proofs.Common.{[], refl, sym, ap, Some}
+use Rattle.std.proofs.Common.{[], refl, sym, ap, Some, arith}
+use Rattle.word_image.proofs.Common.{length-map}
+use Rattle.ca_commands.proofs.laws.Behind.{AreWeightWords-behind, AreWeightWords-few}
 use Rattle.ca_commands.proofs.laws.Asking.{failed, first_refused, read_one}
 use Rattle.ca_commands.proofs.asking.rule_and_weights.Goals as goal
 
@@ -18,3 +20,11 @@ returns-in_err-rule g c =
 pub returns : goal.returns
 returns g c =
     (_, read_one c.args.name c.in-Some-two.ensures c.requires.one (rw c.requires.weights c.in-Some-weights.ensures.0) c.in_ok-rule.ensures, ap Some c.in-Some-weights.ensures.1)
+
+pub returns-in_default-two : goal.returns-in_default-two
+returns-in_default-two g c d is =
+    let few = AreWeightWords-few _ (AreWeightWords-behind c.args.name c.requires.one c.requires.weights is) in
+    omega (arith, few, length-map c.args.rest.now g.W.AsStr.text, c.in_default.ensures, c.in_default-two.ensures)
+
+pub returns-in_default-weights : goal.returns-in_default-weights
+returns-in_default-weights g c d is = c.in_default-weights.ensures (rw c.in-Some-two.ensures at (AreWeightWords-behind c.args.name c.requires.one c.requires.weights is))
