@@ -38,7 +38,8 @@ sample_rules-rules k m seed (suc count) shape =
     All-cons IsRule (drawn_rule k m seed) (sample_rules k m later count) (IsRule-drawn k m seed shape) (sample_rules-rules k m later count shape)
 
 -- what is asked of accepted rules is a question of accepted rules
-Asks-rules : {n : Name} {rules : List LocalRule} {operands : List (List ℕ)} {q : Question} → AllByRecursion IsRule rules → Asks n rules operands q → AreRules q
+Asks-rules : {n : Name} {rules : List LocalRule} {operands : List (List ℕ)} {q : Question} → AllByRecursion IsRule rules → Asks n rules operands q
+    → AreRules q
 Asks-rules accepted (Asks.Survey k m from count none) = survey_rules-rules _ _ _ _ none
 Asks-rules accepted (Asks.Sample k m seed count none) = sample_rules-rules _ _ _ _ (IsShape-shape_fault _ _ (pos 0) (none_map (as_text_fault 0) _ none))
 Asks-rules accepted (Asks.Classes k m from count none) = survey_rules-rules _ _ _ _ none
@@ -78,7 +79,8 @@ IsShapeFault-no_rules name.Classes some fault = omega (arith, some)
 IsShapeFault-no_rules _ some fault = elim fault [ ]
 
 -- of the operands of a command one is the first with a fault, and it has one first fault
-pub IsOperandFault-unique : {words : List (List ℕ)} {c : Command} {i j : ℕ} {f g : TextFault} → IsCommand words c → IsOperandFault c i f → IsOperandFault c j g → (i ≡ j) × (f ≡ g)
+pub IsOperandFault-unique : {words : List (List ℕ)} {c : Command} {i j : ℕ} {f g : TextFault} → IsCommand words c → IsOperandFault c i f
+    → IsOperandFault c j g → (i ≡ j) × (f ≡ g)
 IsOperandFault-unique is (IsOperandFault.OfRule c i f fault) (IsOperandFault.OfRule _ j g also) = IsFirstFault-unique fault also
 IsOperandFault-unique is (IsOperandFault.OfRule c i f fault) (IsOperandFault.OfShape _ g shape) = absurd (IsShapeFault-no_rules _ (omega (arith, is.rules, IsFirstFault-some fault)) shape)
 IsOperandFault-unique is (IsOperandFault.OfShape c f shape) (IsOperandFault.OfRule _ j g fault) = absurd (IsShapeFault-no_rules _ (omega (arith, is.rules, IsFirstFault-some fault)) shape)

@@ -16,14 +16,16 @@ use Rattle.garden_laws.specs.ReachedPairs.{AreReached}
 use Rattle.answer_laws.proofs.Evidence.{IsLeastEvidence-unique}
 
 -- what holds for each lesser length has one rank, or none
-IsRank-unique : (P : ℕ → Type 0) → ((i n : ℕ) → i ≤ n → P n → P i) → (o p : Option ℕ) → MatchOption o (IsEndless P) (IsRank P) → MatchOption p (IsEndless P) (IsRank P) → o ≡ p
+IsRank-unique : (P : ℕ → Type 0) → ((i n : ℕ) → i ≤ n → P n → P i) → (o p : Option ℕ) → MatchOption o (IsEndless P) (IsRank P)
+    → MatchOption p (IsEndless P) (IsRank P) → o ≡ p
 IsRank-unique P less None None h g = refl
 IsRank-unique P less None (Some n) h g = absurd (g.no_more (h (n + 1)))
 IsRank-unique P less (Some n) None h g = absurd (h.no_more (g (n + 1)))
 IsRank-unique P less (Some n) (Some m) h g = ap Some (IsRank-one P less n m h g)
 
 -- the ranks of all pairs are one list
-IsRankRow-unique : (side : Side) {r : LocalRule} {row other : List (Option ℕ)} → IsRule r → IsRankRow r (Together side r) row → IsRankRow r (Together side r) other → row ≡ other
+IsRankRow-unique : (side : Side) {r : LocalRule} {row other : List (Option ℕ)} → IsRule r → IsRankRow r (Together side r) row
+    → IsRankRow r (Together side r) other → row ≡ other
 IsRankRow-unique side {r} {row} {other} rule here there =
     same_lists row other (here.each_pair ∙ sym there.each_pair) (λ p d within.
     let inside : p < length other = omega (arith, within, here.each_pair, there.each_pair) in
@@ -43,7 +45,8 @@ IsLeastWordOf-unique : {r : LocalRule} {set : ℕ} {v w : List ℕ} → IsLeastW
 IsLeastWordOf-unique {v = v} {w = w} h g = one_word v w (h.least w g.set_of) (g.least v h.set_of)
 
 -- the families of a surjective rule have the same words
-words_within : {r : LocalRule} {sets others : List ℕ} → IsSurjective r → (here : IsFamily r sets) (there : IsFamily r others) (w : List ℕ) → Contains here.words w → Contains there.words w
+words_within : {r : LocalRule} {sets others : List ℕ} → IsSurjective r → (here : IsFamily r sets) (there : IsFamily r others) (w : List ℕ)
+    → Contains here.words w → Contains there.words w
 words_within {r} {sets} {others} every here there w (k, within, at) =
     let inside : k < length sets = omega (arith, within, paired_length (IsLeastWordOf r) sets here.words here.each) in
     let first : IsLeastWordOf r (get_or sets k 0) w = subst (IsLeastWordOf r (get_or sets k 0)) at (paired_at (IsLeastWordOf r) sets here.words k 0 w here.each inside) in
@@ -74,7 +77,8 @@ one_version : {version : CertVersion} → version ≡ Two → version ≡ Three 
 one_version here there = let both : Two ≡ Three = sym here ∙ there in absurd (cc)
 
 -- what shows whether a rule is surjective is one in each version
-IsListPart-unique : (version : CertVersion) (r : LocalRule) (e f : SurjectiveEvidence) → orphan_of e ≡ orphan_of f → IsOrphanPart r (orphan_of e) → IsListPart version r e → IsListPart version r f → e ≡ f
+IsListPart-unique : (version : CertVersion) (r : LocalRule) (e f : SurjectiveEvidence) → orphan_of e ≡ orphan_of f → IsOrphanPart r (orphan_of e)
+    → IsListPart version r e → IsListPart version r f → e ≡ f
 IsListPart-unique version r (Sets sets) (Sets others) same every h g = ap Sets (IsCoverList-unique every h.1 g.1)
 IsListPart-unique version r (Sets sets) (Pairs pairs) same every h g = absurd (one_version h.0 g.0)
 IsListPart-unique version r (Sets sets) (Orphan w) same every h g = absurd (none-some w same)
@@ -91,7 +95,8 @@ evidence_of c =
     record { rule = c.rule; weights = c.weights; orphan = orphan_of c.surjective; injective = c.injective; right = c.right; left = c.left; conserving = c.conserving }
 
 -- one certificate is written for a rule and weights
-pub IsWritten-unique : {version : CertVersion} {r : LocalRule} {weights : List ℕ} {c d : Certificate} → IsRule r → IsWritten version r weights c → IsWritten version r weights d → c ≡ d
+pub IsWritten-unique : {version : CertVersion} {r : LocalRule} {weights : List ℕ} {c d : Certificate} → IsRule r → IsWritten version r weights c
+    → IsWritten version r weights d → c ≡ d
 IsWritten-unique {version} {r} {c = c} {d = d} rule here there =
     let h = here.parts in
     let g = there.parts in

@@ -33,20 +33,23 @@ check_is : IsCommand (words_of check_command) check_command
 check_is = record { words_are = refl; rules = refl; operands = tt }
 
 -- `check` accepts the text of a written certificate
-written_accepted : {version : CertVersion} {r : LocalRule} {weights out : List ℕ} (c : Certificate) → IsWritten version r weights c → out ≡ certificate_text c → IsAcceptedAs r weights out
+written_accepted : {version : CertVersion} {r : LocalRule} {weights out : List ℕ} (c : Certificate) → IsWritten version r weights c
+    → out ≡ certificate_text c → IsAcceptedAs r weights out
 written_accepted {out = out} c written is =
     let accepted : IsAccepted out (verdicts_of c) = subst (λ b. IsAccepted b (verdicts_of c)) (sym is) written.accepted in
     let short : length out ≤ most_input = omega (arith, ap length is, written.short) in
     (verdicts_of c, written.parts.least.rule, written.parts.weights_are, AreTrue-accepted accepted, λ s lines. reply_exactly check_is (λ check. ReadsOne-told out) (accepted_right short accepted))
 
 -- what is found for a question that asks for a certificate is a certificate
-certificate_found : {version : CertVersion} {r : LocalRule} {weights : Option (List ℕ)} {f : Finding} → IsFinding (Question.Certify version r weights) f
+certificate_found : {version : CertVersion} {r : LocalRule} {weights : Option (List ℕ)} {f : Finding}
+    → IsFinding (Question.Certify version r weights) f
     → (c : Certificate) × IsWritten version r (weights_by weights r) c × (text_of f ≡ certificate_text c)
 certificate_found (IsFinding.Written version r weights c each written) = (c, written, refl)
 
 -- `check` accepts what is said to a command that asks for a certificate
 said_accepted : {input : Option (List ℕ)} {c : Command} {version : CertVersion} {r : LocalRule} {weights : Option (List ℕ)} {out : List ℕ} {reply : Reply}
-    → IsAsked c (Question.Certify version r weights) → IsReply input c reply → status.Done ≡ reply_status reply → out ≡ reply_text reply → IsAcceptedAs r (weights_by weights r) out
+    → IsAsked c (Question.Certify version r weights) → IsReply input c reply → status.Done ≡ reply_status reply → out ≡ reply_text reply
+    → IsAcceptedAs r (weights_by weights r) out
 said_accepted asked (Found c q f also right) done text =
     let (cert, written, is) = certificate_found (subst (λ p. IsFinding p f) (IsAsked-unique also asked) right) in written_accepted cert written (text ∙ is)
 said_accepted asked (Accepted c bytes v check whole accepted are_true) done text = absurd (IsAsked-reads_nothing asked check)

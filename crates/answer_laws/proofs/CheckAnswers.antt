@@ -14,11 +14,13 @@ use Rattle.ca_cli.specs.RightAnswers.IsReply.{Accepted, Refused, TooLong}
 use Rattle.answer_laws.proofs.RightAnswers.{says_of}
 
 -- to say the verdicts of an input that is accepted is right
-pub accepted_right : {left : List ℕ} {v : Verdicts} → length left ≤ most_input → IsAccepted left v → IsReply (Some left) check_command (Reply.Accepted v)
+pub accepted_right : {left : List ℕ} {v : Verdicts} → length left ≤ most_input → IsAccepted left v
+    → IsReply (Some left) check_command (Reply.Accepted v)
 accepted_right {left} {v} short accepted = Accepted check_command left v refl (record { all = refl; short = short }) accepted (AreTrue-accepted accepted)
 
 -- whatever the source tells, a reply to `check` has one of three statuses
-pub one_of_three : {words : List (List ℕ)} {input : Option (List ℕ)} {c : Command} {reply : Reply} {s : Status} → IsCommand words c → c.name ≡ name.Check → IsReply input c reply → s ≡ reply_status reply
+pub one_of_three : {words : List (List ℕ)} {input : Option (List ℕ)} {c : Command} {reply : Reply} {s : Status} → IsCommand words c
+    → c.name ≡ name.Check → IsReply input c reply → s ≡ reply_status reply
     → (s ≡ status.Done) ⊎ ((s ≡ status.Refused) ⊎ (s ≡ status.TooLong))
 one_of_three is check (Accepted c bytes v _ whole accepted are_true) same = inl same
 one_of_three is check (Refused c bytes f _ whole refused) same = inr (inl same)

@@ -1,5 +1,5 @@
 -- Rules are counted in one way, and so are their classes.
-use Rattle.std.proofs.Common.{◌≡◌, ◌≤◌, ℕ, ◌+◌, List, length, All, Contains, refl, sym, ap, ◌∙◌, subst, arith}
+use Rattle.std.proofs.Common.{◌≡◌, ◌≤◌, ℕ, ◌+◌, List, length, All, Contains, refl, ap, subst, arith}
 use Rattle.word_image.proofs.Common.{All-contains, LocalRule, IsRule}
 use Rattle.rule_classes.proofs.laws.Classes.{IsLeastOfClass-unique}
 use Rattle.ca_questions.proofs.Common.{AreMany, Counts, AreCounts, AreLeastRules, IsLeastOfItsClass}
@@ -16,27 +16,22 @@ AreMany-unique (Other r rules n lacks rest) (Other _ _ m _ also) = AreMany-uniqu
 
 -- the counts of rules are one
 pub AreCounts-unique : {rules : List LocalRule} {t u : Counts} → AreCounts rules t → AreCounts rules u → t ≡ u
-AreCounts-unique {t = t} {u = u} h g =
-    let rules : t.rules ≡ u.rules = h.rules_true ∙ sym g.rules_true in
-    let surjective : t.surjective ≡ u.surjective = AreMany-unique h.surjective_true g.surjective_true in
-    let injective : t.injective ≡ u.injective = AreMany-unique h.injective_true g.injective_true in
-    let right : t.right ≡ u.right = AreMany-unique h.right_true g.right_true in
-    let left : t.left ≡ u.left = AreMany-unique h.left_true g.left_true in
-    let both : t.open_ ≡ u.open_ = AreMany-unique h.open_true g.open_true in
-    let conserving : t.conserving ≡ u.conserving = AreMany-unique h.conserving_true g.conserving_true in
-    λ i. record { rules = rules i; surjective = surjective i; injective = injective i; right = right i; left = left i; open_ = both i; conserving = conserving i }
+AreCounts-unique {t = t} {u = u} h g = grind (arith, AreMany-unique)
 
 -- the least rules of one list are among those of another
-leasts_within : {rules leasts others : List LocalRule} → All IsRule rules → AreLeastRules rules leasts → AreLeastRules rules others → All (Contains others) leasts
+leasts_within : {rules leasts others : List LocalRule} → All IsRule rules → AreLeastRules rules leasts → AreLeastRules rules others
+    → All (Contains others) leasts
 leasts_within {rules} {leasts} {others} accepted here there i d within =
     let (r, among, (mirror, is)) = here.no_others i d within in
     let (h, listed, (also, least)) = All-contains (λ r. (g : LocalRule) × Contains others g × IsLeastOfItsClass r g) rules r there.complete among in
     subst (Contains others) (IsLeastOfClass-unique (All-contains IsRule rules r accepted among) also mirror least is) listed
 
 -- one list of least rules is no longer than another
-length-AreLeastRules-le : {rules leasts others : List LocalRule} → All IsRule rules → AreLeastRules rules leasts → AreLeastRules rules others → length leasts ≤ length others
+length-AreLeastRules-le : {rules leasts others : List LocalRule} → All IsRule rules → AreLeastRules rules leasts → AreLeastRules rules others
+    → length leasts ≤ length others
 length-AreLeastRules-le {rules} {leasts} {others} accepted here there = length-le_from_contained leasts others here.distinct (leasts_within accepted here there)
 
 -- two lists of the least rules of some rules have one number of rules
-pub length-AreLeastRules : {rules leasts others : List LocalRule} → All IsRule rules → AreLeastRules rules leasts → AreLeastRules rules others → length leasts ≡ length others
+pub length-AreLeastRules : {rules leasts others : List LocalRule} → All IsRule rules → AreLeastRules rules leasts → AreLeastRules rules others
+    → length leasts ≡ length others
 length-AreLeastRules accepted here there = omega (arith, length-AreLeastRules-le accepted here there, length-AreLeastRules-le accepted there here)

@@ -1,5 +1,5 @@
 -- The least evidence of a rule is one.
-use Rattle.std.proofs.Common.{◌≡◌, ℕ, List, refl, sym, ap, ap₂, ◌∙◌, Option, None, Some}
+use Rattle.std.proofs.Common.{◌≡◌, ℕ, List, refl, sym, ap, ap₂, ◌∙◌, Option, None, Some, arith}
 use Rattle.word_image.proofs.Common.{LocalRule, IsRule}
 use Rattle.cert_values.proofs.Common.{InjectiveEvidence, SideEvidence, SumEvidence, Window, Twins, Ahead, Split, Flux, Ring}
 use Rattle.certificate_laws.specs.LeastEvidence.{Evidence, IsOrphanPart, IsInjectivePart, IsRightPart, IsLeftPart, IsConservingPart, IsLeastEvidence}
@@ -35,19 +35,15 @@ IsLeftPart-unique r (Split x y) (Ahead n) h g = absurd (h.0 g.0)
 IsLeftPart-unique r (Split x y) (Split u v) h g = let (first, second) = IsLeastLeftSplit-unique h.1 g.1 in ap₂ Split first second
 
 -- one answer says whether a rule conserves weights, with the flux or the least ring
-pub IsConservingPart-unique : (weight : ℕ → ℕ) {r : LocalRule} → IsRule r → (e f : SumEvidence) → IsConservingPart weight r e → IsConservingPart weight r f → e ≡ f
+pub IsConservingPart-unique : (weight : ℕ → ℕ) {r : LocalRule} → IsRule r → (e f : SumEvidence) → IsConservingPart weight r e
+    → IsConservingPart weight r f → e ≡ f
 IsConservingPart-unique weight rule (Flux phi) (Flux psi) h g = ap Flux (IsFlux-unique rule h.1 h.2 ∙ sym (IsFlux-unique rule g.1 g.2))
 IsConservingPart-unique weight rule (Flux phi) (Ring q) h g = absurd (g.0 h.0)
 IsConservingPart-unique weight rule (Ring p) (Flux psi) h g = absurd (h.0 g.0)
 IsConservingPart-unique weight rule (Ring p) (Ring q) h g = ap Ring (IsLeastLossyRing-unique h.1 g.1)
 
 -- a rule has one least evidence
-pub IsLeastEvidence-unique : {weight : ℕ → ℕ} {r : LocalRule} {e f : Evidence} → IsRule r → e.weights ≡ f.weights → IsLeastEvidence weight r e → IsLeastEvidence weight r f → e ≡ f
+pub IsLeastEvidence-unique : {weight : ℕ → ℕ} {r : LocalRule} {e f : Evidence} → IsRule r → e.weights ≡ f.weights → IsLeastEvidence weight r e
+    → IsLeastEvidence weight r f → e ≡ f
 IsLeastEvidence-unique {weight} {r} {e} {f} rule weights h g =
-    let same : e.rule ≡ f.rule = h.rule ∙ sym g.rule in
-    let orphan : e.orphan ≡ f.orphan = IsOrphanPart-unique r e.orphan f.orphan h.surjective g.surjective in
-    let injective : e.injective ≡ f.injective = IsInjectivePart-unique r e.injective f.injective h.injective g.injective in
-    let right : e.right ≡ f.right = IsRightPart-unique r e.right f.right h.right g.right in
-    let left : e.left ≡ f.left = IsLeftPart-unique r e.left f.left h.left g.left in
-    let conserving : e.conserving ≡ f.conserving = IsConservingPart-unique weight rule e.conserving f.conserving h.conserving g.conserving in
-    λ i. record { rule = same i; weights = weights i; orphan = orphan i; injective = injective i; right = right i; left = left i; conserving = conserving i }
+    grind (arith, IsOrphanPart-unique, IsInjectivePart-unique, IsRightPart-unique, IsLeftPart-unique, IsConservingPart-unique)

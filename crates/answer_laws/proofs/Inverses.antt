@@ -1,18 +1,16 @@
 -- The inverse map of a rule over its least determined window is one.
 use Rattle.std.proofs.Common.{◌≡◌, ℕ, ◌^◌, ◌<◌, List, get_or, slice_index, refl, sym, ap, ◌∙◌, subst, arith, Option, None, Some}
-use Rattle.word_image.proofs.Common.{same_number_lists, LocalRule, value, word_of, IsPreimage, length-word_of, IsWord-word_of, value-word_of}
+use Rattle.word_image.proofs.Common.{same_number_lists, LocalRule, word_of, IsPreimage, length-word_of, IsWord-word_of, value-word_of}
 use Rattle.tail_config.proofs.Common.{WindowMap, IsInverseMap}
 use Rattle.inverse_table.specs.InverseMaps.{GivesBack}
 use Rattle.ca_questions.proofs.Common.{Finding, IsMapRule, IsInverseFound}
 use Rattle.answer_laws.proofs.Least.{IsLeastDetermined-unique}
 
 -- what the map of a window says of the word of a value is a letter of each preimage of the word
-map-letter : {r : LocalRule} {n c : ℕ} {g : WindowMap} → IsInverseMap r n c g → (v : ℕ) → v < r.states ^ n → (x : List ℕ) → IsPreimage r (word_of r.states n v) x
+map-letter : {r : LocalRule} {n c : ℕ} {g : WindowMap} → IsInverseMap r n c g → (v : ℕ) → v < r.states ^ n → (x : List ℕ)
+    → IsPreimage r (word_of r.states n v) x
     → get_or g.table v 0 ≡ slice_index x c
-map-letter {r} {n} {c} {g} map v below x is =
-    let w : List ℕ = word_of r.states n v in
-    ap (λ i. get_or g.table i 0) (sym (value-word_of r.states n v below)) ∙ ap (λ k. get_or g.table (value k w) 0) (sym map.states)
-    ∙ map.letter w x (length-word_of r.states n v) is
+map-letter {r} {n} {c} {g} map v below x is = grind (arith, value-word_of, length-word_of)
 
 -- where every word has a preimage there is one map
 IsInverseMap-unique : {r : LocalRule} {n c : ℕ} {f g : WindowMap} → GivesBack r n c f → IsInverseMap r n c f → IsInverseMap r n c g → f ≡ g
@@ -34,7 +32,8 @@ IsMapRule-unique g (Some r) None is none = absurd (none is.0)
 IsMapRule-unique g (Some r) (Some s) is also = ap Some (is.1 ∙ sym also.1)
 
 -- a rule has one inverse: its window, its map, and the map as a rule
-pub IsInverseFound-unique : {r : LocalRule} {n c m d : ℕ} {f g : WindowMap} {rule other : Option LocalRule} → IsInverseFound r n c f rule → IsInverseFound r m d g other
+pub IsInverseFound-unique : {r : LocalRule} {n c m d : ℕ} {f g : WindowMap} {rule other : Option LocalRule} → IsInverseFound r n c f rule
+    → IsInverseFound r m d g other
     → Finding.Inverse n c f rule ≡ Finding.Inverse m d g other
 IsInverseFound-unique {r} {n} {c} {m} {d} {f} {g} {rule} {other} here there =
     let (long, place) = IsLeastDetermined-unique here.least there.least in

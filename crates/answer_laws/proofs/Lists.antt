@@ -3,7 +3,8 @@ use Rattle.std.proofs.Common.{◌≡◌, ◌≢◌, ⊎_elim, ℕ, ◌<◌, ◌�
 use Rattle.word_image.proofs.Common.{cases_lt, get_or_default, twice_below}
 
 -- where an item of a list stands in another that has them all
-place_in : {X : Type 0} (xs ys : List X) → All (Contains ys) xs → (d : X) (i : ℕ) → (k : ℕ) × (i < length xs → (k < length ys) × (get_or ys k d ≡ get_or xs i d))
+place_in : {X : Type 0} (xs ys : List X) → All (Contains ys) xs → (d : X) (i : ℕ)
+    → (k : ℕ) × (i < length xs → (k < length ys) × (get_or ys k d ≡ get_or xs i d))
 place_in xs ys all d i =
     ⊎_elim
     (λ within. let (k, inside, at) = all i d within in (k, λ _. (inside, get_or_default ys k d (get_or xs i d) inside ∙ at)))

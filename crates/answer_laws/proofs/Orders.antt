@@ -20,7 +20,8 @@ zip-equal x y u v here there same = (
 )
 
 -- of two pairs of words of one length that come no later than each other both are one
-pub one_pair : (x y u v : List ℕ) → length x ≡ length y → length u ≡ length v → pairs_cmp (zip x y) (zip u v) ≢ Greater → pairs_cmp (zip u v) (zip x y) ≢ Greater
+pub one_pair : (x y u v : List ℕ) → length x ≡ length y → length u ≡ length v → pairs_cmp (zip x y) (zip u v) ≢ Greater
+    → pairs_cmp (zip u v) (zip x y) ≢ Greater
     → (x ≡ u) × (y ≡ v)
 one_pair x y u v first second here there =
     let one : pairs_cmp (zip x y) (zip u v) ≡ Equal = tied pairs_cmp_total (zip x y) (zip u v) here there in
@@ -28,7 +29,8 @@ one_pair x y u v first second here there =
     (letter_pairs-equal (zip x y) (zip u v) (then_equal (nat_cmp (length (zip x y)) (length (zip u v))) (slice_cmp pair_cmp (zip x y) (zip u v)) one).1)
 
 -- of two splits that come no later than each other the middles and the right periods are one
-pub one_split : (x y u v : TailConfig) → length x.middle ≡ length y.middle → length x.right ≡ length y.right → length u.middle ≡ length v.middle → length u.right ≡ length v.right
+pub one_split : (x y u v : TailConfig) → length x.middle ≡ length y.middle → length x.right ≡ length y.right → length u.middle ≡ length v.middle
+    → length u.right ≡ length v.right
     → splits_cmp (x, y) (u, v) ≢ Greater → splits_cmp (u, v) (x, y) ≢ Greater
     → ((x.middle ≡ u.middle) × (y.middle ≡ v.middle)) × ((x.right ≡ u.right) × (y.right ≡ v.right))
 one_split x y u v middles rights middles' rights' here there =

@@ -28,7 +28,8 @@ pub ReadsOne-told : (left : List ℕ) → ReadsOne (Some left)
 ReadsOne-told left = record { one = λ whole also. whole.all ∙ sym also.all; short = λ whole long. omega (arith, long, ap length whole.all, whole.short) }
 
 -- right replies to a command are one
-pub IsReply-unique : {words : List (List ℕ)} {input : Option (List ℕ)} {c : Command} {a b : Reply} → IsCommand words c → (c.name ≡ name.Check → ReadsOne input) → IsReply input c a → IsReply input c b → a ≡ b
+pub IsReply-unique : {words : List (List ℕ)} {input : Option (List ℕ)} {c : Command} {a b : Reply} → IsCommand words c
+    → (c.name ≡ name.Check → ReadsOne input) → IsReply input c a → IsReply input c b → a ≡ b
 IsReply-unique is reads (Found c q f asked right) (Found _ p g also other) =
     ap Reply.Found (IsFinding-unique (IsAsked-rules asked) right (subst (λ p. IsFinding p g) (IsAsked-unique also asked) other))
 IsReply-unique is reads (Found c q f asked right) (NoFit _ p u also unfits) = absurd (IsFinding-fit right (subst (λ p. IsUnfitFor p u) (IsAsked-unique also asked) unfits))
@@ -56,7 +57,8 @@ IsReply-unique is reads (TooLong c check long) (TooLong _ _ _) = refl
 IsReply-unique is reads here there = let one = says_of is here in let other = says_of is there in absurd (search rules)
 
 -- of a right reply to a command exactly the status and the text are right
-pub reply_exactly : {words : List (List ℕ)} {input : Option (List ℕ)} {c : Command} {reply : Reply} {s : Status} {out : List ℕ} → IsCommand words c → (c.name ≡ name.Check → ReadsOne input)
+pub reply_exactly : {words : List (List ℕ)} {input : Option (List ℕ)} {c : Command} {reply : Reply} {s : Status} {out : List ℕ} → IsCommand words c
+    → (c.name ≡ name.Check → ReadsOne input)
     → IsReply input c reply → IsReplyOf input c s out ↔ ((s ≡ reply_status reply) × (out ≡ reply_text reply))
 reply_exactly {reply = reply} is reads right = (
   λ (other, also, same, text). let one = IsReply-unique is reads also right in (same ∙ ap reply_status one, text ∙ ap reply_text one),
@@ -64,13 +66,15 @@ reply_exactly {reply = reply} is reads right = (
 )
 
 -- of words that are a command exactly the status and the text of a right reply to it are right
-pub answer_exactly : {words : List (List ℕ)} {input : Option (List ℕ)} {c : Command} {reply : Reply} {s : Status} {out : List ℕ} → IsCommand words c → (c.name ≡ name.Check → ReadsOne input)
+pub answer_exactly : {words : List (List ℕ)} {input : Option (List ℕ)} {c : Command} {reply : Reply} {s : Status} {out : List ℕ} → IsCommand words c
+    → (c.name ≡ name.Check → ReadsOne input)
     → IsReply input c reply → IsAnswer words input s out ↔ ((s ≡ reply_status reply) × (out ≡ reply_text reply))
 answer_exactly is reads right =
     ((λ answer. (reply_exactly is reads right).0 ((right_exactly is).0 answer)), (λ said. (right_exactly is).1 ((reply_exactly is reads right).1 said)))
 
 -- right replies to words are one
-IsReplyTo-unique : {words : List (List ℕ)} {input : Option (List ℕ)} {a b : Reply} → ((c : Command) → IsCommand words c → c.name ≡ name.Check → ReadsOne input) → IsReplyTo words input a → IsReplyTo words input b → a ≡ b
+IsReplyTo-unique : {words : List (List ℕ)} {input : Option (List ℕ)} {a b : Reply}
+    → ((c : Command) → IsCommand words c → c.name ≡ name.Check → ReadsOne input) → IsReplyTo words input a → IsReplyTo words input b → a ≡ b
 IsReplyTo-unique reads (IsReplyTo.Usage none) (IsReplyTo.Usage _) = refl
 IsReplyTo-unique reads (IsReplyTo.Usage none) (IsReplyTo.Right c b is right) = absurd (none c is)
 IsReplyTo-unique reads (IsReplyTo.Right c a is right) there = IsReply-unique is (reads c is) right (to_command is there)
@@ -80,7 +84,8 @@ pub one_reply_told : {words : List (List ℕ)} {left : List ℕ} {a b : Reply} �
 one_reply_told {left = left} = IsReplyTo-unique (λ c is check. ReadsOne-told left)
 
 -- words that are no command, or one that reads nothing, have one right reply whatever the source tells
-pub one_reply_unread : {words : List (List ℕ)} {input : Option (List ℕ)} {a b : Reply} → ((c : Command) → IsCommand words c → ReadsNothing c) → IsReplyTo words input a → IsReplyTo words input b → a ≡ b
+pub one_reply_unread : {words : List (List ℕ)} {input : Option (List ℕ)} {a b : Reply} → ((c : Command) → IsCommand words c → ReadsNothing c)
+    → IsReplyTo words input a → IsReplyTo words input b → a ≡ b
 one_reply_unread reads = IsReplyTo-unique (λ c is check. absurd (reads c is check))
 
 -- of right answers whose replies are one the statuses are one, and the outputs

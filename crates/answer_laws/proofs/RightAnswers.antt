@@ -18,12 +18,14 @@ use Rattle.ca_cli.specs.RightAnswers.IsReply.{Found, NoFit, RuleFault, Accepted,
 use Rattle.ca_commands.proofs.laws.Asked.{IsAsked-reads_nothing, IsOperandFault-reads_nothing}
 
 -- what a reply to words that are a command is
-pub to_command : {words : List (List ℕ)} {input : Option (List ℕ)} {c : Command} {reply : Reply} → IsCommand words c → IsReplyTo words input reply → IsReply input c reply
+pub to_command : {words : List (List ℕ)} {input : Option (List ℕ)} {c : Command} {reply : Reply} → IsCommand words c → IsReplyTo words input reply
+    → IsReply input c reply
 to_command is (IsReplyTo.Usage none) = absurd (none _ is)
 to_command {input = input} is (IsReplyTo.Right d reply also right) = subst (λ e. IsReply input e reply) (IsCommand-unique also is) right
 
 -- of words that are a command exactly what is right for it is right
-pub right_exactly : {words : List (List ℕ)} {input : Option (List ℕ)} {c : Command} {s : Status} {out : List ℕ} → IsCommand words c → IsAnswer words input s out ↔ IsReplyOf input c s out
+pub right_exactly : {words : List (List ℕ)} {input : Option (List ℕ)} {c : Command} {s : Status} {out : List ℕ} → IsCommand words c
+    → IsAnswer words input s out ↔ IsReplyOf input c s out
 right_exactly {c = c} is = (
   λ answer. (answer.reply, to_command is answer.right, answer.status_is, answer.output_is),
   λ (reply, right, same, text). record { reply = reply; right = IsReplyTo.Right c reply is right; status_is = same; output_is = text },
@@ -37,7 +39,8 @@ SaysOf Reply.TooLong n = n ≡ name.Check
 SaysOf _ n = n ≢ name.Check
 
 -- only to `check` a right reply judges an input
-pub says_of : {words : List (List ℕ)} {input : Option (List ℕ)} {c : Command} {reply : Reply} → IsCommand words c → IsReply input c reply → SaysOf reply c.name
+pub says_of : {words : List (List ℕ)} {input : Option (List ℕ)} {c : Command} {reply : Reply} → IsCommand words c → IsReply input c reply
+    → SaysOf reply c.name
 says_of is (Found c q f asked right) = IsAsked-reads_nothing asked
 says_of is (NoFit c q u asked unfits) = IsAsked-reads_nothing asked
 says_of is (RuleFault c i f fault) = IsOperandFault-reads_nothing is fault
@@ -55,7 +58,8 @@ usage_to : {words : List (List ℕ)} {input : Option (List ℕ)} {reply : Reply}
 usage_to (IsReplyTo.Usage none) same = (none, refl)
 usage_to (IsReplyTo.Right c reply is right) same = absurd (usage_for_none right same)
 
-pub usage_says : {words : List (List ℕ)} {input : Option (List ℕ)} {out : List ℕ} → IsAnswer words input status.Usage out → ((c : Command) → ¬ IsCommand words c) × (out ≡ usage_line)
+pub usage_says : {words : List (List ℕ)} {input : Option (List ℕ)} {out : List ℕ} → IsAnswer words input status.Usage out
+    → ((c : Command) → ¬ IsCommand words c) × (out ≡ usage_line)
 usage_says answer = let (none, line) = usage_to answer.right answer.status_is in (none, answer.output_is ∙ line)
 
 -- a reply with the status RuleFault names an operand that is refused
@@ -74,7 +78,8 @@ pub rule_fault_says : {words : List (List ℕ)} {input : Option (List ℕ)} {out
 rule_fault_says answer = let (c, i, f, is, fault, line) = fault_to answer.right answer.status_is in (c, i, f, is, fault, answer.output_is ∙ line)
 
 -- of a command that reads nothing, none of whose operands is refused and for which something fits, the status is Done
-pub done_says : {words : List (List ℕ)} {input : Option (List ℕ)} {c : Command} {reply : Reply} → IsCommand words c → ReadsNothing c → ((i : ℕ) (f : TextFault) → ¬ IsOperandFault c i f)
+pub done_says : {words : List (List ℕ)} {input : Option (List ℕ)} {c : Command} {reply : Reply} → IsCommand words c → ReadsNothing c
+    → ((i : ℕ) (f : TextFault) → ¬ IsOperandFault c i f)
     → ((q : Question) (u : Unfit) → IsAsked c q → ¬ IsUnfitFor q u) → IsReply input c reply → reply_status reply ≡ status.Done
 done_says is reads accepted fits (Found c q f asked right) = refl
 done_says is reads accepted fits (NoFit c q u asked unfits) = absurd (fits q u asked unfits)

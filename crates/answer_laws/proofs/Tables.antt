@@ -1,6 +1,6 @@
 -- A rule is widened, trimmed, composed and recoloured in one way.
-use Rattle.std.proofs.Common.{◌≡◌, ℕ, ◌+◌, ◌-◌, ◌^◌, ◌<◌, ◌≤◌, List, [], ◌∷◌, length, map, get_or, slice_range, ℤ, pos, ◌+ℤ◌, neg_ℤ, sym, ap, ap₂, ◌∙◌, subst, arith}
-use Rattle.word_image.proofs.Common.{range_with_len, same_number_lists, ints, LocalRule, IsRule, IsWord, local_map, value, word_of, image, rule_from_parts, length-word_of, IsWord-word_of, value-word_of}
+use Rattle.std.proofs.Common.{◌≡◌, ℕ, ◌^◌, ◌<◌, ◌≤◌, List, [], ◌∷◌, length, get_or, ℤ, pos, ◌+ℤ◌, neg_ℤ, sym, ap, ap₂, ◌∙◌, subst, arith}
+use Rattle.word_image.proofs.Common.{same_number_lists, ints, LocalRule, IsRule, IsWord, local_map, value, word_of, image, rule_from_parts, length-word_of, IsWord-word_of, value-word_of}
 use Rattle.std.proofs.lemmas.List.{take_all}
 use Rattle.tail_config.proofs.Common.{TailConfig, IsTail, cells, image_cell, config_of, IsWord-zero, cells-middle}
 use Rattle.rule_algebra.specs.Algebra.{KeepsImages, IsTrimmed, IsWidened, IsComposed, IsRecolouring, IsRecoloured}
@@ -25,7 +25,8 @@ abbrev around : List ℕ → TailConfig
 around w = config_of (0 ∷ []) w (0 ∷ [])
 
 -- what a rule that keeps the images of r gives on a window is a cell of an image under r
-keeps_window : {r : LocalRule} (g : LocalRule) → IsRule r → KeepsImages r g → (w : List ℕ) → IsWord r.states w → length w ≡ g.width → local_map g w ≡ image_cell r (around w) (neg_ℤ g.offset)
+keeps_window : {r : LocalRule} (g : LocalRule) → IsRule r → KeepsImages r g → (w : List ℕ) → IsWord r.states w → length w ≡ g.width
+    → local_map g w ≡ image_cell r (around w) (neg_ℤ g.offset)
 keeps_window {r} g rule keeps w word long =
     let some : 0 < r.states = let least = rule.shape.least_states in omega arith in
     let tail : IsTail r.states (around w) = record {
@@ -40,7 +41,8 @@ keeps_window {r} g rule keeps w word long =
     sym (ap (local_map g) window) ∙ keeps (around w) (neg_ℤ g.offset) tail
 
 -- rules of one shape that keep the images of a rule are one
-same_images : {r g h : LocalRule} → IsRule r → IsRule g → IsRule h → g.states ≡ r.states → h.states ≡ r.states → g.width ≡ h.width → g.offset ≡ h.offset
+same_images : {r g h : LocalRule} → IsRule r → IsRule g → IsRule h → g.states ≡ r.states → h.states ≡ r.states → g.width ≡ h.width
+    → g.offset ≡ h.offset
     → KeepsImages r g → KeepsImages r h → g ≡ h
 same_images {r} {g} {h} rule first second states states' width offset keeps keeps' =
     same_letters first second (states ∙ sym states') width offset (λ w word long.
@@ -49,8 +51,7 @@ same_images {r} {g} {h} rule first second states states' width offset keeps keep
 
 -- a rule is widened in one way
 pub IsWidened-unique : {r g h : LocalRule} {m : ℕ} → IsRule r → IsRule g → IsRule h → IsWidened r m g → IsWidened r m h → g ≡ h
-IsWidened-unique rule first second here there =
-    same_images rule first second here.states there.states (here.width ∙ sym there.width) (here.offset ∙ sym there.offset) here.images there.images
+IsWidened-unique rule first second here there = grind (arith, same_images)
 
 -- a rule is trimmed in one way
 pub IsTrimmed-unique : {r g h : LocalRule} → IsRule r → IsRule g → IsRule h → IsTrimmed r g → IsTrimmed r h → g ≡ h
@@ -64,23 +65,11 @@ IsTrimmed-unique {r} {g} {h} rule first second here there =
 
 -- the image of a window is the letter that the rule gives on it
 image-window : (g : LocalRule) (w : List ℕ) → 1 ≤ g.width → length w ≡ g.width → image g w ≡ local_map g w ∷ []
-image-window g w some long =
-    let one : length w - (g.width - 1) ≡ 1 = omega (arith, some, long) in
-    let window : slice_range w 0 (0 + g.width) ≡ w = take_all (0 + g.width - 0) w (omega (arith, long)) in
-    ap (λ n. map (λ i. local_map g (slice_range w i (i + g.width))) (range_with_len 0 n)) one ∙ ap (λ z. local_map g z ∷ []) window
+image-window g w some long = grind (arith, take_all)
 
 -- rules are composed in one way
 pub IsComposed-unique : {r s g h : LocalRule} → IsRule g → IsRule h → IsComposed r s g → IsComposed r s h → g ≡ h
-IsComposed-unique {r} {s} {g} {h} first second here there =
-    let width : g.width ≡ h.width = here.width ∙ sym there.width in
-    let some : 1 ≤ g.width = let least = first.shape.least_width in omega arith in
-    let some' : 1 ≤ h.width = let least = second.shape.least_width in omega arith in
-    same_letters first second (here.states ∙ sym there.states) width (here.offset ∙ sym there.offset) (λ w word long.
-    let letters : IsWord r.states w = subst (λ k. IsWord k w) here.states word in
-    let images : local_map g w ∷ [] ≡ local_map h w ∷ [] =
-    sym (image-window g w some long) ∙ here.images w letters (omega (arith, long)) ∙ sym (there.images w letters (omega (arith, long, width)))
-    ∙ image-window h w some' (long ∙ width) in
-    ap (λ z. get_or z 0 0) images)
+IsComposed-unique {r} {s} {g} {h} first second here there = grind (arith, same_letters, image-window)
 
 -- a rule is recoloured in one way
 pub IsRecoloured-unique : {r g h : LocalRule} {colours : List ℕ} → IsRule g → IsRule h → IsRecolouring r.states colours → g.offset ≡ h.offset

@@ -1,5 +1,5 @@
 -- The word that tells the orphans of two rules apart, the erasable pair and the gap of a configuration are one.
-use Rattle.std.proofs.Common.{inl, inr, ◌≡◌, ◌≢◌, ℕ, List, refl, ap, Option, None, Some, Less}
+use Rattle.std.proofs.Common.{◌≡◌, ◌≢◌, ℕ, List, refl, ap, Option, None, Some, Less, arith}
 use Rattle.word_image.proofs.Common.{LocalRule, IsOrphan, word_cmp}
 use Rattle.image_minimal.specs.ImageLanguages.{Separates}
 use Rattle.tail_config.proofs.Common.{TailConfig}
@@ -14,11 +14,7 @@ use Rattle.answer_laws.proofs.Least.{IsLeastErasable-unique}
 
 -- a word that tells two rules apart is no word on which they agree
 tells_apart : {r s : LocalRule} {w : List ℕ} → Separates r s w → (IsOrphan r w → IsOrphan s w) → (IsOrphan s w → IsOrphan r w) → ⊥
-tells_apart separates forth back =
-    elim separates.one [
-      | inl one ↦ one.1 (forth one.0)
-      | inr one ↦ one.1 (back one.0)
-    ]
+tells_apart separates forth back = grind arith
 
 -- two rules have one first word that tells them apart
 Separates-unique : {r s : LocalRule} {v w : List ℕ} → Separates r s v → Separates r s w → v ≡ w
@@ -47,5 +43,6 @@ finding_of_pre (pre.From p) = Finding.Preimage (placed_config p)
 finding_of_pre (pre.Gap before after w) = Finding.Gap before after w
 
 -- a configuration has one least gap
-pub IsGap-unique : {r : LocalRule} {t : TailConfig} {b a c d : ℕ} {w z : List ℕ} → IsGap r t b a w → IsGap r t c d z → Finding.Gap b a w ≡ Finding.Gap c d z
+pub IsGap-unique : {r : LocalRule} {t : TailConfig} {b a c d : ℕ} {w z : List ℕ} → IsGap r t b a w → IsGap r t c d z
+    → Finding.Gap b a w ≡ Finding.Gap c d z
 IsGap-unique {r} {t} {b} {a} {c} {d} {w} {z} here there = ap finding_of_pre (IsPreimageAnswer-unique r t (pre.Gap b a w) (pre.Gap c d z) here there)

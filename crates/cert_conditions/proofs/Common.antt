@@ -9,5 +9,5 @@ pub use Rattle.cert_conditions.specs.Refusals.IsBreach.{Diagonal, Empty, Leaves,
 pub use Rattle.cert_conditions.specs.Sets.{HasPart, IsKept, LeadsTo, StepIsKept}
 pub use Rattle.cert_conditions.specs.Sides.{AgreeBehind, claims_on, evidence_on}
 pub use Rattle.cert_conditions.specs.Sums.{Flows, IsLossy}
-pub use Rattle.cert_conditions.proofs.laws.ExactEvidence.{AllFall-ranks, AreAlike-twins, AreLastSets, AreSplit-left, AreSplit-right, Contains-full, Flows-exact, IsAheadPair-ranks, IsLossy-ring, IsWindowPair-determined, LeadsTo-orphan, StepIsKept-last_sets, nonempty-last_sets}
+pub use Rattle.cert_conditions.proofs.laws.ExactEvidence.{AreLastSets, Contains-full, LeadsTo-orphan, StepIsKept-last_sets, nonempty-last_sets}
 pub use Rattle.cert_conditions.proofs.laws.Soundness.{AreTrue-accepted, both_true}

@@ -4,5 +4,4 @@ pub mod Spellings
 pub mod Evidence
 pub mod Answers
 pub mod Steps
-pub mod AsciiTexts
 pub mod PlainValues

@@ -1,5 +1,5 @@
 -- Each set of a list contains a set of its cover list, and each set of the cover list is listed.
-use Rattle.std.proofs.Common.{◌≡◌, ◌≢◌, ℕ, zero, suc, ◌<◌, ◌≤◌, Bool, true, false, cond, List, [], ◌∷◌, length, Contains, bit_and, refl, sym, ap, ap₂, subst, ◌∙◌, ⊎_elim, arith, ◌==◌, ◌&&◌, not, filter, ne_eqb, eqb-true}
+use Rattle.std.proofs.Common.{◌≡◌, ◌≢◌, ℕ, zero, suc, ◌<◌, Bool, true, false, cond, List, [], ◌∷◌, Contains, bit_and, refl, ap, ap₂, subst, ◌∙◌, ⊎_elim, arith, ◌==◌, ◌&&◌, not, filter, ne_eqb, eqb-true}
 use Rattle.std.specs.Int.Bits.{and_self}
 use Rattle.word_image.proofs.Common.{list_any, cases_eq, eqb-false, and_parts, not-true, and_le_r, All-filter, All-contains_itself, is_subset, is_cover, covers_of}
 use Rattle.cert_values.proofs.laws.Members.{some_passes}
@@ -12,11 +12,10 @@ Contains-cond false y zs x h = h
 
 -- what passes the test is contained in what is left
 Contains-filter : {X : Type 0} (p : X → Bool) (xs : List X) (x : X) → Contains xs x → p x ≡ true → Contains (filter p xs) x
-Contains-filter p [] x h passes = absurd (omega (arith, h.1))
-Contains-filter p (y ∷ xs) x (zero, l, same) passes =
-    let first : p y ≡ true = ap p same ∙ passes in
-    subst (λ b. Contains (cond b (y ∷ filter p xs) (filter p xs)) x) (sym first) (zero, omega arith, same)
-Contains-filter p (y ∷ xs) x (suc k, l, same) passes = Contains-cond (p y) y (filter p xs) x (Contains-filter p xs x (k, omega arith, same) passes)
+Contains-filter p [] x h passes = absurd (omega arith)
+Contains-filter p (y ∷ xs) x (zero, l, same) passes = grind arith
+Contains-filter p (y ∷ xs) x (suc k, l, same) passes =
+    Contains-cond (p y) y (filter p xs) x (Contains-filter p xs x (k, omega arith, same) passes)
 
 -- each set of a cover list is the full set or listed
 pub Contains-covers : (full : ℕ) (sets : List ℕ) → Contains sets full → (set : ℕ) → Contains (covers_of full sets) set → Contains sets set
@@ -43,25 +42,13 @@ cover_below full sets (suc n) set l there =
           let part : bit_and h.0 set ≡ h.0 = eqb-true (bit_and h.0 set) h.0 parts.1 in
           let apart : h.0 ≢ set = eqb-false h.0 set (not-true (h.0 == set) parts.0) in
           let less : h.0 < set = omega (arith, and_le_r h.0 set) in
-          let before = cover_below full sets n h.0 (omega arith) h.1 in
-          record { cover = before.cover; listed = before.listed; part = part-of_part before.cover h.0 set before.part part })
+          grind (arith, part-of_part, cover_below full sets n h.0 (omega arith) h.1))
       | false ↦ (λ none.
-          let passes : is_cover full sets set ≡ true = ap₂ (λ (a b : Bool). not a && not b) (ne_eqb set full other) none in
-          let left = Contains-filter (is_cover full sets) sets set there passes in
-          record { cover = set; listed = (suc left.0, omega (arith, left.1), left.2); part = and_self set })
+          let left = Contains-filter (is_cover full sets) sets set there (ap₂ (λ (a b : Bool). not a && not b) (ne_eqb set full other) none) in
+          record { cover = set; listed = (suc left.0, omega arith, left.2); part = and_self set })
     ] refl)
     (cases_eq set full)
 
 -- each listed set contains a set of the cover list
 pub HasCover-listed : (full : ℕ) (sets : List ℕ) (set : ℕ) → Contains sets set → HasCover full sets set
 HasCover-listed full sets set there = cover_below full sets (suc set) set (omega arith) there
-
--- a filtered list is no longer
-pub length-filter-le : {X : Type 0} (p : X → Bool) (xs : List X) → length (filter p xs) ≤ length xs
-length-filter-le p [] = omega arith
-length-filter-le p (x ∷ xs) =
-    let rest = length-filter-le p xs in
-    elim (p x) as (λ b. length (cond b (x ∷ filter p xs) (filter p xs)) ≤ length (x ∷ xs)) [
-      | true ↦ omega arith
-      | false ↦ omega arith
-    ]

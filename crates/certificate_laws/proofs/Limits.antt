@@ -1,6 +1,6 @@
 -- What is written for a rule is within the limits of a certificate, its splits apart.
-use Rattle.std.proofs.Common.{◌≡◌, ℕ, ◌+◌, ◌-◌, ◌*◌, ◌<◌, ◌≤◌, List, ◌++◌, length, take, get_or, slice_index, Contains, Option, Some, None, inl, sym, ap, subst, ◌∙◌, ⊎_elim, arith, length-append, ℤ, pos, MatchOption, sum_by, length-take-le}
-use Rattle.word_image.proofs.Common.{cases_lt, ints, get_or_past, Contains-get_or, All-from_get_or, get_or-map-range_with_len, sum_by-le, LocalRule, IsRule, word_of, node_count, image, AreWeights, IsDetermined, IsLeastDetermined, IsRightAhead, IsLeastRightAhead, full_set, first_of, second_of, pair_count, IsRank, IsEndless, length-word_of, length-image, pair_count-le}
+use Rattle.std.proofs.Common.{◌≡◌, ℕ, ◌+◌, ◌-◌, ◌*◌, ◌<◌, ◌≤◌, List, ◌++◌, length, get_or, slice_index, Contains, Option, Some, None, inl, sym, ap, subst, ◌∙◌, ⊎_elim, arith, length-append, ℤ, pos, MatchOption, sum_by, length-take-le}
+use Rattle.word_image.proofs.Common.{cases_lt, get_or_past, Contains-get_or, All-from_get_or, get_or-map-range_with_len, sum_by-le, LocalRule, IsRule, word_of, node_count, AreWeights, IsDetermined, IsLeastDetermined, IsRightAhead, IsLeastRightAhead, full_set, pair_count, IsRank, IsEndless, length-word_of, length-image, pair_count-le}
 use Rattle.word_image.specs.declared.side.Side.TheVariants.{Right}
 use Rattle.pair_laws.proofs.Common.{Together-endless, IsDetermined-not_both_ways, IsDetermined-none_both_ways}
 use Rattle.pair_laws.proofs.Aheads.{IsRightAhead-pairs}
@@ -16,7 +16,8 @@ use Rattle.certificate_laws.proofs.PairLists.{below-reached}
 use Rattle.certificate_laws.proofs.CoverLists.{Contains-covers}
 
 -- the covers are sets of nodes, the reached pairs are pairs of them, and an orphan is a word
-pub IsSurjectiveShape-written : (version : CertVersion) {r : LocalRule} → IsRule r → (e : SurjectiveEvidence) → IsOrphanPart r (orphan_of e) → IsListPart version r e → IsSurjectiveShape version r e
+pub IsSurjectiveShape-written : (version : CertVersion) {r : LocalRule} → IsRule r → (e : SurjectiveEvidence) → IsOrphanPart r (orphan_of e)
+    → IsListPart version r e → IsSurjectiveShape version r e
 IsSurjectiveShape-written version {r} rule (Sets sets) surjective (two, (family, is, same)) = λ i d l.
     let last = AreLastSets-family surjective is in
     let listed = Contains-covers (full_set r) family (Contains-full last) (get_or sets i d) (subst (λ xs. Contains xs (get_or sets i d)) same (Contains-get_or sets i d l)) in
@@ -32,13 +33,10 @@ IsLeastDetermined-le {r} {n} {c} rule least =
 
 -- the least window is within its limits, and twins are words
 pub IsInjectiveShape-written : {r : LocalRule} → IsRule r → (e : InjectiveEvidence) → IsInjectivePart r e → IsInjectiveShape r e
-IsInjectiveShape-written {r} rule (Window n c) part =
+IsInjectiveShape-written rule (Window n c) part =
     let least = part.1 in
     let few = IsLeastDetermined-le rule least in
-    let pairs = pair_count-le rule in
-    let width = rule.shape.most_width in
-    let inside = least.determined.inside in
-    (least.determined.some, omega arith, inside, omega arith)
+    grind (arith, pair_count-le)
 IsInjectiveShape-written rule (Twins x y) part = (part.1.twins.first.word, part.1.twins.second.word)
 
 -- the least look-ahead is at most one more than the number of pairs
@@ -56,47 +54,44 @@ pub IsSideShape-ahead : {r : LocalRule} {n : ℕ} → IsRule r → IsLeastRightA
 IsSideShape-ahead rule least = (least.ahead.some, omega (arith, IsLeastRightAhead-le rule least, pair_count-le rule))
 
 -- a rank is a claim within its limits
-IsClaim-rank : {r : LocalRule} (P : ℕ → Type 0) → IsRule r → ((n : ℕ) → IsRank P n → n < pair_count r) → (o : Option ℕ) → MatchOption o (IsEndless P) (IsRank P) → IsClaim o
+IsClaim-rank : {r : LocalRule} (P : ℕ → Type 0) → IsRule r → ((n : ℕ) → IsRank P n → n < pair_count r) → (o : Option ℕ)
+    → MatchOption o (IsEndless P) (IsRank P) → IsClaim o
 IsClaim-rank P rule few None endless = tt
 IsClaim-rank P rule few (Some n) rank = omega (arith, few n rank, pair_count-le rule)
 
 -- exact ranks, which are below the number of pairs, are within their limits
-pub IsRankShape-exact : {r : LocalRule} {row : List (Option ℕ)} (Together : ℕ → ℕ → ℕ → Type 0) → IsRule r → ((u v n : ℕ) → IsRank (Together u v) n → n < pair_count r) → IsRankRow r Together row → IsRankShape r row
+pub IsRankShape-exact : {r : LocalRule} {row : List (Option ℕ)} (Together : ℕ → ℕ → ℕ → Type 0) → IsRule r
+    → ((u v n : ℕ) → IsRank (Together u v) n → n < pair_count r) → IsRankRow r Together row → IsRankShape r row
 IsRankShape-exact {r} {row} Together rule few ranks =
     record {
       each_pair = ranks.each_pair;
-      claims = All-from_get_or IsClaim row None (λ p l.
-          IsClaim-rank (Together (first_of r p) (second_of r p)) rule (few (first_of r p) (second_of r p)) (get_or row p None) (ranks.ranks p (omega (arith, ranks.each_pair))));
+      claims = All-from_get_or IsClaim row None (grind arith);
     }
 
 -- a weight is small, also that of what is no letter
 weight-le : {k : ℕ} {weights : List ℕ} → AreWeights k weights → (a : ℕ) → slice_index weights a ≤ 255
-weight-le {weights = weights} are a =
-    ⊎_elim (λ within. are.small a 0 within) (λ past. omega (arith, get_or_past weights a 0 past)) (cases_lt a (length weights))
+weight-le {weights = weights} are a = grind (arith, get_or_past)
 
 -- n letters weigh at most 255 n
 letters-le : {k : ℕ} {weights : List ℕ} → AreWeights k weights → (w : List ℕ) → sum_by (slice_index weights) w ≤ length w * 255
 letters-le {weights = weights} are w = sum_by-le (slice_index weights) 255 w (λ i d l. weight-le are (get_or w i d))
 
 -- what a word of 2 (m - 1) letters gains lies between -1,020 and 1,020
-IsNear-gain : {r : LocalRule} {weights : List ℕ} → IsRule r → AreWeights r.states weights → (x : List ℕ) → length x ≡ (r.width - 1) + (r.width - 1) → IsNear (gain (slice_index weights) r x)
-IsNear-gain {r} rule are x long =
-    let width = rule.shape.most_width in
-    let after = letters-le are (image r x) in
-    let before = letters-le are (take (length x - (r.width - 1)) x) in
-    let after_long = length-image r x in
-    let before_long = length-take-le (length x - (r.width - 1)) x (omega arith) in
-    (omega (arith, ints), omega (arith, ints))
+IsNear-gain : {r : LocalRule} {weights : List ℕ} → IsRule r → AreWeights r.states weights → (x : List ℕ) → length x ≡ (r.width - 1) + (r.width - 1)
+    → IsNear (gain (slice_index weights) r x)
+IsNear-gain rule are x long = grind (arith, letters-le, length-image, length-take-le)
 
 -- what flows over a node by the walk from it is within the limits
-IsNear-walk_gain : {r : LocalRule} {weights : List ℕ} → IsRule r → AreWeights r.states weights → (v : ℕ) → v < node_count r → IsNear (walk_gain (slice_index weights) r v)
+IsNear-walk_gain : {r : LocalRule} {weights : List ℕ} → IsRule r → AreWeights r.states weights → (v : ℕ) → v < node_count r
+    → IsNear (walk_gain (slice_index weights) r v)
 IsNear-walk_gain {r} rule are v l =
     let z : List ℕ = word_of r.states (r.width - 1) v in
     IsNear-gain rule are (z ++ zeros r)
     (omega (arith, length-append z (zeros r), length-zeros r, length-word_of r.states (r.width - 1) v))
 
 -- the flux that is 0 at node 0 is within the limits, and a ring is a word
-pub IsSumShape-written : {r : LocalRule} {weights : List ℕ} → IsRule r → AreWeights r.states weights → (e : SumEvidence) → IsConservingPart (slice_index weights) r e → IsSumShape r e
+pub IsSumShape-written : {r : LocalRule} {weights : List ℕ} → IsRule r → AreWeights r.states weights → (e : SumEvidence)
+    → IsConservingPart (slice_index weights) r e → IsSumShape r e
 IsSumShape-written {r} {weights} rule are (Flux phi) part = (
   part.1.entries,
   All-from_get_or IsNear phi (pos 0) (λ v l.

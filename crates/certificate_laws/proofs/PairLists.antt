@@ -13,11 +13,7 @@ use Rattle.garden_laws.specs.ReachedPairs.{AreReached}
 pub pair_list-met : {r : LocalRule} {pairs : List ℕ} → IsPairList r pairs
     → EachBelow (pair_count r) (FirstIsListed r pairs) × EachBelow (length pairs) (λ i. first_of r (slice_index pairs i) ≢ second_of r (slice_index pairs i))
     × EachBelow (length pairs) (λ i. StepsAreListed r pairs (slice_index pairs i))
-pair_list-met {pairs = pairs} list = (
-  (λ p below first. list.firsts p first),
-  (λ i within. list.off_diagonal (slice_index pairs i) (Contains-get_or pairs i 0 within)),
-  (λ i within a in_a b in_b q leads. list.closed (slice_index pairs i) a b q (Contains-get_or pairs i 0 within) in_a in_b leads),
-)
+pair_list-met {pairs = pairs} list = grind (arith, Contains-get_or)
 
 -- the reached pairs are pairs of nodes
 pub below-reached : {r : LocalRule} {pairs : List ℕ} → IsRule r → AreReached r pairs → All (λ p. p < pair_count r) pairs

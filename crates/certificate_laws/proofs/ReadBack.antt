@@ -1,5 +1,5 @@
 -- The text that is written for a value is read as that value, where its numbers have at most 64 bits and its keys ascend.
-use Rattle.std.proofs.Common.{◌≡◌, ℕ, suc, ◌+◌, ◌^◌, ◌<◌, ◌≤◌, negsuc, pos, Bool, true, false, List, [], ◌∷◌, map, All, IsUtf8, Some, option_map, option_and_then, decimal, append-nil, refl, sym, ap, ◌∙◌, arith, ℤ}
+use Rattle.std.proofs.Common.{◌≡◌, ℕ, suc, ◌+◌, ◌^◌, ◌<◌, ◌≤◌, negsuc, pos, Bool, true, false, List, [], ◌∷◌, map, All, IsUtf8, Some, option_map, option_and_then, append-nil, refl, sym, ap, ◌∙◌, arith, ℤ}
 use lib.Signed.{mag}
 use Rattle.std.specs.Fmt.{signed_decimal}
 use Rattle.std.proofs.lemmas.Fmt.{IsAscii-decimal, IsAscii-signed}
@@ -61,12 +61,7 @@ IsReadBack-string n s text = record { depth = omega arith; numbers = tt; value =
 
 -- a whole number of 64 bits is read back
 pub IsReadBack-whole : (n v : ℕ) → v < 2 ^ 64 → IsReadBack n (whole_value v)
-IsReadBack-whole n v fits = record {
-  depth = omega arith;
-  numbers = IsNumber-decimal v fits;
-  value = ap (option_map number) (number_of-decimal v fits);
-  text = IsUtf8-from_ascii (decimal v) (IsAscii-decimal v fits);
-}
+IsReadBack-whole n v fits = grind (arith, number_of-decimal, IsNumber-decimal, IsUtf8-from_ascii, IsAscii-decimal)
 
 -- a negative number is read back
 IsReadBack-negative : (n v : ℕ) → v + 1 < 2 ^ 63 → IsReadBack n (number (negative (negsuc v)))
@@ -79,19 +74,16 @@ IsReadBack-negative n v fits = record {
 
 -- values in a row are read back, one by one
 AreReadBack-item : {n : ℕ} {d : Data} {ds : Items} → IsReadBack n d → AreReadBack n ds → AreReadBack n (item d ds)
-AreReadBack-item {d = d} {ds = ds} first rest = record {
-  depth = max-le first.depth rest.depth;
-  numbers = (first.numbers, rest.numbers);
-  values = ap (option_and_then (λ e. option_map (item e) (of_items (items_outline ds)))) first.value ∙ ap (option_map (item d)) rest.values;
-  text = λ later. IsUtf8-append (comma_if later) _ (IsUtf8-comma later) (IsUtf8-append (compact_text d) _ first.text (rest.text true));
-}
+AreReadBack-item {d = d} {ds = ds} first rest = grind (arith, IsUtf8-append, IsUtf8-comma)
 
-AreReadBack-map : {A : Type 0} {n : ℕ} (f : A → Data) (P : A → Type 0) → ((x : A) → P x → IsReadBack n (f x)) → (xs : List A) → All P xs → AreReadBack n (items_of (map f xs))
+AreReadBack-map : {A : Type 0} {n : ℕ} (f : A → Data) (P : A → Type 0) → ((x : A) → P x → IsReadBack n (f x)) → (xs : List A) → All P xs
+    → AreReadBack n (items_of (map f xs))
 AreReadBack-map f P each [] all = record { depth = omega arith; numbers = tt; values = refl; text = λ later. IsUtf8-are_ascii _ refl }
 AreReadBack-map f P each (x ∷ xs) all = AreReadBack-item (each x (All-head P x xs all)) (AreReadBack-map f P each xs (All-tail P x xs all))
 
 -- an array of values that are read back is read back
-pub IsReadBack-array : {A : Type 0} {n : ℕ} (f : A → Data) (P : A → Type 0) → ((x : A) → P x → IsReadBack n (f x)) → (xs : List A) → All P xs → IsReadBack (suc n) (array_from (map f xs))
+pub IsReadBack-array : {A : Type 0} {n : ℕ} (f : A → Data) (P : A → Type 0) → ((x : A) → P x → IsReadBack n (f x)) → (xs : List A) → All P xs
+    → IsReadBack (suc n) (array_from (map f xs))
 IsReadBack-array f P each xs all =
     let items = AreReadBack-map f P each xs all in
     record {
@@ -105,7 +97,8 @@ IsReadBack-array f P each xs all =
 pub HaveReadBack-none : (n : ℕ) → HaveReadBack n no_members
 HaveReadBack-none n = record { depth = omega arith; numbers = tt; values = λ found. refl; text = λ later. IsUtf8-are_ascii _ refl }
 
-pub HaveReadBack-member : {n : ℕ} (k : List ℕ) {d : Data} {ms : Members} → are_ascii k ≡ true → IsReadBack n d → HaveReadBack n ms → HaveReadBack n (member k d ms)
+pub HaveReadBack-member : {n : ℕ} (k : List ℕ) {d : Data} {ms : Members} → are_ascii k ≡ true → IsReadBack n d → HaveReadBack n ms
+    → HaveReadBack n (member k d ms)
 HaveReadBack-member k {d = d} {ms = ms} key first rest = record {
   depth = max-le first.depth rest.depth;
   numbers = (first.numbers, rest.numbers);

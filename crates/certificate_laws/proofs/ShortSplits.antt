@@ -21,14 +21,15 @@ HasShortSplit-begins : {r : LocalRule} {p : ℕ} → IsRule r → IsFirstOfRight
 HasShortSplit-begins {r} {p} rule f begins =
     let way : LeadsToLoop r p = subst (LeadsToLoop r) (pair_of-first_of r p) (LeadsToLoop-begin rule begins) in
     record {
-      x = looped_tail r f.node f.a way.first way.first_turn;
-      y = looped_tail r f.node f.b way.second way.second_turn;
+      x = looped_tail r f.node f.a way.reach.a way.loop.a;
+      y = looped_tail r f.node f.b way.reach.b way.loop.b;
       split = normal_split-loop rule f way;
-      short = omega (arith, length-append (word_of r.states (r.width - 1) f.node) (f.a ∷ way.first), length-word_of r.states (r.width - 1) f.node, way.within);
+      short = omega (arith, length-append (word_of r.states (r.width - 1) f.node) (f.a ∷ way.reach.a), length-word_of r.states (r.width - 1) f.node, way.reach.a_long, way.loop.a_long, way.within);
     }
 
 -- the middle and the right period of the least right split have together at most m letters more than there are pairs
-pub IsLeastRightSplit-le : {r : LocalRule} {x y : TailConfig} → IsRule r → IsLeastRightSplit r x y → length x.middle + length x.right ≤ r.width - 1 + 1 + pair_count r
+pub IsLeastRightSplit-le : {r : LocalRule} {x y : TailConfig} → IsRule r → IsLeastRightSplit r x y
+    → length x.middle + length x.right ≤ r.width - 1 + 1 + pair_count r
 IsLeastRightSplit-le {r} {x} {y} rule least =
     ⊎_elim
     (λ long.

@@ -1,5 +1,5 @@
 -- The text that is written for a rule has fewer than 450,000 bytes.
-use Rattle.std.proofs.Common.{ℕ, ◌+◌, ◌-◌, ◌^◌, ◌<◌, ◌≤◌, true, ⊎_elim, List, length, map, slice_index, Option, Some, None, arith, length-append, ℤ, pos, negsuc, ◌≤ℤ◌}
+use Rattle.std.proofs.Common.{ℕ, ◌+◌, ◌-◌, ◌^◌, ◌<◌, ◌≤◌, true, ⊎_elim, List, length, map, Option, Some, None, arith, length-append, ℤ, pos, negsuc, ◌≤ℤ◌}
 use Rattle.std.proofs.lemmas.Fmt.{length-decimal-le, length_signed_le}
 use Rattle.word_image.proofs.Common.{pow-le-pow_right, ints, length-map, All-weaker, LocalRule, IsRule, node_count, pair_count, AreWeights, window_count-le, pair_count-le}
 use Rattle.serde_json.specs.Written.{compact_text, members_text}
@@ -47,7 +47,8 @@ length-printed_rule {r} rule =
     simp (length-append, length-map) (omega arith)
 
 -- the text of the cover list, the reached pairs, or an orphan has at most 393,260 bytes
-length-surjective_value : (version : CertVersion) {r : LocalRule} → IsRule r → (e : SurjectiveEvidence) → IsSurjectiveShape version r e → IsOrphanPart r (orphan_of e) → IsListPart version r e
+length-surjective_value : (version : CertVersion) {r : LocalRule} → IsRule r → (e : SurjectiveEvidence) → IsSurjectiveShape version r e
+    → IsOrphanPart r (orphan_of e) → IsListPart version r e
     → length (compact_text (surjective_value e)) ≤ 393260
 length-surjective_value version {r} rule (Sets sets) shape surjective (two, covers) =
     let most : 2 ^ node_count r ≤ 2 ^ 16 = pow-le-pow_right (omega arith) rule.shape.most_nodes in
@@ -60,7 +61,8 @@ length-surjective_value version {r} rule (Pairs pairs) shape surjective (three, 
 length-surjective_value version rule (Orphan w) shape least list = simp length-append (omega (arith, length-escape_byte, length-comma_if, length-IsLeastOrphan rule least, length-word_text w))
 
 -- the text of a window or twins has at most 1,100 bytes
-length-injective_value : {r : LocalRule} → IsRule r → (e : InjectiveEvidence) → IsInjectiveShape r e → IsInjectivePart r e → length (compact_text (injective_value e)) ≤ 1100
+length-injective_value : {r : LocalRule} → IsRule r → (e : InjectiveEvidence) → IsInjectiveShape r e → IsInjectivePart r e
+    → length (compact_text (injective_value e)) ≤ 1100
 length-injective_value rule (Window n c) shape part =
     simp length-append (omega (arith, length-escape_byte, length-comma_if, length-whole_value n shape.1, length-whole_value c shape.3))
 length-injective_value rule (Twins x y) shape part =
@@ -74,7 +76,8 @@ length-side_value r (Split x y) shape =
     simp length-append (omega (arith, length-escape_byte, length-comma_if, length-tail_text x, length-tail_text y))
 
 -- the text of a flux or a ring has at most 200 bytes
-length-sum_value : (weight : ℕ → ℕ) {r : LocalRule} → IsRule r → (e : SumEvidence) → IsSumShape r e → IsConservingPart weight r e → length (compact_text (sum_value e)) ≤ 200
+length-sum_value : (weight : ℕ → ℕ) {r : LocalRule} → IsRule r → (e : SumEvidence) → IsSumShape r e → IsConservingPart weight r e
+    → length (compact_text (sum_value e)) ≤ 200
 length-sum_value weight rule (Flux phi) shape part =
     let small = All-weaker IsNear (λ z. length (compact_text (signed_value z)) ≤ 8) length-signed_value phi shape.1 in
     simp length-append (omega (arith, length-escape_byte, length-comma_if, length-values signed_value 8 phi small, shape.0, rule.shape.most_nodes))
@@ -87,7 +90,8 @@ length-row {r} {row} rule shape =
     omega (arith, length-values claim_value 5 row small, shape.each_pair, pair_count-le rule)
 
 -- the weights, where they are written, and the closing brace have at most 200 bytes
-length-weights_members : {r : LocalRule} → IsRule r → (weights : List ℕ) → AreWeights r.states weights → length (members_text true (weights_members r weights)) ≤ 200
+length-weights_members : {r : LocalRule} → IsRule r → (weights : List ℕ) → AreWeights r.states weights
+    → length (members_text true (weights_members r weights)) ≤ 200
 length-weights_members {r} rule weights are =
     let small = All-weaker (λ w. w ≤ 255) (λ w. length (compact_text (whole_value w)) ≤ 5) (λ w l. length-whole_value w (omega (arith, l))) weights are.small in
     ⊎_elim
@@ -102,22 +106,5 @@ number_of-le _ = omega arith
 
 -- what is written for its own rule has a short text
 pub short-own : {c : Certificate} → IsShaped c → HasWrittenParts c.version c.rule c.weights c → length (certificate_text c) < 450000
-short-own {c} shaped parts =
-    let rule = shaped.rule in
-    let least = parts.least in
-    simp length-append (omega (
-      arith,
-      length-weights_members rule c.weights (shaped.weights).each,
-      length-sum_value (slice_index c.weights) rule c.conserving shaped.conserving least.conserving,
-      length-injective_value rule c.injective shaped.injective least.injective,
-      length-side_value c.rule c.left shaped.left,
-      length-row rule shaped.forward,
-      length-row rule shaped.backward,
-      length-side_value c.rule c.right shaped.right,
-      length-escape (printed_rule c.rule),
-      length-printed_rule rule,
-      length-surjective_value c.version rule c.surjective shaped.surjective least.surjective parts.list,
-      length-whole_value (number_of c.version) (number_of-le c.version),
-      length-escape_byte,
-      length-comma_if,
-    ))
+short-own shaped parts =
+    grind (arith, length-append, length-weights_members, length-sum_value, length-injective_value, length-side_value, length-row, length-escape, length-printed_rule, length-surjective_value, length-whole_value, length-escape_byte)

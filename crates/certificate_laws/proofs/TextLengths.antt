@@ -1,8 +1,7 @@
 -- How many bytes the compact text of a value has at most.
-use Rattle.std.proofs.Common.{◌≡◌, ◌≢◌, ℕ, ◌+◌, ◌*◌, ◌/◌, ◌%◌, ◌≤◌, Bool, true, false, cond, List, [], ◌∷◌, ◌++◌, length, map, All, refl, ap, ap₂, ◌∙◌, arith, length-append, nat_lt, codes, ne_eqb, le-ltb, ltb-true, ltb-false}
-use Rattle.std.specs.Char.{digit_char}
-use Rattle.word_image.proofs.Common.{cond_both, length-map, All-nil, All-cons, All-head, All-tail, All-map, All-append, lower_digit, word_text}
-use Rattle.json.specs.Print.{escape_letter, escape_byte, escape}
+use Rattle.std.proofs.Common.{◌≡◌, ◌≢◌, ℕ, ◌+◌, ◌*◌, ◌≤◌, Bool, true, false, cond, List, [], ◌∷◌, ◌++◌, length, map, All, refl, ap, ap₂, ◌∙◌, arith, length-append, codes, ne_eqb, le-ltb}
+use Rattle.word_image.proofs.Common.{length-map, All-nil, All-cons, All-head, All-tail, All-map, All-append, lower_digit, word_text}
+use Rattle.json.specs.Print.{escape_byte, escape}
 use Rattle.serde_json.specs.Data.{Data}
 use Rattle.serde_json.specs.View.{items_of}
 use Rattle.serde_json.specs.Written.{compact_text, items_text, comma_if}
@@ -18,9 +17,7 @@ length-either false s t first second = second
 -- what stands in a string for a byte has at most six bytes
 pub length-escape_byte : (x : ℕ) → length (escape_byte x) ≤ 6
 unfolding escape_byte
-length-escape_byte x =
-    length-either (nat_lt 0 (escape_letter x)) (92 ∷ escape_letter x ∷ []) _ (omega arith)
-    (length-either (nat_lt x 32) (92 ∷ 117 ∷ 48 ∷ 48 ∷ digit_char (x / 16) ∷ digit_char (x % 16) ∷ []) (x ∷ []) (omega arith) (omega arith))
+length-escape_byte x = grind arith
 
 -- the escaped text of a string has at most six bytes for each of its bytes
 pub length-escape : (s : List ℕ) → length (escape s) ≤ length s * 6
@@ -43,10 +40,7 @@ escape-plain (x ∷ s) all = ap₂ (λ (a b : List ℕ). a ++ b) (escape_byte-pl
 
 -- the digit of a letter is plain
 IsPlainByte-digit : (a : ℕ) → IsPlainByte (lower_digit a)
-IsPlainByte-digit a =
-    cond_both (nat_lt a 10) (48 + a) (87 + a) IsPlainByte
-    (λ below. let few = ltb-true a 10 below in (omega arith, λ e. omega arith))
-    (λ above. let many = ltb-false a 10 above in (omega arith, λ e. omega arith))
+IsPlainByte-digit a = grind arith
 
 -- the text of a word has plain bytes alone
 IsPlain-word : (w : List ℕ) → All IsPlainByte (word_text w)
@@ -71,11 +65,13 @@ length-comma_if true = omega arith
 length-comma_if false = omega arith
 
 -- the items of an array, of n bytes each, take one byte more each, and one for the bracket
-length-items_text : (n : ℕ) (later : Bool) (ds : List Data) → All (λ d. length (compact_text d) ≤ n) ds → length (items_text later (items_of ds)) ≤ length ds * (n + 1) + 1
+length-items_text : (n : ℕ) (later : Bool) (ds : List Data) → All (λ d. length (compact_text d) ≤ n) ds
+    → length (items_text later (items_of ds)) ≤ length ds * (n + 1) + 1
 length-items_text n later [] all = omega arith
 length-items_text n later (d ∷ ds) all =
     grind (arith, length-comma_if, length-append, All-head, All-tail, length-items_text n true ds (All-tail (λ d. length (compact_text d) ≤ n) d ds all))
 
 -- the text of an array of values of n bytes each takes one byte more for each, and two for the brackets
-pub length-values : {A : Type 0} (f : A → Data) (n : ℕ) (xs : List A) → All (λ x. length (compact_text (f x)) ≤ n) xs → length (compact_text (array_from (map f xs))) ≤ length xs * (n + 1) + 2
+pub length-values : {A : Type 0} (f : A → Data) (n : ℕ) (xs : List A) → All (λ x. length (compact_text (f x)) ≤ n) xs
+    → length (compact_text (array_from (map f xs))) ≤ length xs * (n + 1) + 2
 length-values f n xs all = omega (arith, length-items_text n false (map f xs) (All-map (λ d. length (compact_text d) ≤ n) f xs all), ap (λ k. k * (n + 1)) (length-map xs f))

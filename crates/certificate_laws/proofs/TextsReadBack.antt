@@ -1,62 +1,20 @@
 -- The text of a certificate within its limits is a text of it.
-use Rattle.std.proofs.Common.{ℕ, suc, ◌+◌, ◌-◌, ◌^◌, ◌<◌, ◌≤◌, negsuc, pos, List, [], ◌∷◌, map, All, IsUtf8, Option, Some, None, codes, decimal, refl, ⊎_elim, arith, lt-ltb, ℤ, nat_lt}
-use Rattle.std.proofs.lemmas.Fmt.{IsAscii-decimal}
-use Rattle.std.proofs.lemmas.Str.{IsUtf8-append, IsUtf8-from_ascii}
-use Rattle.word_image.proofs.Common.{pow-le-pow_right, cond_both, ints, All-head, All-tail, All-weaker, All-nil, All-cons, LocalRule, IsRule, IsWord, node_count, lower_digit, word_text, pair_count-le}
-use Rattle.json.proofs.Printed.Utf8.{IsUtf8-are_ascii}
+use Rattle.std.proofs.Common.{ℕ, suc, ◌-◌, ◌^◌, ◌<◌, ◌≤◌, negsuc, pos, List, [], ◌∷◌, map, All, Option, Some, None, codes, refl, ⊎_elim, arith, ℤ}
+use Rattle.word_image.proofs.Common.{pow-le-pow_right, ints, All-weaker, All-nil, All-cons, LocalRule, IsRule, IsWord, node_count, word_text, pair_count-le}
 use Rattle.serde_json.specs.Data.{Members}
 use Rattle.tail_config.proofs.Common.{TailConfig, IsShortTail}
 use Rattle.tail_config.specs.TailTexts as tail
-use Rattle.rule_text.specs.PrintedRules.{offset_text, printed_rule}
+use Rattle.rule_text.specs.PrintedRules.{printed_rule}
 use Rattle.cert_values.specs.declared.cert_version.CertVersion.{CertVersion}
 use Rattle.cert_values.specs.declared.cert_version.CertVersion.TheVariants.{One, Two, Three}
 use Rattle.cert_values.proofs.Common.{number_of, SurjectiveEvidence, InjectiveEvidence, SideEvidence, SumEvidence, Sets, Pairs, Orphan, Window, Twins, Ahead, Split, Flux, Ring, Certificate, IsSurjectiveShape, IsInjectiveShape, IsSideShape, IsSumShape, IsClaim, IsNear, IsCertificateText, IsShaped, array_from, whole_value, signed_value, word_value, tail_value, claim_value, surjective_value, injective_value, side_value, sum_value, ranks_value, members_before, certificate_value, certificate_text, weights_members-cases}
+use Rattle.cert_values.proofs.laws.Utf8Texts.{IsUtf8-word, IsUtf8-tail, IsUtf8-rule}
 use Rattle.cert_values.proofs.laws.Written.{IsCertificateText-written}
 use Rattle.certificate_laws.proofs.ReadBack.{IsReadBack, HaveReadBack, IsReadBack-null, IsReadBack-string, IsReadBack-whole, IsReadBack-signed, IsReadBack-array, IsReadBack-object, IsReadBack-only, HaveReadBack-none, HaveReadBack-member, read-compact_text}
 
--- a byte below 128 is UTF-8
-IsUtf8-byte : (x : ℕ) → x < 128 → IsUtf8 (x ∷ [])
-IsUtf8-byte x small = IsUtf8-are_ascii (x ∷ []) (rw (lt-ltb x 128 small) refl)
-
--- the digit of a letter below 16 is below 128
-lower_digit-below : (a : ℕ) → a < 16 → lower_digit a < 128
-lower_digit-below a small = cond_both (nat_lt a 10) (48 + a) (87 + a) (λ b. b < 128) (λ below. omega arith) (λ above. omega arith)
-
--- the digits of a word are UTF-8
-IsUtf8-word : {k : ℕ} → k ≤ 16 → (w : List ℕ) → IsWord k w → IsUtf8 (word_text w)
-IsUtf8-word most [] word = IsUtf8-are_ascii [] refl
-IsUtf8-word {k} most (a ∷ w) word =
-    let below : a < k = All-head (λ b. b < k) a w word in
-    IsUtf8-append (lower_digit a ∷ []) (word_text w) (IsUtf8-byte (lower_digit a) (lower_digit-below a (omega (arith, below, most)))) (IsUtf8-word most w (All-tail (λ b. b < k) a w word))
-
--- the text of a configuration is UTF-8
-IsUtf8-tail : {k : ℕ} → k ≤ 16 → (t : TailConfig) → IsShortTail k t → IsUtf8 (tail.printed t)
-IsUtf8-tail most t short =
-    let bar = IsUtf8-are_ascii (codes "|") refl in
-    search (IsUtf8-append, bar, IsUtf8-word most t.left short.tail.left_word, IsUtf8-word most t.middle short.tail.middle_word, IsUtf8-word most t.right short.tail.right_word)
-
--- the text of a decimal number is UTF-8
-IsUtf8-decimal : (n : ℕ) → n < 2 ^ 64 → IsUtf8 (decimal n)
-IsUtf8-decimal n fits = IsUtf8-from_ascii (decimal n) (IsAscii-decimal n fits)
-
--- the text of an offset is UTF-8
-IsUtf8-offset : (z : ℤ) → IsNear z → IsUtf8 (offset_text z)
-IsUtf8-offset (pos n) near = IsUtf8-decimal n (omega (arith, ints, near.1))
-IsUtf8-offset (negsuc n) near = IsUtf8-append (codes "-") _ (IsUtf8-are_ascii (codes "-") refl) (IsUtf8-decimal (n + 1) (omega (arith, ints, near.0)))
-
--- the text of a printed rule is UTF-8
-IsUtf8-rule : {r : LocalRule} → IsRule r → IsUtf8 (printed_rule r)
-IsUtf8-rule {r} rule =
-    let shape = rule.shape in
-    let colon = IsUtf8-are_ascii (codes ":") refl in
-    let near : IsNear r.offset = (grind (arith, ints, shape.least_offset), grind (arith, ints, shape.most_offset)) in
-    let table = IsUtf8-are_ascii (codes "t") refl in
-    let states = IsUtf8-decimal r.states (omega (arith, shape.most_states)) in
-    let width = IsUtf8-decimal r.width (omega (arith, shape.most_width)) in
-    search (IsUtf8-append, colon, table, states, width, IsUtf8-offset r.offset near, IsUtf8-word shape.most_states r.table rule.letters) depth 12
-
 -- an array of numbers below a limit of 64 bits is read back
-whole_values : (n limit : ℕ) → limit ≤ 2 ^ 64 → (values : List ℕ) → All (λ v. v < limit) values → IsReadBack (suc n) (array_from (map whole_value values))
+whole_values : (n limit : ℕ) → limit ≤ 2 ^ 64 → (values : List ℕ) → All (λ v. v < limit) values
+    → IsReadBack (suc n) (array_from (map whole_value values))
 whole_values n limit fits values small = IsReadBack-array whole_value (λ v. v < limit) (λ v below. IsReadBack-whole n v (omega (arith, below, fits))) values small
 
 module _ {r : LocalRule} (rule : IsRule r) where

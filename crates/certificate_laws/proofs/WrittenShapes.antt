@@ -1,6 +1,6 @@
 -- What is written for a rule has the shape of a certificate.
-use Rattle.std.proofs.Common.{◌≡◌, ◌∙◌, ℕ, List, length, true, sym, ap, subst, subst₂, arith}
-use Rattle.word_image.proofs.Common.{false≢true, length-reverse, LocalRule, IsRule, AreWeights, BeginTogether, EndTogether, IsRule-mirrored, pair_count-le}
+use Rattle.std.proofs.Common.{◌≡◌, ◌∙◌, ℕ, List, true, sym, subst, arith, rules}
+use Rattle.word_image.proofs.Common.{false≢true, length-reverse, LocalRule, IsRule, AreWeights, BeginTogether, EndTogether, IsRule-mirrored}
 use Rattle.word_image.specs.declared.side.Side.TheVariants.{Right, Left}
 use Rattle.pair_laws.proofs.Common.{IsRank-below}
 use Rattle.tail_config.proofs.Common.{TailConfig, mirror_of, IsShortTail, IsLeastRightSplit, IsTail-mirror}
@@ -8,29 +8,16 @@ use Rattle.cert_values.specs.declared.cert_version.CertVersion.{CertVersion}
 use Rattle.cert_values.proofs.Common.{names_weights, SideEvidence, Certificate, IsSideShape, IsShaped, Ahead, Split}
 use Rattle.certificate_laws.specs.LeastEvidence.{IsRightPart, IsLeftPart}
 use Rattle.certificate_laws.specs.WrittenCertificates.{HasWrittenParts}
-use Rattle.certificate_laws.proofs.MetConditions.{own_parts}
 use Rattle.certificate_laws.proofs.ShortSplits.{IsLeastRightSplit-le}
 use Rattle.certificate_laws.proofs.Limits.{IsSurjectiveShape-written, IsInjectiveShape-written, IsSideShape-ahead, IsSumShape-written, IsRankShape-exact}
 
 -- the least normal right split is of short configurations
 IsSideShape-split : {r : LocalRule} {x y : TailConfig} → IsRule r → IsLeastRightSplit r x y → IsSideShape r (Split x y)
-IsSideShape-split {r} {x} {y} rule least =
-    let few = IsLeastRightSplit-le rule least in
-    let pairs = pair_count-le rule in
-    let split = least.split in (
-      record { tail = split.split.first; left = omega (arith, ap length split.first.left); middle = omega arith; right = omega arith },
-      record { tail = split.split.second; left = omega (arith, ap length split.second.left); middle = omega (arith, split.middles); right = omega (arith, split.rights) },
-    )
+IsSideShape-split rule least = grind (arith, IsLeastRightSplit-le)
 
 -- read backwards a short configuration is short
 IsShortTail-mirror : {k : ℕ} {t : TailConfig} → IsShortTail k t → IsShortTail k (mirror_of t)
-IsShortTail-mirror {k} {t} short =
-    record {
-      tail = IsTail-mirror short.tail;
-      left = omega (arith, length-reverse t.right);
-      middle = omega (arith, length-reverse t.middle);
-      right = omega (arith, length-reverse t.left);
-    }
+IsShortTail-mirror short = search (rules, length-reverse, IsTail-mirror)
 
 -- the part of the right is within its limits
 IsSideShape-right : {r : LocalRule} → IsRule r → (e : SideEvidence) → IsRightPart r e → IsSideShape r e
@@ -46,7 +33,8 @@ IsSideShape-left {r} rule (Split x y) part =
     (subst (IsShortTail r.states) (sym least.x_is) (IsShortTail-mirror shape.0), subst (IsShortTail r.states) (sym least.y_is) (IsShortTail-mirror shape.1))
 
 -- with the evidence that is written for its own rule, in a version that names weights, it has the shape of a certificate
-IsShaped-own : {c : Certificate} → names_weights c.version ≡ true → IsRule c.rule → AreWeights (c.rule).states c.weights → HasWrittenParts c.version c.rule c.weights c → IsShaped c
+IsShaped-own : {c : Certificate} → names_weights c.version ≡ true → IsRule c.rule → AreWeights (c.rule).states c.weights
+    → HasWrittenParts c.version c.rule c.weights c → IsShaped c
 IsShaped-own {c} names rule are parts =
     record {
       rule = rule;
@@ -61,8 +49,7 @@ IsShaped-own {c} names rule are parts =
     }
 
 -- what is written for a rule has the shape of a certificate
-pub IsShaped-written : {version : CertVersion} {r : LocalRule} {weights : List ℕ} {c : Certificate} → names_weights version ≡ true → IsRule r → AreWeights r.states weights
+pub IsShaped-written : {version : CertVersion} {r : LocalRule} {weights : List ℕ} {c : Certificate} → names_weights version ≡ true → IsRule r
+    → AreWeights r.states weights
     → HasWrittenParts version r weights c → IsShaped c
-IsShaped-written names rule are parts =
-    IsShaped-own (ap names_weights parts.version_is ∙ names) (subst IsRule (sym parts.least.rule) rule)
-    (subst₂ (λ (s : LocalRule) (ws : List ℕ). AreWeights s.states ws) (sym parts.least.rule) (sym parts.weights_are) are) (own_parts parts)
+IsShaped-written names rule are parts = grind (arith, IsShaped-own)

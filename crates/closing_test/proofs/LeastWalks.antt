@@ -1,5 +1,5 @@
 -- The order of splits by the numbers of their letter pairs, and where no split at a state comes before the least one so far.
-use Rattle.std.proofs.Common.{◌≡◌, ◌≢◌, ℕ, ◌+◌, ◌<◌, ◌≤◌, List, length, map, Option, Some, None, Bool, true≢false, sym, ap, ap₂, ◌∙◌, ⊎_elim, arith, nat_cmp, is_gt, ◌↔◌, IsTrue, MatchOption, Ordering, Less, Equal, Greater}
+use Rattle.std.proofs.Common.{◌≡◌, ◌≢◌, ◌⊎◌, ℕ, ◌+◌, ◌<◌, ◌≤◌, List, length, Option, Some, None, sym, ◌∙◌, ⊎_elim, arith, refl, nat_cmp, is_gt, ◌↔◌, IsTrue, MatchOption, Ordering, Less, Equal, Greater}
 use Rattle.word_image.proofs.Common.{ordering_then, slice_cmp, cases_lt, length-map, LocalRule, marked, key_not_greater, then_assoc}
 use Rattle.search_laws.proofs.Common.{PairWalk, IsLeastWalkTo, slice_cmp-uncode, uncode}
 use Rattle.tail_config.proofs.Common.{splits_cmp}
@@ -16,42 +16,29 @@ pub splits_cmp-numbers : (x y : Walks)
     (slice_cmp nat_cmp x.middle y.middle))
     (slice_cmp nat_cmp x.period y.period)
 splits_cmp-numbers x y =
-    let long : (u : List ℕ) → length (map (uncode 16) u) ≡ length u = λ u. length-map u (uncode 16) in
-    let letters : Ordering = nat_cmp (length x.middle + length x.period) (length y.middle + length y.period) in
-    let lengths : Ordering = nat_cmp (length x.middle) (length y.middle) in
-    let middles : Ordering = slice_cmp nat_cmp x.middle y.middle in
-    let periods : Ordering = slice_cmp nat_cmp x.period y.period in
-    splits_cmp-walks (middle_pairs x) (period_pairs x) (middle_pairs y) (period_pairs y)
-    ∙ ap₂ ordering_then (ap₂ nat_cmp (ap₂ (λ a b. a + b) (long x.middle) (long x.period)) (ap₂ (λ a b. a + b) (long y.middle) (long y.period)))
-    (ap₂ ordering_then (ap₂ nat_cmp (long x.middle) (long y.middle))
-    (ap₂ ordering_then (slice_cmp-uncode 16 (omega arith) x.middle y.middle) (slice_cmp-uncode 16 (omega arith) x.period y.period)))
-    ∙ sym (then_assoc (ordering_then letters lengths) middles periods ∙ then_assoc letters lengths (ordering_then middles periods))
+    rw (splits_cmp-walks (middle_pairs x) (period_pairs x) (middle_pairs y) (period_pairs y)) (simp (length-map, slice_cmp-uncode 16 (omega arith), then_assoc))
 
 -- an order is `Greater` exactly where the test says so
-pub is_gt-greater : (o s : Ordering) (b : Bool) → b ≡ is_gt o → o ≡ s → IsTrue b ↔ (s ≡ Greater)
-is_gt-greater Less s b e f = (λ h. absurd (true≢false (sym h ∙ e)), λ h. absurd (true≢false (ap is_gt (sym (f ∙ h)))))
-is_gt-greater Equal s b e f = (λ h. absurd (true≢false (sym h ∙ e)), λ h. absurd (true≢false (ap is_gt (sym (f ∙ h)))))
-is_gt-greater Greater s b e f = (λ h. sym f, λ h. e)
-
--- where no walk leads to a state, no split there comes before the best one
-pub IsNoneBefore-none : {r : LocalRule} {t : ℕ} (best : Option Walks) → ((w : List (ℕ × ℕ)) → ¬ PairWalk (marked r) r.states 0 w t) → IsNoneBefore r t best
-IsNoneBefore-none best none w v at before = none w at.reach
+pub is_gt-greater : (o : Ordering) → IsTrue (is_gt o) ↔ (o ≡ Greater)
+is_gt-greater Less = (λ h. absurd cc, λ h. absurd cc)
+is_gt-greater Equal = (λ h. absurd cc, λ h. absurd cc)
+is_gt-greater Greater = (λ h. refl, λ h. refl)
 
 -- a first walk has no more letters than another one
-pub length-reach : {follow : ℕ → ℕ → ℕ → Option ℕ} {k s t : ℕ} {u w : List (ℕ × ℕ)} → IsLeastWalkTo follow k s t u → PairWalk follow k s w t → length u ≤ length w
+pub length-reach : {follow : ℕ → ℕ → ℕ → Option ℕ} {k s t : ℕ} {u w : List (ℕ × ℕ)} → IsLeastWalkTo follow k s t u → PairWalk follow k s w t
+    → length u ≤ length w
 length-reach {u = u} {w} reach walk = ((key_not_greater (length u) (length w) _).0 (reach.least w walk)).0
 
 -- a split of more letters comes later, and one of as many letters with a longer middle
-splits_cmp-later : (best : Walks) (w v : List (ℕ × ℕ)) → length best.middle + length best.period ≤ length w + length v
-    → (length best.middle + length best.period ≡ length w + length v → length best.middle < length w) → splits_cmp (split_by best) (split_of w v) ≢ Greater
-splits_cmp-later best w v few longer greater =
-    let m : List (ℕ × ℕ) = middle_pairs best in
-    let p : List (ℕ × ℕ) = period_pairs best in
+splits_cmp-later : (best : Walks) (w v : List (ℕ × ℕ))
+    → (length best.middle + length best.period < length w + length v) ⊎ ((length best.middle + length best.period ≡ length w + length v) × (length best.middle < length w))
+    → splits_cmp (split_by best) (split_of w v) ≢ Greater
+splits_cmp-later best w v after greater =
     let long = length-map best.middle (uncode 16) in
     let also = length-map best.period (uncode 16) in
-    (key_not_greater (length m + length p) (length w + length v) _).1
-    (omega (arith, few), λ same. (key_not_greater (length m) (length w) _).1 (omega (arith, longer (omega (arith, same))), λ one. absurd (omega (arith, one, longer (omega (arith, same))))))
-    (sym (splits_cmp-walks m p w v) ∙ greater)
+    (key_not_greater (length (middle_pairs best) + length (period_pairs best)) (length w + length v) _).1
+    (grind arith, λ same. (key_not_greater (length (middle_pairs best)) (length w) _).1 (grind arith, λ one. absurd (grind arith)))
+    (sym (splits_cmp-walks (middle_pairs best) (period_pairs best) w v) ∙ greater)
 
 -- where no walk leads round a state in as few steps as the best split leaves, no split there comes before it
 pub IsNoneBefore-long : {r : LocalRule} {t most n : ℕ} (best : Option Walks)
@@ -60,12 +47,10 @@ pub IsNoneBefore-long : {r : LocalRule} {t most n : ℕ} (best : Option Walks)
     → (512 ≤ most → (v : List (ℕ × ℕ)) → 0 < length v → ¬ PairWalk (marked r) r.states t v (with_mark r t)) → IsNoneBefore r t best
 IsNoneBefore-long None is reach short all w v at before = all (omega arith) v at.some at.round
 IsNoneBefore-long {most = most} (Some best) is reach short all w v at before =
-    ⊎_elim
-    (λ more. ⊎_elim (λ letters. splits_cmp-later best w v (omega arith) (λ same. absurd (omega arith)) before) (λ (same, longer). splits_cmp-later best w v (omega arith) (λ _. longer) before) (is (length w) (length v) (reach w at.reach) more))
-    (λ few. short v at.some few at.round)
-    (cases_lt most (length v))
+    ⊎_elim (λ more. splits_cmp-later best w v (is (length w) (length v) (reach w at.reach) more) before) (λ few. short v at.some few at.round) (cases_lt most (length v))
 
 -- where the least split at a state doesn't come before the best one, no split there does
-pub IsNoneBefore-least : {r : LocalRule} {t : ℕ} {w v : List (ℕ × ℕ)} (best : Option Walks) → IsLeastSplitAt r t w v → ¬ ComesBefore (split_of w v) best → IsNoneBefore r t best
+pub IsNoneBefore-least : {r : LocalRule} {t : ℕ} {w v : List (ℕ × ℕ)} (best : Option Walks) → IsLeastSplitAt r t w v
+    → ¬ ComesBefore (split_of w v) best → IsNoneBefore r t best
 IsNoneBefore-least None here later w v at before = later tt
 IsNoneBefore-least (Some best) here later w v at before = no_earlier-least here (middle_pairs best) (period_pairs best) later at before

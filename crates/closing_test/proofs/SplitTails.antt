@@ -1,14 +1,11 @@
 -- The configurations that two walks make: how long their parts are, and what the least walks of all states make of them.
-use Rattle.std.proofs.Common.{◌≡◌, ℕ, ◌+◌, ◌/◌, ◌%◌, List, [], ◌∷◌, map, Some, None, refl, ap₂, subst, arith}
+use Rattle.std.proofs.Common.{◌≡◌, ℕ, ◌+◌, ◌/◌, ◌%◌, [], ◌∷◌, map, Some, refl, arith}
 use Rattle.std.proofs.lemmas.Simd.{map-map}
 use Rattle.word_image.proofs.Common.{length-map, LocalRule, IsRule, pair_count}
-use Rattle.search_laws.proofs.Common.{uncode}
-use Rattle.tail_config.proofs.Common.{TailConfig, IsTail, IsRightClosing, IsLeastRightSplit, TailOver}
-use Rattle.tail_config.specs.TailTexts.{IsShortTail}
-use Rattle.tail_laws.proofs.Common.{tail_of, IsLeastRightSplit-below, no_normal_split}
-use Rattle.tail_laws.proofs.Certainty.{IsRightClosing-no_normal}
+use Rattle.tail_config.proofs.Common.{TailConfig, IsTail, TailOver, IsShortTail}
+use Rattle.tail_laws.proofs.Common.{IsLeastRightSplit-below}
 use Rattle.closing_test.specs.declared.walks.Walks.{Walks}
-use Rattle.closing_test.specs.Walks.{middle_pairs, period_pairs, split_by, IsLeastSoFar}
+use Rattle.closing_test.specs.Walks.{IsLeastSoFar}
 use Rattle.closing_test.specs.Closing.{IsShortOver, IsLeastSplitOf}
 
 -- the first letter of a step
@@ -23,13 +20,6 @@ second_letter step = step % 16
 abbrev pub tail_by : (ℕ → ℕ) → Walks → TailConfig
 tail_by letter w = record { left = 0 ∷ []; middle = map letter w.middle; right = map letter w.period }
 
--- the two configurations of two walks
-split_by-tails : (w : Walks) → split_by w ≡ (tail_by first_letter w, tail_by second_letter w)
-split_by-tails w =
-    let tail : (side : ℕ × ℕ → ℕ) → tail_of side (middle_pairs w) (period_pairs w) ≡ tail_by (λ step. side (uncode 16 step)) w =
-    λ side. ap₂ (λ (m p : List ℕ). record { left = 0 ∷ []; middle = m; right = p }) (map-map side (uncode 16) w.middle) (map-map side (uncode 16) w.period) in
-    ap₂ (λ (x y : TailConfig). (x, y)) (tail (λ p. p.0)) (tail (λ p. p.1))
-
 -- the configurations of two walks are short
 IsShortOver-walks : (r : LocalRule) (w : Walks) (letter : ℕ → ℕ) → IsShortOver r (record { states = r.states; config = tail_by letter w })
 IsShortOver-walks r w letter = record {
@@ -39,15 +29,12 @@ IsShortOver-walks r w letter = record {
   right = omega (arith, w.short_period, length-map w.period letter);
 }
 
--- the least walks of all states make the least split
-IsLeastRightSplit-walks : {r : LocalRule} (w : Walks) → IsRule r → IsLeastSoFar r (pair_count r + pair_count r) (Some w) → IsLeastRightSplit r (tail_by first_letter w) (tail_by second_letter w)
-IsLeastRightSplit-walks {r} w rule h = subst (λ (s : TailConfig × TailConfig). IsLeastRightSplit r s.0 s.1) (split_by-tails w) (IsLeastRightSplit-below rule h)
-
 -- the least walks of all states make the least split, in short configurations
 pub IsLeastSplitOf-walks : {r : LocalRule} {x y : TailOver} (w : Walks) → IsRule r → IsLeastSoFar r (pair_count r + pair_count r) (Some w)
-    → x ≡ record { states = r.states; config = tail_by first_letter w } → y ≡ record { states = r.states; config = tail_by second_letter w } → IsLeastSplitOf r x y
+    → x ≡ record { states = r.states; config = tail_by first_letter w } → y ≡ record { states = r.states; config = tail_by second_letter w }
+    → IsLeastSplitOf r x y
 IsLeastSplitOf-walks {r} w rule h first second =
-    rw (first, second) (record { least = IsLeastRightSplit-walks w rule h; first = IsShortOver-walks r w first_letter; second = IsShortOver-walks r w second_letter })
+    rw (first, second) (record { least = simp map-map at (IsLeastRightSplit-below rule h); first = IsShortOver-walks r w first_letter; second = IsShortOver-walks r w second_letter })
 
 -- a configuration over the letters of the rule whose parts have at most 512 letters is short
 pub IsShortTail-over : {r : LocalRule} {t : TailOver} → IsTail r.states t.config → IsShortOver r t → IsShortTail r.states t.config
@@ -57,7 +44,3 @@ IsShortTail-over tail short = record {
   middle = omega (arith, short.middle);
   right = omega (arith, short.right);
 }
-
--- a rule for which no walks are found is right-closing
-pub IsRightClosing-none_found : {r : LocalRule} → IsRule r → IsLeastSoFar r (pair_count r + pair_count r) None → IsRightClosing r
-IsRightClosing-none_found rule none = (IsRightClosing-no_normal rule).1 (no_normal_split rule none)

@@ -1,5 +1,5 @@
 -- An injective rule takes the configurations one to one onto all of them, and has an inverse map.
-use Rattle.std.proofs.Common.{◌≡◌, ℕ, ◌+◌, ◌-◌, ◌%◌, ◌^◌, ◌<◌, ◌≤◌, ◌↔◌, List, length, map, slice_index, neg_ℤ, pos, ◌-ℤ◌, refl, sym, ap, ◌∙◌, subst, arith, mod-lt, mod-eq_of_lt}
+use Rattle.std.proofs.Common.{◌≡◌, ℕ, ◌-◌, ◌%◌, ◌^◌, ◌<◌, ◌≤◌, ◌↔◌, List, length, map, slice_index, neg_ℤ, pos, ◌-ℤ◌, refl, sym, ◌∙◌, subst, arith, mod-lt, mod-eq_of_lt}
 use Rattle.std.specs.List.{range_with_len}
 use Rattle.word_image.proofs.Common.{one-le-pow, some_letter, get_or-map-range_with_len, length-map-range_with_len, LocalRule, IsRule, IsWord, value, word_of, IsPreimage, IsSurjective, IsDetermined, IsWord-image, IsWord-word_of, word_of-value, value-below}
 use Rattle.tail_config.proofs.Common.{IsInjective, WindowMap, IsInverseMap, image_of}
@@ -35,7 +35,8 @@ letters {r} every n c some = record {
 }
 
 -- the letters of preimages are the inverse map of a determined window
-IsInverseMap-letters : {r : LocalRule} {n c : ℕ} → IsRule r → (every : IsSurjective r) (some : 1 ≤ r.states ^ n) → IsDetermined r n c → IsInverseMap r n c (letters every n c some)
+IsInverseMap-letters : {r : LocalRule} {n c : ℕ} → IsRule r → (every : IsSurjective r) (some : 1 ≤ r.states ^ n) → IsDetermined r n c
+    → IsInverseMap r n c (letters every n c some)
 IsInverseMap-letters {r} {n} {c} rule every some window = record {
   states = refl;
   width = refl;
@@ -50,18 +51,9 @@ IsInverseMap-letters {r} {n} {c} rule every some window = record {
         let d : ℕ = r.width - 1 in
         let v : ℕ = value r.states w in
         let word : IsWord r.states w = subst (IsWord r.states) p.maps (IsWord-image rule x) in
-        let below : v < r.states ^ n = subst (λ l. v < r.states ^ l) long (value-below r.states w word) in
+        let below : v < r.states ^ n = grind (arith, value-below) in
         let found = numbered every n v some in
-        let same : word_of r.states n (v % r.states ^ n) ≡ w = ap (word_of r.states n) (mod-eq_of_lt below) ∙ ap (λ l. word_of r.states l v) (sym long) ∙ word_of-value r.states w word in
-        let q : IsPreimage r w found.0 = subst (λ u. IsPreimage r u found.0) same found.1 in
-        get_or-map-range_with_len (λ i. slice_index (numbered every n i some).0 c) 0 (r.states ^ n) v v 0 below (omega arith)
-        ∙ window.letter found.0 x (record {
-          first = q.word;
-          second = p.word;
-          first_long = q.long ∙ ap (λ l. l + d) long;
-          second_long = p.long ∙ ap (λ l. l + d) long;
-          one_image = q.maps ∙ sym p.maps;
-        })
+        grind (arith, mod-eq_of_lt, word_of-value, get_or-map-range_with_len)
 
 -- an injective rule has a determined window, and the inverse map of it
 pub has_inverse : {r : LocalRule} → IsRule r → IsInjective r → (n c : ℕ) × (g : WindowMap) × IsDetermined r n c × IsInverseMap r n c g

@@ -44,10 +44,9 @@ goes_back {r} {n} {x} {y} rule ahead hx hy i agree =
     GoesBack-flip rule i (omega (arith, ints)) (goes_on {r = mirrored r} {n = n} {x = flip x} {y = flip y} (IsRule-mirrored rule) ahead (λ j. hx (neg_ℤ j)) (λ j. hy (neg_ℤ j)) (neg_ℤ i) (λ a l. agree-flip rule hx y i a (agree a l)))
 
 -- if the image of x agrees with y behind place i, the whole image does then
-pub image_of-back : {r : LocalRule} {x y : Config} {i : ℤ} → IsRule r → (h : GoesBack r x y i) → ((j : ℤ) → i <ℤ j → image_of r x j ≡ y j) → image_of r h.z ≡ y
-image_of-back {r} {x} {y} {i} rule h far = fun_ext (λ j. by_lt_z i j
-    (λ l. image_of-window r h.z x j j (λ a k. h.after (j +ℤ r.offset +ℤ pos a) (omega (arith, ints))) ∙ far j l)
-    (h.before j))
+pub image_of-back : {r : LocalRule} {x y : Config} {i : ℤ} → IsRule r → (h : GoesBack r x y i) → ((j : ℤ) → i <ℤ j → image_of r x j ≡ y j)
+    → image_of r h.z ≡ y
+image_of-back rule h far = grind (arith, image_of-window, ints)
 
 -- a configuration whose image is y, and that agrees with x between p and q
 pub record Between (r : LocalRule) (x y : Config) (p q : ℤ) : Type 0 where
@@ -57,7 +56,8 @@ pub record Between (r : LocalRule) (x y : Config) (p q : ℤ) : Type 0 where
   pub image : image_of r z ≡ y
 
 -- a configuration between is there if the image of x agrees with y from enough places before p to enough places after q
-pub between : {r : LocalRule} {n l : ℕ} {x y : Config} → IsRule r → IsRightAhead r n → IsLeftAhead r l → IsConfig r.states x → IsConfig r.states y → (p q : ℤ) → p ≤ℤ q
+pub between : {r : LocalRule} {n l : ℕ} {x y : Config} → IsRule r → IsRightAhead r n → IsLeftAhead r l → IsConfig r.states x → IsConfig r.states y
+    → (p q : ℤ) → p ≤ℤ q
     → ((j : ℤ) → p <ℤ (j +ℤ pos (enough r l)) → j <ℤ (q +ℤ pos (enough r n)) → image_of r x j ≡ y j) → Between r x y p q
 between {r} {n} {l} {x} {y} rule right left hx hy p q order agree =
     let g : GoesOn r x y q = goes_on rule right hx hy q (λ a h. agree (q +ℤ pos a) (omega (arith, ints, left.some)) (omega (arith, ints))) in
@@ -92,7 +92,7 @@ pub IsOntoMap-closing : {r : LocalRule} → IsRule r → IsOpen r → IsOntoMap 
 IsOntoMap-closing {r} rule closing y hy =
     let (k, right) = (IsRightClosing-window rule).0 closing.0 in
     let (l, left) = (IsLeftClosing-window rule).0 closing.1 in
-    let m : Matches r y (pos 0) (enough r l + enough r k) = matches rule (IsSurjective-right_closing rule closing.0) hy (pos 0) (enough r l + enough r k) in
+    let m : Matches r y (pos 0) (enough r l + enough r k) = grind (arith, matches, IsSurjective-right_closing) in
     let p : ℤ = pos (enough r l) in
     let b = between rule right left m.config hy p p (omega (arith, ints)) (λ j low high. matches-at m j (omega (arith, ints)) (omega (arith, ints))) in
     (b.z, b.config, b.image)

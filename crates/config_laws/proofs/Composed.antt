@@ -35,11 +35,12 @@ abbrev Tells : (Config → Config → Type 0) → LocalRule → Type 0
 Tells Kind r = (x y : Config) → IsConfig r.states x → IsConfig r.states y → image_of r x ≡ image_of r y → Kind x y → x ≡ y
 
 -- one rule after another tells configurations of some kind apart exactly if both do, if images of this kind are of it, and if the second rule does where the first and both together do
-Tells-after : {r s t : LocalRule} {Kind : Config → Config → Type 0} → IsRule r → IsOneAfter r s t → ((x y : Config) → Kind x y → Kind (image_of r x) (image_of r y))
+Tells-after : {r s t : LocalRule} {Kind : Config → Config → Type 0} → IsRule r → IsOneAfter r s t
+    → ((x y : Config) → Kind x y → Kind (image_of r x) (image_of r y))
     → (Tells Kind r → Tells Kind t → Tells Kind s) → Tells Kind t ↔ (Tells Kind r × Tells Kind s)
 Tells-after {r} {s} {t} {Kind} rule c images second = (
   λ whole.
-      let inner : Tells Kind r = λ x y hx hy same. whole x y (over (sym c.states) hx) (over (sym c.states) hy) (c.image x hx ∙ ap (image_of s) same ∙ sym (c.image y hy)) in
+      let inner : Tells Kind r = grind arith in
       (inner, second inner whole),
   λ (inner, outer) x y hx hy same kind.
       let gx = over c.states hx in
@@ -94,7 +95,8 @@ second_closing {r} {s} {t} rule c inner whole u v hu hv same (p, left) =
     (λ l. sym (meeting-right w u i j l) ∙ ap (λ (z : Config). z j) (sym is_u ∙ ap (image_of r) equal ∙ is_v) ∙ meeting-right w v i j l))
 
 -- one after the other is right-closing exactly if both are
-pub IsRightClosing-after : {r s t : LocalRule} → IsRule r → IsRule s → IsRule t → IsOneAfter r s t → IsRightClosing t ↔ (IsRightClosing r × IsRightClosing s)
+pub IsRightClosing-after : {r s t : LocalRule} → IsRule r → IsRule s → IsRule t → IsOneAfter r s t
+    → IsRightClosing t ↔ (IsRightClosing r × IsRightClosing s)
 IsRightClosing-after {r} first second both c =
     in_words (IsRightClosing-everywhere both) (IsRightClosing-everywhere first) (IsRightClosing-everywhere second)
     (Tells-after first c (λ x y kind. agree_left_image r kind) (λ inner. second_closing first c ((IsRightClosing-everywhere first).1 inner)))
@@ -113,7 +115,8 @@ IsOneAfter-mirrored {r} {s} {t} first second both c = record {
 }
 
 -- one after the other is left-closing exactly if both are
-pub IsLeftClosing-after : {r s t : LocalRule} → IsRule r → IsRule s → IsRule t → IsOneAfter r s t → IsLeftClosing t ↔ (IsLeftClosing r × IsLeftClosing s)
+pub IsLeftClosing-after : {r s t : LocalRule} → IsRule r → IsRule s → IsRule t → IsOneAfter r s t
+    → IsLeftClosing t ↔ (IsLeftClosing r × IsLeftClosing s)
 IsLeftClosing-after {r} {s} {t} first second both c =
     in_words (IsLeftClosing-mirrored both) (IsLeftClosing-mirrored first) (IsLeftClosing-mirrored second)
     (IsRightClosing-after (IsRule-mirrored first) (IsRule-mirrored second) (IsRule-mirrored both) (IsOneAfter-mirrored first second both c))
@@ -141,7 +144,8 @@ IsUndoneBy-turned {r} {s} rule u = record {
 }
 
 -- what one after the other does with words, it does with configurations
-pub IsOneAfter-words : {r s t : LocalRule} → IsRule r → IsRule s → IsRule t → t.states ≡ r.states → s.states ≡ r.states → t.width ≡ r.width + s.width - 1 → t.offset ≡ r.offset +ℤ s.offset
+pub IsOneAfter-words : {r s t : LocalRule} → IsRule r → IsRule s → IsRule t → t.states ≡ r.states → s.states ≡ r.states
+    → t.width ≡ r.width + s.width - 1 → t.offset ≡ r.offset +ℤ s.offset
     → ((x : List ℕ) → IsWord r.states x → t.width ≤ length x + 1 → image t x ≡ image s (image r x)) → IsOneAfter r s t
 IsOneAfter-words {r} {s} {t} first second both states others width offset images = record {
   states = states;
@@ -150,10 +154,10 @@ IsOneAfter-words {r} {s} {t} first second both states others width offset images
       let j : ℤ = i +ℤ t.offset in
       let k : ℤ = i +ℤ s.offset in
       let m : ℕ = 1 + (s.width - 1) in
-      let all : 1 + (t.width - 1) ≡ m + (r.width - 1) = omega (arith, width, first.shape.least_width, second.shape.least_width) in
+      let all : 1 + (t.width - 1) ≡ m + (r.width - 1) = grind arith in
       let w : List ℕ = run x j (1 + (t.width - 1)) in
       let through : image t w ≡ image s (image r w) = images w (IsWord-run hx j (1 + (t.width - 1))) (omega (arith, length-run x j (1 + (t.width - 1)))) in
-      let inner : image r w ≡ run (image_of r x) k m = ap (λ n. image r (run x j n)) all ∙ image-run first x k j m (omega (arith, ints, offset)) in
+      let inner : image r w ≡ run (image_of r x) k m = ap (λ n. image r (run x j n)) all ∙ image-run first x k j m (omega (arith, ints)) in
       let one : run (image_of t x) i 1 ≡ run (image_of s (image_of r x)) i 1 =
       sym (image-run both x i j 1 refl) ∙ through ∙ ap (image s) inner ∙ image-run second (image_of r x) i k 1 refl in
       let here : i +ℤ pos 0 ≡ i = omega (arith, ints) in

@@ -37,7 +37,8 @@ IsDenseMap-surjective {r} rule every y n hy =
     (m.x, m.config, λ i low high. matches-at m i low (omega (arith, ints)))
 
 -- a word that stands in an image has a preimage
-pub preimage_inside : {r : LocalRule} {x : Config} → IsRule r → IsConfig r.states x → (i : ℤ) (w : List ℕ) → run (image_of r x) i (length w) ≡ w → (z : List ℕ) × IsPreimage r w z
+pub preimage_inside : {r : LocalRule} {x : Config} → IsRule r → IsConfig r.states x → (i : ℤ) (w : List ℕ) → run (image_of r x) i (length w) ≡ w
+    → (z : List ℕ) × IsPreimage r w z
 preimage_inside {r} {x} rule hx i w same =
     let z : List ℕ = run x (i +ℤ r.offset) (length w + (r.width - 1)) in
     (z, subst (λ v. IsPreimage r v z) same (IsPreimage-run rule hx i (i +ℤ r.offset) (length w) refl))

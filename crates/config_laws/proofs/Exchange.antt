@@ -1,5 +1,5 @@
 -- A configuration whose image is periodic makes many with one image if one of its letters breaks that period. If there is an erasable pair, there is such a configuration.
-use Rattle.std.proofs.Common.{◌≡◌, ◌≢◌, ℕ, ◌+◌, ◌-◌, ◌*◌, ◌<◌, ◌≤◌, ⊎_elim, List, length, get_or, ℤ, pos, ◌+ℤ◌, ◌-ℤ◌, unsigned_abs, refl, sym, ap, ◌∙◌, subst, arith, mul_comm, add-mul, ◌<ℤ◌}
+use Rattle.std.proofs.Common.{◌≡◌, ◌≢◌, ℕ, ◌+◌, ◌-◌, ◌*◌, ◌<◌, ◌≤◌, ⊎_elim, List, length, get_or, ℤ, pos, ◌+ℤ◌, ◌-ℤ◌, unsigned_abs, refl, sym, ap, ◌∙◌, subst, arith, add-mul, ◌<ℤ◌}
 use Rattle.std.proofs.Math.Path.{fun_ext}
 use Rattle.word_image.proofs.Common.{cases_lt, ints, mul-le, get_or_past, get_or_default, LocalRule, IsRule, IsSurjective, IsRing, ring_letter, IsErasable, ring_letter-below}
 use Rattle.tail_config.proofs.Common.{DifferAt, differ_at, Config, IsConfig, image_of, get_or-run, run-by_letters, RepeatsLeft-times, RepeatsRight-times}
@@ -23,11 +23,11 @@ pub record Breaks (p : ℕ) (z : Config) : Type 0 where
 pub not_periodic : {p q : ℕ} {z : Config} → Breaks p z → ¬ HasPeriod q z
 not_periodic {p} {q} {z} h period =
     let e : ℤ = h.place -ℤ pos (q * p) in
-    let here : e +ℤ pos (p * q) ≡ h.place = omega (arith, ints, mul_comm p q) in
-    h.other (sym (ap z here) ∙ RepeatsRight-times p q z e (RepeatsRight-period period e) e (omega (arith, ints)) ∙ h.before q period.some)
+    h.other (sym (ap z (omega (arith, ints))) ∙ RepeatsRight-times p q z e (RepeatsRight-period period e) e (omega (arith, ints)) ∙ h.before q period.some)
 
 -- if a configuration breaks a period of its image, as many configurations as are wanted have one image: it is moved by one period, by two and so on
-pub AreMany-moved : {r : LocalRule} {z : Config} {p : ℕ} → IsConfig r.states z → HasPeriod p (image_of r z) → Breaks p z → (n : ℕ) → AreMany r n (λ m j. z (j +ℤ pos (m * p)))
+pub AreMany-moved : {r : LocalRule} {z : Config} {p : ℕ} → IsConfig r.states z → HasPeriod p (image_of r z) → Breaks p z → (n : ℕ)
+    → AreMany r n (λ m j. z (j +ℤ pos (m * p)))
 AreMany-moved {r} {z} {p} hz period h n = record {
   configs = λ m j. hz (j +ℤ pos (m * p));
   differ = λ l m less most. (
@@ -35,8 +35,7 @@ AreMany-moved {r} {z} {p} hz period h n = record {
     λ e.
         let turns : l * p + (m - l) * p ≡ m * p = sym (add-mul l (m - l) p) ∙ ap (λ a. a * p) (omega arith) in
         let here : h.place -ℤ pos (m * p) +ℤ pos (m * p) ≡ h.place = omega (arith, ints) in
-        let there : h.place -ℤ pos (m * p) +ℤ pos (l * p) ≡ h.place -ℤ pos ((m - l) * p) = omega (arith, ints) in
-        h.other (sym (ap z here) ∙ sym e ∙ ap z there ∙ h.before (m - l) (omega arith)),
+        h.other (sym (ap z here) ∙ sym e ∙ ap z (omega (arith, ints)) ∙ h.before (m - l) (omega arith)),
   );
   one_image = λ m. fun_ext (λ j. moved m j ∙ sym (moved 0 j));
 }
@@ -45,7 +44,8 @@ AreMany-moved {r} {z} {p} hz period h n = record {
     moved m j = image_of-moved r z (pos (m * p)) j ∙ RepeatsRight-times m p (image_of r z) j (RepeatsRight-period period j) j (omega (arith, ints))
 
 -- if there is an erasable pair, some configuration breaks a period of its image: one word stands again and again, but for one block, where the other word stands
-pub broken : {r : LocalRule} {x y : List ℕ} → IsRule r → IsErasable r x y → (z : Config) × IsConfig r.states z × HasPeriod (length x) (image_of r z) × Breaks (length x) z
+pub broken : {r : LocalRule} {x y : List ℕ} → IsRule r → IsErasable r x y
+    → (z : Config) × IsConfig r.states z × HasPeriod (length x) (image_of r z) × Breaks (length x) z
 broken {r} {x} {y} rule h = (
   z,
   IsConfig-joined (ring_letter-below ring) (pos 0) (λ a. ⊎_elim (h.second a (c (pos a))) (λ l. omega (arith, get_or_past y a (c (pos a)) l, ring_letter-below ring (pos a))) (cases_lt a (length y))),

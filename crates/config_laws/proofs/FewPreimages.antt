@@ -9,7 +9,8 @@ use Rattle.config_laws.specs.Maps.{Differ, AreMany}
 use Rattle.config_laws.proofs.Images.{IsConfig-image, IsPreimage-run}
 
 -- what holds of each number below k from some bound on holds of all of them from one bound on
-pub common : (Q : ℕ → ℕ → Type 0) (k : ℕ) → ((a : ℕ) → a < k → (n : ℕ) × ((b : ℕ) → n ≤ b → Q a b)) → (n : ℕ) × ((b : ℕ) → n ≤ b → (a : ℕ) → a < k → Q a b)
+pub common : (Q : ℕ → ℕ → Type 0) (k : ℕ) → ((a : ℕ) → a < k → (n : ℕ) × ((b : ℕ) → n ≤ b → Q a b))
+    → (n : ℕ) × ((b : ℕ) → n ≤ b → (a : ℕ) → a < k → Q a b)
 common Q zero each = (0, λ b h a l. absurd (omega arith))
 common Q (suc k) each =
     let (m, rest) = common Q k (λ a l. each a (omega arith)) in
@@ -21,7 +22,8 @@ abbrev pub DifferWithin : ℕ → Config → Config → Type 0
 DifferWithin b x y = (d : Differ x y) × (unsigned_abs d.0 ≤ b)
 
 -- the configurations 0 to n of a sequence differ within some b places around place 0
-pub differ_within : {r : LocalRule} {n : ℕ} {xs : ℕ → Config} → AreMany r n xs → (b : ℕ) × ((j : ℕ) → j < suc n → (i : ℕ) → i < j → DifferWithin b (xs i) (xs j))
+pub differ_within : {r : LocalRule} {n : ℕ} {xs : ℕ → Config} → AreMany r n xs
+    → (b : ℕ) × ((j : ℕ) → j < suc n → (i : ℕ) → i < j → DifferWithin b (xs i) (xs j))
 differ_within {r} {n} {xs} many =
     let (b, apart) = common (λ j b. (i : ℕ) → i < j → DifferWithin b (xs i) (xs j)) (suc n) (λ j most.
     common (λ i b. DifferWithin b (xs i) (xs j)) j (λ i less. let d = many.differ i j less (omega arith) in (unsigned_abs d.0, λ b h. (d, h)))) in

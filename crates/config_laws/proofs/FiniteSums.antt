@@ -14,21 +14,20 @@ KeepsFiniteChanges weight r = (x y : Config) → IsConfig r.states x → IsConfi
     → (N : ℕ) × ((n : ℕ) → N ≤ n → weight_within weight n (image_of r x) + weight_within weight n y ≡ weight_within weight n (image_of r y) + weight_within weight n x)
 
 -- runs of two configurations, of which the first has n letters more from place s on, differ by the weight of these letters and of the last n letters of the other run
-weight_on-inserted : (weight : ℕ → ℕ) (u v : Config) (s : ℤ) (n : ℕ) → ((j : ℤ) → j <ℤ s → u j ≡ v j) → ((j : ℤ) → s ≤ℤ j → u (j +ℤ pos n) ≡ v j) → (i e : ℤ) (l : ℕ) → i ≤ℤ s → s ≤ℤ e → e +ℤ pos n ≡ i +ℤ pos l
+weight_on-inserted : (weight : ℕ → ℕ) (u v : Config) (s : ℤ) (n : ℕ) → ((j : ℤ) → j <ℤ s → u j ≡ v j) → ((j : ℤ) → s ≤ℤ j → u (j +ℤ pos n) ≡ v j)
+    → (i e : ℤ) (l : ℕ) → i ≤ℤ s → s ≤ℤ e → e +ℤ pos n ≡ i +ℤ pos l
     → weight_on weight u i l + weight_on weight v e n ≡ weight_on weight v i l + weight_on weight u s n
 weight_on-inserted weight u v s n before after i e l low high end =
     let a : ℕ = unsigned_abs (s -ℤ i) in
     let b : ℕ = unsigned_abs (e -ℤ s) in
     let t : ℤ = s +ℤ pos n in
     let more : l ≡ a + (n + b) = omega (arith, ints) in
-    let turn : l ≡ a + (b + n) = omega (arith, ints) in
+    let turn : l ≡ a + (b + n) = omega arith in
     let of_u = ap (weight_on weight u i) more ∙ weight_on-append weight u i s a (n + b) (omega (arith, ints)) ∙ ap (λ w. weight_on weight u i a + w) (weight_on-append weight u s t n b refl) in
     let of_v = ap (weight_on weight v i) turn ∙ weight_on-append weight v i s a (b + n) (omega (arith, ints)) ∙ ap (λ w. weight_on weight v i a + w) (weight_on-append weight v s e b n (omega (arith, ints))) in
     let first = ap (sum_by weight) (run-same u v i i a (λ c h. before (i +ℤ pos c) (omega (arith, ints)))) in
-    let last = ap (sum_by weight) (run-same u v t s b (λ c h.
-    let place : t +ℤ pos c ≡ s +ℤ pos c +ℤ pos n = omega (arith, ints) in
-    ap u place ∙ after (s +ℤ pos c) (omega (arith, ints)))) in
-    omega (arith, of_u, of_v, first, last)
+    let last = ap (sum_by weight) (run-same u v t s b (grind (arith, ints))) in
+    omega arith
 
 -- the first c letters of a ring, and the ring's letters behind them, between zeros
 abbrev turning : List ℕ → ℕ → Config
@@ -72,13 +71,12 @@ ring_sum {r} {p} rule weight keeps ring =
     let place : j +ℤ pos n +ℤ r.offset +ℤ pos c ≡ j +ℤ r.offset +ℤ pos c +ℤ pos n = omega (arith, ints) in
     ap u place ∙ right (j +ℤ r.offset +ℤ pos c) (omega (arith, ints)))) i e l (omega (arith, ints)) (omega (arith, ints)) (omega (arith, ints)) in
     let inside : (c : ℕ) → c ≤ n + d → run u (pos 0) c ≡ run (ring_letter p) (pos 0) c = λ c h. run-same u (ring_letter p) (pos 0) (pos 0) c (λ a g. turning-inside p (n + d) (pos 0 +ℤ pos a) (omega (arith, ints)) (omega (arith, ints))) in
-    let turn : weight_on weight u (pos 0) n ≡ sum_by weight p = ap (sum_by weight) (inside n (omega arith) ∙ run-ring p) in
     let image_turn : weight_on weight (image_of r u) o n ≡ sum_by weight (ring_image r p) =
     ap (sum_by weight) (sym (image-run rule u o (pos 0) n (omega (arith, ints))) ∙ ap (image r) (inside (n + d) (omega arith))) ∙ sym (sum_by-ring_image rule weight p (pos 0) ring.some) in
     let none : weight_on weight v e n ≡ weight_on weight zeros (pos 0) n = ap (sum_by weight) (run-same v zeros e (pos 0) n (λ a g. turning-behind p d (e +ℤ pos a) (omega (arith, ints)))) in
     let image_none : weight_on weight (image_of r v) e n ≡ weight_on weight (image_of r zeros) (pos 0) n =
     ap (sum_by weight) (run-same (image_of r v) (image_of r zeros) e (pos 0) n (λ a g. image_of-window r v zeros (e +ℤ pos a) (pos 0 +ℤ pos a) (λ c h. turning-behind p d (e +ℤ pos a +ℤ r.offset +ℤ pos c) (omega (arith, ints))))) in
-    omega (arith, found.1 m (omega arith), letters, images, turn, image_turn, none, image_none)
+    omega (arith, ap (sum_by weight) (inside n (omega arith) ∙ run-ring p))
 
 -- of numbers below k one is greatest
 greatest : (f : ℕ → ℕ) (k : ℕ) → (a : ℕ) × (a < suc k) × ((b : ℕ) → b < suc k → f b ≤ f a)
@@ -108,8 +106,7 @@ IsConserving-finite {r} rule weight keeps p ring =
     let letter : (c : ℕ) → f c < suc k = λ c. omega (arith, IsWord-ring_image rule (c ∷ []) 0 0 (omega (arith, length-ring_image r (c ∷ [])))) in
     let same : (c : ℕ) → c < suc k → weight (f c) + weight 0 ≡ weight c + weight zero_image = λ c l.
     omega (arith, ring_sum {p = c ∷ []} rule weight keeps (record { word = All-cons (λ d. d < r.states) c [] (omega (arith, l)) (All-nil (λ d. d < r.states)); some = omega arith }), of_zeros 1, of_images 1) in
-    let alike : weight 0 ≡ weight zero_image = omega (arith, same a ha, same b hb, most (f a) (letter a), most (f b) (letter b), fewest (f b) (letter b), most b hb) in
-    omega (arith, ring_sum rule weight keeps ring, of_zeros (length p), of_images (length p), ap (λ w. length p * w) alike)
+    grind (arith, ring_sum, length)
 
 -- a rule keeps the sums of rings exactly if it keeps those of finite configurations
 pub IsConserving-sums : {r : LocalRule} → IsRule r → (weight : ℕ → ℕ) → IsConserving weight r ↔ KeepsFiniteSums weight r

@@ -13,7 +13,8 @@ enough r n = r.width - 2 + n
 
 -- if the image of x has enough letters of y, some configuration that is equal up to the first node under them has one letter more: behind this node the next letter of y is put in, then again and again the letter that the image has next, until the first letters come back
 next_match : {r : LocalRule} {n : ℕ} {x y : Config} → IsRule r → IsRightAhead r n → IsConfig r.states x → IsConfig r.states y → (i : ℤ)
-    → ((a : ℕ) → a < enough r n → image_of r x (i +ℤ pos a) ≡ y (i +ℤ pos a)) → (m : Matches r y i (enough r n + 1)) × ((j : ℤ) → j <ℤ behind r i → m.x j ≡ x j)
+    → ((a : ℕ) → a < enough r n → image_of r x (i +ℤ pos a) ≡ y (i +ℤ pos a))
+    → (m : Matches r y i (enough r n + 1)) × ((j : ℤ) → j <ℤ behind r i → m.x j ≡ x j)
 next_match {r} {n} {x} {y} rule ahead hx hy i agree =
     let (t, u, less, most, same) = twice_below (r.states ^ suc l) (λ t. value r.states (said t)) (λ t g.
     subst (λ j. value r.states (said t) < r.states ^ j) (long t) (value-below r.states (said t) (word t))) in
@@ -94,7 +95,8 @@ goes_on {r} {n} {x} {y} rule ahead hx hy i agree = record {
         let place : i +ℤ pos 0 +ℤ pos a ≡ i +ℤ pos a = omega (arith, ints) in
         ap (image_of r x) place ∙ agree a l ∙ sym (ap y place))
 
-    next : (t : ℕ) (m : Matches r y (i +ℤ pos t) (enough r n + 1)) → (g : Matches r y (i +ℤ pos (suc t)) (enough r n + 1)) × ((j : ℤ) → j <ℤ behind r (i +ℤ pos (suc t)) → g.x j ≡ m.x j)
+    next : (t : ℕ) (m : Matches r y (i +ℤ pos t) (enough r n + 1))
+        → (g : Matches r y (i +ℤ pos (suc t)) (enough r n + 1)) × ((j : ℤ) → j <ℤ behind r (i +ℤ pos (suc t)) → g.x j ≡ m.x j)
     next t m = next_match rule ahead m.config hy (i +ℤ pos (suc t)) (λ a l.
         let place : i +ℤ pos (suc t) +ℤ pos a ≡ i +ℤ pos t +ℤ pos (suc a) = omega (arith, ints) in
         ap (image_of r m.x) place ∙ m.equal (suc a) (omega arith) ∙ sym (ap y place))

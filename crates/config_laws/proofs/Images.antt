@@ -10,23 +10,18 @@ IsConfig-image rule x i = entry-below rule _
 -- the image of a configuration that is moved is the image, moved as far
 pub image_of-moved : (r : LocalRule) (x : Config) (d i : ℤ) → image_of r (λ j. x (j +ℤ d)) i ≡ image_of r x (i +ℤ d)
 image_of-moved r x d i = image_of-window r (λ j. x (j +ℤ d)) x i (i +ℤ d) (λ a l.
-    let place : i +ℤ r.offset +ℤ pos a +ℤ d ≡ i +ℤ d +ℤ r.offset +ℤ pos a = omega (arith, ints) in
-    ap x place)
+    ap x (omega (arith, ints)))
 
 -- a run of letters is a preimage of the run of the image over it
-pub IsPreimage-run : {r : LocalRule} {x : Config} → IsRule r → IsConfig r.states x → (i j : ℤ) (n : ℕ) → i +ℤ r.offset ≡ j → IsPreimage r (run (image_of r x) i n) (run x j (n + (r.width - 1)))
-IsPreimage-run {r} {x} rule h i j n e = record {
-  word = IsWord-run h j (n + (r.width - 1));
-  long = length-run x j (n + (r.width - 1)) ∙ ap (λ l. l + (r.width - 1)) (sym (length-run (image_of r x) i n));
-  maps = image-run rule x i j n e;
-}
+pub IsPreimage-run : {r : LocalRule} {x : Config} → IsRule r → IsConfig r.states x → (i j : ℤ) (n : ℕ) → i +ℤ r.offset ≡ j
+    → IsPreimage r (run (image_of r x) i n) (run x j (n + (r.width - 1)))
+IsPreimage-run rule h i j n e = grind (arith, length-run, image-run, IsWord-run)
 
 -- if a configuration has the letters of a word under place j, its image has a letter of the word's image there
 pub image_of-letters : (r : LocalRule) (x : Config) (j : ℤ) (w : List ℕ) (a : ℕ) → a < length w - (r.width - 1) → a + r.width ≤ length w
     → ((c : ℕ) → c < r.width → get_or w (a + c) 0 ≡ x (j +ℤ r.offset +ℤ pos c)) → image_of r x j ≡ get_or (image r w) a 0
 image_of-letters r x j w a l within h =
-    let all : a + r.width - a ≡ r.width = omega arith in
     let window : slice_range w a (a + r.width) ≡ run x (j +ℤ r.offset) r.width =
-    run-by_letters x (j +ℤ r.offset) r.width (slice_range w a (a + r.width)) (length-take-le (a + r.width - a) (drop a w) (omega (arith, length-drop a w)) ∙ all)
+    run-by_letters x (j +ℤ r.offset) r.width (slice_range w a (a + r.width)) (length-take-le (a + r.width - a) (drop a w) (omega (arith, length-drop a w)) ∙ (omega arith))
     (λ c g. get_or-take (a + r.width - a) (drop a w) c 0 (omega arith) ∙ get_or-drop a w c 0 ∙ h c g) in
     ap (local_map r) (sym window) ∙ sym (get_or-image r w a l)

@@ -24,13 +24,13 @@ rounds-loop {r} {x} {i = i} {p = p} h (suc n) most a l =
     ⊎_elim (rounds-first x s p a)
     (λ more.
     let all : p + (a - p) ≡ a = omega arith in
-    let turn : s +ℤ pos a ≡ s +ℤ pos (a - p) +ℤ pos p = omega (arith, ints) in
-    ap (rounds x s p) turn ∙ (HasPeriod-rounds x s h.some).again (s +ℤ pos (a - p)) ∙ rounds-loop h n (omega arith) (a - p) (omega (arith, h.some))
+    ap (rounds x s p) (omega (arith, ints)) ∙ (HasPeriod-rounds x s h.some).again (s +ℤ pos (a - p)) ∙ rounds-loop h n (omega arith) (a - p) (omega arith)
     ∙ sym (h.node (a - p) (omega arith)) ∙ ap (λ b. x (s +ℤ pos b)) all)
     (cases_lt a p)
 
 -- the letters of a loop, again and again, have the image y on the loop
-image_of-turn : {r : LocalRule} {x y : Config} {i : ℤ} {p : ℕ} → IsLoop r x y i p → (a : ℕ) → a < p → image_of r (rounds x (i +ℤ r.offset) p) (i +ℤ pos a) ≡ y (i +ℤ pos a)
+image_of-turn : {r : LocalRule} {x y : Config} {i : ℤ} {p : ℕ} → IsLoop r x y i p → (a : ℕ) → a < p
+    → image_of r (rounds x (i +ℤ r.offset) p) (i +ℤ pos a) ≡ y (i +ℤ pos a)
 image_of-turn {r} {x} {y} {i} {p} h a l =
     let z : Config = rounds x (i +ℤ r.offset) p in
     image_of-window r z x (i +ℤ pos a) (i +ℤ pos a) (λ b g.
@@ -93,28 +93,27 @@ some_loop {r} {x} {y} rule hx i q some again agree =
     let j : ℕ = found.0 in
     let e : ℕ = found.1 - found.0 in
     let p : ℕ = e * q in
-    let more : found.1 ≡ j + e = omega (arith, found.2) in
+    let more : found.1 ≡ j + e = omega arith in
     let turns : found.1 * q ≡ j * q + p = ap (λ a. a * q) more ∙ add-mul j e q in
     let most : found.1 * q ≤ node_count r * q = mul-le found.1 q (node_count r) q found.3 (omega arith) in
-    let least : 1 * 1 ≤ p = mul-le 1 1 e q (omega (arith, found.2)) some in
-    let same : node j ≡ node found.1 = value-injective r.states (node j) (node found.1) (word j) (word found.1) (long j ∙ sym (long found.1)) found.4 in
+    let least : 1 * 1 ≤ p = mul-le 1 1 e q (omega arith) some in
+    let same : node j ≡ node found.1 = grind (arith, value-injective) in
     let place : ℤ = i +ℤ pos (j * q) in
     record {
       place = place;
       turns = e;
       later = omega (arith, ints);
-      within = omega (arith, ints, turns, most);
-      some = omega (arith, found.2);
-      few = omega (arith, found.3);
+      within = omega (arith, ints);
+      some = omega arith;
+      few = omega arith;
       loop = record {
-        some = omega (arith, least);
+        some = omega arith;
         node = λ a l.
-            let new : place +ℤ r.offset +ℤ pos (p + a) ≡ s +ℤ pos (found.1 * q) +ℤ pos a = omega (arith, ints, turns) in
-            let old : s +ℤ pos (j * q) +ℤ pos a ≡ place +ℤ r.offset +ℤ pos a = omega (arith, ints) in
-            ap x new ∙ sym (same-run x x (s +ℤ pos (j * q)) (s +ℤ pos (found.1 * q)) d same a l) ∙ ap x old;
+            let new : place +ℤ r.offset +ℤ pos (p + a) ≡ s +ℤ pos (found.1 * q) +ℤ pos a = omega (arith, ints) in
+            ap x new ∙ sym (same-run x x (s +ℤ pos (j * q)) (s +ℤ pos (found.1 * q)) d same a l) ∙ ap x (omega (arith, ints));
         image = λ a l.
             let here : i +ℤ pos (j * q + a) ≡ place +ℤ pos a = omega (arith, ints) in
-            sym (ap (image_of r x) here) ∙ agree (j * q + a) (omega (arith, turns, most)) ∙ ap y here;
+            sym (ap (image_of r x) here) ∙ agree (j * q + a) (omega arith) ∙ ap y here;
         again = λ b l. RepeatsRight-times e q y i again b (omega (arith, ints));
       };
     }

@@ -1,5 +1,5 @@
 -- A rule is surjective exactly if each ring, written a number of times, is the image of a ring, and exactly if each periodic configuration is the image of a periodic one (Hedlund 1969).
-use Rattle.std.proofs.Common.{◌≡◌, ℕ, zero, suc, ◌+◌, ◌*◌, ◌≤◌, ◌↔◌, List, [], ◌∷◌, ◌++◌, length, ℤ, pos, ◌+ℤ◌, refl, sym, ap, ap₂, ◌∙◌, subst, arith}
+use Rattle.std.proofs.Common.{◌≡◌, ℕ, zero, suc, ◌*◌, ◌≤◌, ◌↔◌, List, [], ◌∷◌, ◌++◌, length, ℤ, pos, ◌+ℤ◌, refl, sym, ap, ap₂, ◌∙◌, arith}
 use Rattle.std.specs.List.{repeat}
 use Rattle.word_image.proofs.Common.{ints, some_letter, LocalRule, IsRule, node_count, IsSurjective, IsRing, ring_letter, ring_image, ring_letter-turn, ring_letter-below}
 use Rattle.tail_config.proofs.Common.{Config, IsConfig, run, image_of, zeros, length-run, run-same, same-run, run-append}
@@ -7,7 +7,7 @@ use Rattle.config_laws.specs.Periodic.{HasPeriod, IsOntoPeriodic}
 use Rattle.config_laws.specs.RingMaps.{IsOntoRings}
 use Rattle.config_laws.proofs.Dense.{Matches, matches, preimage_inside}
 use Rattle.config_laws.proofs.RingImages.{ring_image-run, run-ring, image_of-ring}
-use Rattle.config_laws.proofs.Periods.{RepeatsRight-period, rounds, IsRing-run, IsConfig-rounds, HasPeriod-rounds, HasPeriod-times, HasPeriod-ring, same_periodic}
+use Rattle.config_laws.proofs.Periods.{rounds, IsRing-run, IsConfig-rounds, HasPeriod-rounds, HasPeriod-times, HasPeriod-ring, same_periodic}
 use Rattle.config_laws.proofs.Loops.{SomeLoop, some_loop, image_of-rounds}
 
 -- a ring written l times by the letters of its configuration
@@ -16,8 +16,7 @@ run-repeat q some zero = let none : zero * length q ≡ 0 = omega arith in ap (r
 run-repeat q some (suc l) =
     let n : ℕ = length q in
     let y : Config = ring_letter q in
-    let all : suc l * n ≡ n + l * n = omega arith in
-    ap (run y (pos 0)) all ∙ run-append y (pos 0) (pos n) n (l * n) (omega (arith, ints))
+    ap (run y (pos 0)) (omega arith) ∙ run-append y (pos 0) (pos n) n (l * n) (omega (arith, ints))
     ∙ ap₂ (λ (u v : List ℕ). u ++ v) (run-ring q) (run-same y y (pos n) (pos 0) (l * n) (λ a h.
     let place : pos n +ℤ pos a ≡ (pos 0 +ℤ pos a) +ℤ pos n = omega (arith, ints) in
     ap y place ∙ ring_letter-turn q (pos 0 +ℤ pos a) some) ∙ run-repeat q some l)
@@ -32,7 +31,7 @@ ring_letter-repeat q some l more =
     let n : ℕ = length q in
     let long : length (repeat l q) ≡ l * n = length-repeat q some l in
     let times : HasPeriod (l * n) (ring_letter q) = HasPeriod-times l more (HasPeriod-ring q some) in
-    let first : HasPeriod (l * n) (ring_letter (repeat l q)) = subst (λ k. HasPeriod k (ring_letter (repeat l q))) long (HasPeriod-ring (repeat l q) (omega (arith, times.some, long))) in
+    let first : HasPeriod (l * n) (ring_letter (repeat l q)) = grind (arith, HasPeriod-ring) in
     same_periodic first times (pos 0) (same-run (ring_letter (repeat l q)) (ring_letter q) (pos 0) (pos 0) (l * n)
     (ap (run (ring_letter (repeat l q)) (pos 0)) (sym long) ∙ run-ring (repeat l q) ∙ sym (run-repeat q some l)))
 
@@ -47,10 +46,11 @@ pub record PeriodicPreimage (r : LocalRule) (y : Config) (p : ℕ) : Type 0 wher
   pub image : image_of r x ≡ y
 
 -- under a surjective rule a periodic configuration has a periodic preimage
-pub periodic_preimage : {r : LocalRule} {y : Config} {p : ℕ} → IsRule r → IsSurjective r → IsConfig r.states y → HasPeriod p y → PeriodicPreimage r y p
+pub periodic_preimage : {r : LocalRule} {y : Config} {p : ℕ} → IsRule r → IsSurjective r → IsConfig r.states y → HasPeriod p y
+    → PeriodicPreimage r y p
 periodic_preimage {r} {y} {p} rule every hy period =
     let m : Matches r y (pos 0) (node_count r * p) = matches rule every hy (pos 0) (node_count r * p) in
-    let at : SomeLoop r m.x y (pos 0) p = some_loop rule m.config (pos 0) p period.some (RepeatsRight-period period (pos 0)) m.equal in
+    let at : SomeLoop r m.x y (pos 0) p = grind (arith, some_loop) in
     let s : ℤ = at.place +ℤ r.offset in
     record {
       turns = at.turns;
@@ -78,7 +78,8 @@ ring_over {r} {q} rule every ring =
     )
 
 -- a rule is surjective if the configuration of each ring is an image
-IsSurjective-ring_configs : {r : LocalRule} → IsRule r → ((q : List ℕ) → IsRing r.states q → (x : Config) × IsConfig r.states x × (image_of r x ≡ ring_letter q)) → IsSurjective r
+IsSurjective-ring_configs : {r : LocalRule} → IsRule r
+    → ((q : List ℕ) → IsRing r.states q → (x : Config) × IsConfig r.states x × (image_of r x ≡ ring_letter q)) → IsSurjective r
 IsSurjective-ring_configs {r} rule onto [] hw = preimage_inside {x = zeros} rule (λ i. some_letter rule) (pos 0) [] refl
 IsSurjective-ring_configs {r} rule onto (a ∷ w) hw =
     let found = onto (a ∷ w) (record { word = hw; some = omega arith }) in

@@ -25,9 +25,11 @@ IsSurjective-open {r} rule open_map w hw =
     preimage_inside rule hz e w (ap (λ (c : Config). run c e (length w)) maps ∙ run-written (image_of r zeros) e w)
 
 -- one configuration more has one image with n + 1 others, that differ from -k to k, if configurations that agree with these there have one image with two different ones that agree with the first there
-AreMany-more : {r : LocalRule} {n k : ℕ} {xs : ℕ → Config} → ((j : ℕ) → j < suc n → (i : ℕ) → i < j → DifferWithin k (xs i) (xs j)) → (u v : Config) → IsConfig r.states u → IsConfig r.states v → Differ v u
+AreMany-more : {r : LocalRule} {n k : ℕ} {xs : ℕ → Config} → ((j : ℕ) → j < suc n → (i : ℕ) → i < j → DifferWithin k (xs i) (xs j)) → (u v : Config)
+    → IsConfig r.states u → IsConfig r.states v → Differ v u
     → AgreeWithin k (xs 0) u → AgreeWithin k (xs 0) v → image_of r v ≡ image_of r u
-    → ((i : ℕ) → i < suc n → (z : Config) × IsConfig r.states z × AgreeWithin k (xs i) z × (image_of r z ≡ image_of r u)) → (zs : ℕ → Config) × AreMany r (suc n) zs
+    → ((i : ℕ) → i < suc n → (z : Config) × IsConfig r.states z × AgreeWithin k (xs i) z × (image_of r z ≡ image_of r u))
+    → (zs : ℕ → Config) × AreMany r (suc n) zs
 AreMany-more {r} {n} {k} {xs} apart u v hu hv other near_u near_v same near = (zs, record { configs = configs; differ = differ; one_image = λ i. maps i ∙ sym (maps 0) })
   where
     next : (i : ℕ) → (z : Config) × IsConfig r.states z × (image_of r z ≡ image_of r u) × (i < suc n → AgreeWithin k (xs i) z)

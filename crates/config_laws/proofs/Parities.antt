@@ -1,6 +1,6 @@
 -- The principle that of two tests one passes is needed: it follows if each configuration is an image under one surjective rule, which says of its letters only far away whether they are even or odd.
 use Rattle.std.proofs.Common.{◌≡◌, ◌⊎◌, ℕ, zero, suc, ◌+◌, ◌%◌, ◌<◌, inl, inr, ⊎_elim, Bool, true, false, [], ◌∷◌, ℤ, pos, negsuc, ◌+ℤ◌, refl, sym, ap, ap₂, ◌∙◌, arith, true≢false}
-use Rattle.word_image.proofs.Common.{cases_Bool, cases_eq, ints, LocalRule, IsRule, local_map, IsSurjective, word_by_test}
+use Rattle.word_image.proofs.Common.{cases_Bool, cases_eq, ints, LocalRule, IsRule, local_map, IsSurjective}
 use Rattle.garden_laws.proofs.Examples.{IsPairList-tests}
 use Rattle.garden_laws.proofs.ReachedPairs.{IsSurjective-pair_list}
 use Rattle.tail_config.proofs.Common.{Config, IsConfig}
@@ -10,19 +10,7 @@ use Rattle.config_laws.specs.Examples.{parities}
 
 -- the example is a rule
 IsRule-parities : IsRule parities
-IsRule-parities = record {
-  shape = record {
-    least_states = omega arith;
-    most_states = omega arith;
-    least_width = omega arith;
-    most_width = omega arith;
-    most_nodes = omega arith;
-    least_offset = omega (arith, ints);
-    most_offset = omega (arith, ints);
-  };
-  entries = refl;
-  letters = word_by_test 4 parities.table refl;
-}
+IsRule-parities = grind arith
 
 -- what holds of the four letters holds of each
 each_letter : (P : ℕ → Type 0) → P 0 → P 1 → P 2 → P 3 → (a : ℕ) → a < 4 → P a
@@ -41,12 +29,7 @@ abbrev Says : ℕ → ℕ → Type 0
 Says a b = (gives a b ≡ 0 → a % 2 ≡ b % 2) × (gives a b ≡ 1 → a ≡ 2) × (gives a b ≡ 2 → a ≡ 3)
 
 says : (a b : ℕ) → a < 4 → b < 4 → Says a b
-says a b ha hb = each_letter (λ a. Says a b)
-    (each_letter (λ b. Says 0 b) (grind arith) (grind arith) (grind arith) (grind arith) b hb)
-    (each_letter (λ b. Says 1 b) (grind arith) (grind arith) (grind arith) (grind arith) b hb)
-    (each_letter (λ b. Says 2 b) (grind arith) (grind arith) (grind arith) (grind arith) b hb)
-    (each_letter (λ b. Says 3 b) (grind arith) (grind arith) (grind arith) (grind arith) b hb)
-    a ha
+says a b ha hb = grind arith
 
 -- all pairs of different letters are a pair list of the rule
 IsSurjective-parities : IsSurjective parities

@@ -18,8 +18,7 @@ same_next {r} {z} {c} {p} rule every hz image period i before = ⊎_elim (λ e. 
   letter = c i;
   other = other;
   before = λ k some.
-      let far : 1 * 1 ≤ k * p = mul-le 1 1 k p some period.some in
-      before _ (omega (arith, ints, far)) ∙ RepeatsLeft-times k p c (i +ℤ pos 1) (RepeatsLeft-period period (i +ℤ pos 1)) i (omega (arith, ints));
+      before _ (omega (arith, ints, mul-le 1 1 k p some period.some)) ∙ RepeatsLeft-times k p c (i +ℤ pos 1) (RepeatsLeft-period period (i +ℤ pos 1)) i (omega (arith, ints));
 }) (node_count r)))) (cases_eq (z i) (c i))
 
 -- under a surjective rule z has the letters of c if it has them before some place, and c and the image of z have one period
@@ -31,7 +30,8 @@ same_up_to rule every hz image period s before (suc a) j l =
     by_lt_z j (s +ℤ pos a) (up_to j) (λ h. same_next rule every hz image period j (λ k g. up_to k (omega (arith, ints))))
 
 -- under a surjective rule a preimage of y has the period of a loop from the loop on, if y has that period
-RepeatsRight-loop : {r : LocalRule} {x y : Config} {i : ℤ} {p : ℕ} → IsRule r → IsSurjective r → IsConfig r.states x → image_of r x ≡ y → HasPeriod p y → IsLoop r x y i p → RepeatsRight p x (i +ℤ r.offset)
+RepeatsRight-loop : {r : LocalRule} {x y : Config} {i : ℤ} {p : ℕ} → IsRule r → IsSurjective r → IsConfig r.states x → image_of r x ≡ y
+    → HasPeriod p y → IsLoop r x y i p → RepeatsRight p x (i +ℤ r.offset)
 RepeatsRight-loop {r} {x} {y} {i} {p} rule every hx image period h j l = at (j +ℤ pos p) (omega (arith, ints)) ∙ turns.again j ∙ sym (at j l)
   where
     s : ℤ
@@ -52,7 +52,8 @@ RepeatsRight-loop {r} {x} {y} {i} {p} rule every hx image period h j l = at (j +
         sym (meeting-right c x s k g) ∙ same_up_to rule every hz (subst (HasPeriod p) (sym one) period) turns s (meeting-left c x s) (suc (unsigned_abs (k -ℤ s))) k (omega (arith, ints))
 
 -- under a surjective rule each preimage of a periodic configuration is periodic, with a period of at most as many periods as there are nodes: a loop far on the left has a period too, so the period of one loop goes back to it
-pub HasPeriod-preimage : {r : LocalRule} {x : Config} {p : ℕ} → IsRule r → IsSurjective r → IsConfig r.states x → HasPeriod p (image_of r x) → (l : ℕ) × (1 ≤ l) × (l ≤ node_count r) × HasPeriod (l * p) x
+pub HasPeriod-preimage : {r : LocalRule} {x : Config} {p : ℕ} → IsRule r → IsSurjective r → IsConfig r.states x → HasPeriod p (image_of r x)
+    → (l : ℕ) × (1 ≤ l) × (l ≤ node_count r) × HasPeriod (l * p) x
 HasPeriod-preimage {r} {x} {p} rule every hx period =
     let at : SomeLoop r x (image_of r x) (pos 0) p = loop (pos 0) in
     (at.turns, at.some, at.few, record { some = at.loop.some; again = again at })

@@ -1,5 +1,5 @@
 -- Periodic configurations: their multiple periods, their images, when two are equal, and the letters of a run again and again.
-use Rattle.std.proofs.Common.{◌≡◌, ℕ, ◌*◌, ◌<◌, ◌≤◌, List, length, ℤ, pos, ◌+ℤ◌, ◌-ℤ◌, unsigned_abs, refl, sym, ap, ◌∙◌, subst, arith, mul-one, ◌%◌, slice_index, mod-eq_of_lt}
+use Rattle.std.proofs.Common.{◌≡◌, ℕ, ◌*◌, ◌<◌, ◌≤◌, List, length, ℤ, pos, ◌+ℤ◌, ◌-ℤ◌, unsigned_abs, sym, ap, ◌∙◌, subst, arith, mod-eq_of_lt}
 use Rattle.std.proofs.Math.Path.{fun_ext}
 use Rattle.word_image.proofs.Common.{ints, mul-le, LocalRule, IsRule, IsRing, ring_letter, ring_letter-turn, ring_letter-below}
 use Rattle.tail_config.proofs.Common.{RepeatsLeft, RepeatsRight, RepeatsRight-times, same_right-period, Config, IsConfig, IsInjective, run, image_of, length-run, get_or-run, IsWord-run}
@@ -13,9 +13,7 @@ RepeatsRight-period h a i l = h.again i
 
 -- a periodic configuration repeats on the left of any place
 pub RepeatsLeft-period : {p : ℕ} {x : Config} → HasPeriod p x → (a : ℤ) → RepeatsLeft p x a
-RepeatsLeft-period {p} {x} h a i l =
-    let place : i -ℤ pos p +ℤ pos p ≡ i = omega (arith, ints) in
-    sym (h.again (i -ℤ pos p)) ∙ ap x place
+RepeatsLeft-period h a i l = grind arith
 
 -- c periods are a period
 pub HasPeriod-times : {p : ℕ} {x : Config} → (c : ℕ) → 1 ≤ c → HasPeriod p x → HasPeriod (c * p) x
@@ -29,7 +27,8 @@ pub HasPeriod-image : {p : ℕ} {x : Config} → (r : LocalRule) → HasPeriod p
 HasPeriod-image {p} {x} r h = record { some = h.some; again = λ i. sym (image_of-moved r x (pos p) i) ∙ ap (λ (z : Config). image_of r z i) (fun_ext h.again) }
 
 -- under an injective rule the configuration has the periods of the image
-pub HasPeriod-injective : {r : LocalRule} {x : Config} {p : ℕ} → IsRule r → IsInjective r → IsConfig r.states x → HasPeriod p (image_of r x) → HasPeriod p x
+pub HasPeriod-injective : {r : LocalRule} {x : Config} {p : ℕ} → IsRule r → IsInjective r → IsConfig r.states x → HasPeriod p (image_of r x)
+    → HasPeriod p x
 HasPeriod-injective {r} {x} {p} rule injective hx h =
     let same : (λ j. x (j +ℤ pos p)) ≡ x = (IsInjective-everywhere rule).0 injective (λ j. x (j +ℤ pos p)) x (λ j. hx (j +ℤ pos p)) hx (fun_ext (λ i. image_of-moved r x (pos p) i ∙ h.again i)) in
     record { some = h.some; again = λ i. ap (λ (z : Config). z i) same }
@@ -42,9 +41,8 @@ HasPeriod-ring q some = record { some = some; again = λ i. ring_letter-turn q i
 pub same_periodic : {p : ℕ} {x y : Config} → HasPeriod p x → HasPeriod p y → (i : ℤ) → ((a : ℕ) → a < p → x (i +ℤ pos a) ≡ y (i +ℤ pos a)) → x ≡ y
 same_periodic {p} {x} {y} hx hy i start = fun_ext (λ j.
     let k : ℕ = unsigned_abs (j -ℤ i) in
-    let far : k * 1 ≤ k * p = mul-le k 1 k p (omega arith) hx.some in
     sym (RepeatsRight-times k p x j (RepeatsRight-period hx j) j (omega (arith, ints)))
-    ∙ same_right-period x y p i hx.some (RepeatsRight-period hx i) (RepeatsRight-period hy i) start (j +ℤ pos (k * p)) (omega (arith, ints, far, mul-one k))
+    ∙ same_right-period x y p i hx.some (RepeatsRight-period hx i) (RepeatsRight-period hy i) start (j +ℤ pos (k * p)) (omega (arith, ints, mul-le k 1 k p (omega arith) hx.some))
     ∙ RepeatsRight-times k p y j (RepeatsRight-period hy j) j (omega (arith, ints)))
 
 -- the p letters from place s on, again and again
@@ -64,15 +62,12 @@ pub HasPeriod-rounds : {p : ℕ} → (x : Config) (s : ℤ) → 1 ≤ p → HasP
 HasPeriod-rounds {p} x s some = record {
   some = some;
   again = λ i.
-      let place : i +ℤ pos p -ℤ s ≡ (i -ℤ s) +ℤ pos (length (run x s p)) = omega (arith, ints, length-run x s p) in
-      ap (ring_letter (run x s p)) place ∙ ring_letter-turn (run x s p) (i -ℤ s) (omega (arith, length-run x s p));
+      ap (ring_letter (run x s p)) (omega (arith, ints, length-run x s p)) ∙ ring_letter-turn (run x s p) (i -ℤ s) (omega (arith, length-run x s p));
 }
 
 -- p letters again and again are the letters that stand there on the first p places
 pub rounds-first : (x : Config) (s : ℤ) (p a : ℕ) → a < p → rounds x s p (s +ℤ pos a) ≡ x (s +ℤ pos a)
-rounds-first x s p a l =
-    let place : s +ℤ pos a -ℤ s ≡ pos a = omega (arith, ints) in
-    ap (ring_letter (run x s p)) place ∙ ap (λ n. slice_index (run x s p) (a % n)) (length-run x s p) ∙ ap (slice_index (run x s p)) (mod-eq_of_lt l) ∙ get_or-run x s (s +ℤ pos a) p a l refl
+rounds-first x s p a l = grind (arith, length-run, mod-eq_of_lt, get_or-run)
 
 -- a periodic configuration is the letters of one period, again and again
 pub rounds-period : {p : ℕ} {x : Config} → HasPeriod p x → (s : ℤ) → rounds x s p ≡ x

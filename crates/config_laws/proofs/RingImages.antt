@@ -1,7 +1,7 @@
 -- A ring as a configuration: its image is the image of the configuration, so rules do with rings what they do with configurations.
-use Rattle.std.proofs.Common.{◌≡◌, ℕ, ◌≤◌, List, length, sum_by, slice_index, pos, ◌+ℤ◌, ◌-ℤ◌, refl, sym, ap, ap₂, ◌∙◌, subst, arith, mod-eq_of_lt}
+use Rattle.std.proofs.Common.{◌≡◌, ℕ, ◌≤◌, List, length, pos, ◌-ℤ◌, sym, ap, ap₂, ◌∙◌, subst, arith, mod-eq_of_lt}
 use Rattle.std.proofs.Math.Path.{fun_ext}
-use Rattle.word_image.proofs.Common.{ints, get_or-map-range_with_len, length-map-range_with_len, LocalRule, IsRule, IsRing, IsConserving, local_map, ring_letter, ring_letters, ring_image, ring_letter-below}
+use Rattle.word_image.proofs.Common.{ints, length-map-range_with_len, LocalRule, IsRule, IsRing, IsConserving, ring_letter, ring_image, ring_letter-below}
 use Rattle.ring_laws.proofs.Rings.{IsWord-ring_image}
 use Rattle.tail_config.proofs.Common.{Config, run, image_of, length-run, run-by_letters, same-run}
 use Rattle.config_laws.specs.Composed.{IsOneAfter, IsUndoneBy}
@@ -18,15 +18,11 @@ IsRing-ring_image {r} {p} rule ring = record { word = IsWord-ring_image rule p; 
 
 -- a ring by the letters of its configuration
 pub run-ring : (q : List ℕ) → run (ring_letter q) (pos 0) (length q) ≡ q
-run-ring q = sym (run-by_letters (ring_letter q) (pos 0) (length q) q refl (λ a l.
-    let place : pos a ≡ pos 0 +ℤ pos a = omega (arith, ints) in
-    ap (slice_index q) (sym (mod-eq_of_lt l)) ∙ ap (ring_letter q) place))
+run-ring q = grind (arith, run-by_letters, mod-eq_of_lt)
 
 -- the image of a ring by the image of its configuration
 pub run-ring_image : (r : LocalRule) (p : List ℕ) → run (image_of r (ring_letter p)) (pos 0) (length p) ≡ ring_image r p
-run-ring_image r p = sym (run-by_letters (image_of r (ring_letter p)) (pos 0) (length p) (ring_image r p) (length-ring_image r p) (λ a l.
-    let place : pos a ≡ pos 0 +ℤ pos a = omega (arith, ints) in
-    get_or-map-range_with_len (λ i. local_map r (ring_letters p (pos i +ℤ r.offset) r.width)) 0 (length p) a a 0 l (omega arith) ∙ ap (image_of r (ring_letter p)) place))
+run-ring_image r p = grind arith
 
 -- one period of a periodic configuration is a ring with that configuration
 pub ring_letter-run : {p : ℕ} {x : Config} → HasPeriod p x → ring_letter (run x (pos 0) p) ≡ x
@@ -43,12 +39,13 @@ image_of-ring r p some =
     let n : ℕ = length p in
     let q : List ℕ = ring_image r p in
     let long : length q ≡ n = length-ring_image r p in
-    let period : HasPeriod n (ring_letter q) = subst (λ l. HasPeriod l (ring_letter q)) long (HasPeriod-ring q (omega (arith, some, long))) in
+    let period : HasPeriod n (ring_letter q) = grind (arith, HasPeriod-ring) in
     same_periodic (HasPeriod-image r (HasPeriod-ring p some)) period (pos 0) (same-run (image_of r (ring_letter p)) (ring_letter q) (pos 0) (pos 0) n
     (run-ring_image r p ∙ sym (ap (run (ring_letter q) (pos 0)) (sym long) ∙ run-ring q)))
 
 -- the image of the image of a ring, by configurations
-twice : (r s : LocalRule) (p : List ℕ) → 1 ≤ length p → run (image_of s (image_of r (ring_letter p))) (pos 0) (length p) ≡ ring_image s (ring_image r p)
+twice : (r s : LocalRule) (p : List ℕ) → 1 ≤ length p
+    → run (image_of s (image_of r (ring_letter p))) (pos 0) (length p) ≡ ring_image s (ring_image r p)
 twice r s p some =
     ap₂ (λ (x : Config) (n : ℕ). run (image_of s x) (pos 0) n) (image_of-ring r p some) (sym (length-ring_image r p)) ∙ run-ring_image s (ring_image r p)
 
@@ -63,13 +60,10 @@ ring_image-undone {r} {s} u p ring =
     sym (twice r s p ring.some) ∙ ap (λ (x : Config). run x (pos 0) (length p)) (u.back (ring_letter p) (ring_letter-below ring)) ∙ run-ring p
 
 -- one after the other conserves what both conserve
-pub IsConserving-after : {r s t : LocalRule} → IsRule r → IsOneAfter r s t → (weight : ℕ → ℕ) → IsConserving weight r → IsConserving weight s → IsConserving weight t
-IsConserving-after {r} {s} {t} rule c weight first second p ring =
-    let here : IsRing r.states p = subst (λ k. IsRing k p) c.states ring in
-    let image : IsRing s.states (ring_image r p) = subst (λ k. IsRing k (ring_image r p)) (sym c.second) (IsRing-ring_image rule here) in
-    first p here ∙ second (ring_image r p) image ∙ ap (sum_by weight) (sym (ring_image-after c p here))
+pub IsConserving-after : {r s t : LocalRule} → IsRule r → IsOneAfter r s t → (weight : ℕ → ℕ) → IsConserving weight r → IsConserving weight s
+    → IsConserving weight t
+IsConserving-after rule c weight first second p ring = grind (arith, ring_image-after, IsRing-ring_image)
 
 -- what undoes a rule conserves only what the rule conserves
 pub IsConserving-undone : {r s : LocalRule} → IsRule r → IsUndoneBy r s → (weight : ℕ → ℕ) → IsConserving weight s → IsConserving weight r
-IsConserving-undone {r} {s} rule u weight keeps p ring =
-    sym (keeps (ring_image r p) (subst (λ k. IsRing k (ring_image r p)) (sym u.states) (IsRing-ring_image rule ring)) ∙ ap (sum_by weight) (ring_image-undone u p ring))
+IsConserving-undone rule u weight keeps p ring = grind (arith, ring_image-undone, IsRing-ring_image)

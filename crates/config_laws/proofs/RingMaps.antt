@@ -11,7 +11,8 @@ use Rattle.config_laws.proofs.Periods.{IsRing-run, HasPeriod-ring, HasPeriod-inj
 use Rattle.config_laws.proofs.RingImages.{ring_image-run, length-ring_image, IsRing-ring_image, run-ring, image_of-ring}
 
 -- under an injective rule each ring is the image of a ring: of one period of the preimage of its configuration
-some_ring : {r : LocalRule} → IsRule r → IsInjective r → (q : List ℕ) → IsRing r.states q → (p : List ℕ) × IsRing r.states p × (length p ≡ length q) × (ring_image r p ≡ q)
+some_ring : {r : LocalRule} → IsRule r → IsInjective r → (q : List ℕ) → IsRing r.states q
+    → (p : List ℕ) × IsRing r.states p × (length p ≡ length q) × (ring_image r p ≡ q)
 some_ring {r} rule injective q ring =
     let n : ℕ = length q in
     let (x, hx, image, only) = (IsInjective-bijective rule).0 injective (ring_letter q) (ring_letter-below ring) in
@@ -19,12 +20,12 @@ some_ring {r} rule injective q ring =
     (run x (pos 0) n, IsRing-run hx ring.some (pos 0), length-run x (pos 0) n, ring_image-run r period ∙ ap (λ (y : Config). run y (pos 0) n) image ∙ run-ring q)
 
 -- rings with one image are one ring under an injective rule
-one_ring : {r : LocalRule} → IsRule r → IsInjective r → (x y : List ℕ) → IsRing r.states x → IsRing r.states y → ring_image r x ≡ ring_image r y → x ≡ y
+one_ring : {r : LocalRule} → IsRule r → IsInjective r → (x y : List ℕ) → IsRing r.states x → IsRing r.states y → ring_image r x ≡ ring_image r y
+    → x ≡ y
 one_ring {r} rule injective x y hx hy same =
-    let long : length x ≡ length y = sym (length-ring_image r x) ∙ ap length same ∙ length-ring_image r y in
     let one : ring_letter x ≡ ring_letter y =
     (IsInjective-everywhere rule).0 injective (ring_letter x) (ring_letter y) (ring_letter-below hx) (ring_letter-below hy) (image_of-ring r x hx.some ∙ ap ring_letter same ∙ sym (image_of-ring r y hy.some)) in
-    sym (run-ring x) ∙ ap₂ (λ (z : Config) (n : ℕ). run z (pos 0) n) one long ∙ run-ring y
+    sym (run-ring x) ∙ ap₂ (λ (z : Config) (n : ℕ). run z (pos 0) n) one (sym (length-ring_image r x) ∙ ap length same ∙ length-ring_image r y) ∙ run-ring y
 
 -- a rule is injective exactly if it takes the rings of each length one to one onto all of them
 pub IsInjective-rings : {r : LocalRule} → IsRule r → IsInjective r ↔ IsBijectiveOnRings r

@@ -9,17 +9,17 @@ use Rattle.tail_config.proofs.Common.{Config, IsConfig, run, image_of, zeros, le
 use Rattle.config_laws.specs.Sums.{weight_on, weight_within, flow_under, KeepsChanges}
 
 -- the image of a run weighs more than the run's letters by the flux at its two ends
-pub weight_on-flux : {weight : ℕ → ℕ} {r : LocalRule} {phi : List ℤ} {x : Config} → IsRule r → IsFlux weight r phi → IsConfig r.states x → (i : ℤ) (n : ℕ)
+pub weight_on-flux : {weight : ℕ → ℕ} {r : LocalRule} {phi : List ℤ} {x : Config} → IsRule r → IsFlux weight r phi → IsConfig r.states x
+    → (i : ℤ) (n : ℕ)
     → (pos (weight_on weight (image_of r x) i n) -ℤ pos (weight_on weight x (i +ℤ r.offset) n)) ≡ flow_under r phi x i -ℤ flow_under r phi x (i +ℤ pos n)
 weight_on-flux {weight} {r} {phi} {x} rule flux hx i n =
     let d : ℕ = r.width - 1 in
     let s : ℤ = i +ℤ r.offset in
     let w : List ℕ = run x s (n + d) in
     let long : length w ≡ n + d = length-run x s (n + d) in
-    let all : length w - d ≡ n = omega arith in
     let along : gain weight r w ≡ flow_at r phi (take d w) -ℤ flow_at r phi (drop n w) = gain-flux rule flux n w (IsWord-run hx s (n + d)) long in
     let values : sum_by weight (image r w) ≡ weight_on weight (image_of r x) i n = ap (sum_by weight) (image-run rule x i s n refl) in
-    let letters : sum_by weight (take (length w - d) w) ≡ weight_on weight x s n = ap (λ j. sum_by weight (take j w)) all ∙ ap (sum_by weight) (take-run x s (n + d) n (omega arith)) in
+    let letters : sum_by weight (take (length w - d) w) ≡ weight_on weight x s n = ap (λ j. sum_by weight (take j w)) (omega arith) ∙ ap (sum_by weight) (take-run x s (n + d) n (omega arith)) in
     let first : flow_at r phi (take d w) ≡ flow_under r phi x i = ap (flow_at r phi) (take-run x s (n + d) d (omega arith)) in
     let last : flow_at r phi (drop n w) ≡ flow_under r phi x (i +ℤ pos n) = ap (flow_at r phi) (drop-run x s (i +ℤ pos n +ℤ r.offset) n d (omega (arith, ints))) in
     omega (arith, ints)
@@ -30,11 +30,13 @@ pub record AgreeOutside (x y : Config) (p : ℤ) (l : ℕ) : Type 0 where
   pub after : (j : ℤ) → (p +ℤ pos l) ≤ℤ j → x j ≡ y j
 
 -- the weight of two runs side by side is the sum of their weights
-pub weight_on-append : (weight : ℕ → ℕ) (x : Config) (i j : ℤ) (a b : ℕ) → i +ℤ pos a ≡ j → weight_on weight x i (a + b) ≡ weight_on weight x i a + weight_on weight x j b
+pub weight_on-append : (weight : ℕ → ℕ) (x : Config) (i j : ℤ) (a b : ℕ) → i +ℤ pos a ≡ j
+    → weight_on weight x i (a + b) ≡ weight_on weight x i a + weight_on weight x j b
 weight_on-append weight x i j a b e = ap (sum_by weight) (run-append x i j a b e) ∙ sum_by-append weight (run x i a) (run x j b)
 
 -- runs that have all of the letters that may differ differ by their weight
-pub weight_on-outside : (weight : ℕ → ℕ) (x y : Config) (p : ℤ) (l : ℕ) → AgreeOutside x y p l → (i : ℤ) (n : ℕ) → i ≤ℤ p → (p +ℤ pos l) ≤ℤ (i +ℤ pos n)
+pub weight_on-outside : (weight : ℕ → ℕ) (x y : Config) (p : ℤ) (l : ℕ) → AgreeOutside x y p l → (i : ℤ) (n : ℕ) → i ≤ℤ p
+    → (p +ℤ pos l) ≤ℤ (i +ℤ pos n)
     → weight_on weight x i n + weight_on weight y p l ≡ weight_on weight y i n + weight_on weight x p l
 weight_on-outside weight x y p l agree i n low high =
     let a : ℕ = unsigned_abs (p -ℤ i) in
@@ -43,8 +45,8 @@ weight_on-outside weight x y p l agree i n low high =
     let all : n ≡ a + (l + b) = omega (arith, ints) in
     let cut : (z : Config) → weight_on weight z i n ≡ weight_on weight z i a + (weight_on weight z p l + weight_on weight z e b) = λ z.
     ap (weight_on weight z i) all ∙ weight_on-append weight z i p a (l + b) (omega (arith, ints)) ∙ ap (λ j. weight_on weight z i a + j) (weight_on-append weight z p e l b refl) in
-    let first : weight_on weight x i a ≡ weight_on weight y i a = ap (sum_by weight) (run-same x y i i a (λ c h. agree.before (i +ℤ pos c) (omega (arith, ints)))) in
-    let last : weight_on weight x e b ≡ weight_on weight y e b = ap (sum_by weight) (run-same x y e e b (λ c h. agree.after (e +ℤ pos c) (omega (arith, ints)))) in
+    let first : weight_on weight x i a ≡ weight_on weight y i a = grind (arith, run-same, ints) in
+    let last : weight_on weight x e b ≡ weight_on weight y e b = grind (arith, run-same, ints) in
     omega (arith, cut x, cut y)
 
 -- a rule that keeps the sums of rings keeps changes
@@ -54,7 +56,7 @@ KeepsChanges-conserving {r} rule weight keeps x y hx hy (p, left) (q, right) =
     let l : ℕ = unsigned_abs (q -ℤ p) + 1 in
     let phi : List ℤ = walk_gains weight r in
     let flux : IsFlux weight r phi = (IsConserving-walk_gains rule weight).0 keeps in
-    let agree : AgreeOutside x y p l = record { before = left; after = λ j h. right j (omega (arith, ints)) } in
+    let agree : AgreeOutside x y p l = grind (arith, ints) in
     let most : ℕ = unsigned_abs p + unsigned_abs q + unsigned_abs r.offset + l + r.width in (
       most,
       λ n enough.
@@ -72,12 +74,10 @@ KeepsChanges-conserving {r} rule weight keeps x y hx hy (p, left) (q, right) =
     )
 
 -- the image of zeros weighs as much as they
-pub weight_within-zeros : {r : LocalRule} → IsRule r → (weight : ℕ → ℕ) → IsConserving weight r → (n : ℕ) → weight_within weight n (image_of r zeros) ≡ weight_within weight n zeros
-weight_within-zeros {r} rule weight keeps n =
-    let phi : List ℤ = walk_gains weight r in
+pub weight_within-zeros : {r : LocalRule} → IsRule r → (weight : ℕ → ℕ) → IsConserving weight r → (n : ℕ)
+    → weight_within weight n (image_of r zeros) ≡ weight_within weight n zeros
+weight_within-zeros rule weight keeps n =
     let i : ℤ = neg_ℤ (pos n) in
     let k : ℕ = n + n + 1 in
-    let e : ℤ = i +ℤ pos k in
     let flux = weight_on-flux {x = zeros} rule ((IsConserving-walk_gains rule weight).0 keeps) (λ j. some_letter rule) i k in
-    let letters : weight_on weight zeros (i +ℤ r.offset) k ≡ weight_on weight zeros i k = ap (sum_by weight) (run-same zeros zeros (i +ℤ r.offset) i k (λ a l. refl)) in
     omega (arith, ints)

@@ -21,32 +21,28 @@ record LoopsBack (r : LocalRule) (x y : Config) (e p : ℤ) : Type 0 where
 
 -- what repeats far to the left repeats to the right, read backwards
 repeats_flipped : {y : Config} (left : RepeatsFarLeft y) → RepeatsRight left.period (flip y) (neg_ℤ left.place)
-repeats_flipped {y} left j l =
-    let place : neg_ℤ (j +ℤ pos left.period) ≡ neg_ℤ j -ℤ pos left.period = omega (arith, ints) in
-    ap y place ∙ left.again (neg_ℤ j) (omega (arith, ints))
+repeats_flipped left j l = grind (arith, ints)
 
 -- what repeats far to the right repeats to the left, read backwards
 RepeatsFarLeft-flip : {z : Config} → RepeatsFarRight z → RepeatsFarLeft (flip z)
-RepeatsFarLeft-flip {z} right = record {
+RepeatsFarLeft-flip right = record {
   place = neg_ℤ right.place;
   period = right.period;
   some = right.some;
-  again = λ j l.
-      let place : neg_ℤ (j -ℤ pos right.period) ≡ neg_ℤ j +ℤ pos right.period = omega (arith, ints) in
-      ap z place ∙ right.again (neg_ℤ j) (omega (arith, ints));
+  again = grind (arith, ints);
 }
 
 -- a loop back is there if y repeats far to the left, and the image of x agrees with y there for long enough
 loops_back : {r : LocalRule} {x y : Config} → IsRule r → IsConfig r.states x → (left : RepeatsFarLeft y)
-    → ((a : ℕ) → a < node_count r * left.period → image_of r x (left.place -ℤ pos a) ≡ y (left.place -ℤ pos a)) → LoopsBack r x y (left.place -ℤ pos (node_count r * left.period)) left.place
+    → ((a : ℕ) → a < node_count r * left.period → image_of r x (left.place -ℤ pos a) ≡ y (left.place -ℤ pos a))
+    → LoopsBack r x y (left.place -ℤ pos (node_count r * left.period)) left.place
 loops_back {r} {x} {y} rule hx left agree =
-    let back = IsRule-mirrored rule in
-    let at = some_loop {r = mirrored r} {x = flip x} {y = flip y} back (λ j. hx (neg_ℤ j)) (neg_ℤ left.place) left.period left.some (repeats_flipped left) (λ a l. agree-flip rule hx y left.place a (agree a l)) in
+    let at = some_loop {r = mirrored r} {x = flip x} {y = flip y} (IsRule-mirrored rule) (λ j. hx (neg_ℤ j)) (neg_ℤ left.place) left.period left.some (repeats_flipped left) (λ a l. agree-flip rule hx y left.place a (agree a l)) in
     let on : LoopsOn (mirrored r) (flip x) (flip y) at.place = loops_on {r = mirrored r} {x = flip x} {y = flip y} (λ j. hx (neg_ℤ j)) at.loop in
     record {
       place = neg_ℤ at.place;
-      low = omega (arith, ints, at.within);
-      high = omega (arith, ints, at.later);
+      low = omega (arith, ints);
+      high = omega (arith, ints);
       goes = GoesBack-flip rule (neg_ℤ at.place) (omega (arith, ints)) on.goes;
       repeats = RepeatsFarLeft-flip on.repeats;
     }
@@ -61,14 +57,16 @@ RepeatsFarRight-behind {x} {z} e same h = record {
 }
 
 -- if y repeats left of p and right of q, and the image of x agrees with it for as many periods more as there are nodes, y is the image of what repeats far out and agrees with x between
-pub between_tails : {r : LocalRule} {x y : Config} → IsRule r → IsConfig r.states x → (left : RepeatsFarLeft y) (right : RepeatsFarRight y) → left.place ≤ℤ right.place
+pub between_tails : {r : LocalRule} {x y : Config} → IsRule r → IsConfig r.states x → (left : RepeatsFarLeft y) (right : RepeatsFarRight y)
+    → left.place ≤ℤ right.place
     → ((j : ℤ) → left.place <ℤ (j +ℤ pos (node_count r * left.period + 1)) → j <ℤ (right.place +ℤ pos (node_count r * right.period)) → image_of r x j ≡ y j)
     → (b : Between r x y left.place right.place) × HasTails b.z
 between_tails {r} {x} {y} rule hx left right order agree =
     let at = some_loop rule hx right.place right.period right.some right.again (λ a h. agree (right.place +ℤ pos a) (omega (arith, ints)) (omega (arith, ints))) in
     turned (loops_on hx at.loop) at.later at.within
   where
-    turned : {e : ℤ} → LoopsOn r x y e → right.place ≤ℤ e → e ≤ℤ (right.place +ℤ pos (node_count r * right.period)) → (b : Between r x y left.place right.place) × HasTails b.z
+    turned : {e : ℤ} → LoopsOn r x y e → right.place ≤ℤ e → e ≤ℤ (right.place +ℤ pos (node_count r * right.period))
+        → (b : Between r x y left.place right.place) × HasTails b.z
     turned {e} on later within =
         let far : (j : ℤ) → left.place <ℤ (j +ℤ pos (node_count r * left.period + 1)) → image_of r on.goes.z j ≡ y j = λ j low.
         by_lt_z j e (λ h. image_of-before on.goes j h ∙ agree j low (omega (arith, ints))) (on.goes.after j) in

@@ -1,7 +1,6 @@
 -- What a search through rows of sets of nodes has found: steps from one node at a time, and in the end whether the rule is surjective.
-use Rattle.std.proofs.Common.{◌≡◌, ◌≢◌, ℕ, ◌+◌, ◌-◌, ◌*◌, ◌%◌, ◌^◌, ◌<◌, ◌≤◌, inl, inr, ◌↔◌, List, length, Some, IsBitSet, bit_or, slice_index, slice_set, refl, sym, ap, ap₂, ◌∙◌, subst, ⊎_elim, arith, mod-lt, lit<, bit_and, below_more}
-use Rattle.word_image.proofs.Common.{cases_eq, le_or_l, or_lt, LocalRule, IsRule, node_count, IsSurjective, next, label, pair_of, first_of, second_of, pair_count, HasBit, next-below, IsEnds, IsStep}
-use Rattle.std.proofs.lemmas.List.{length-set}
+use Rattle.std.proofs.Common.{◌≡◌, ◌≢◌, ℕ, ◌+◌, ◌-◌, ◌*◌, ◌%◌, ◌^◌, ◌<◌, ◌≤◌, inl, inr, ◌↔◌, List, length, Some, IsBitSet, bit_or, slice_index, slice_set, refl, sym, ap, ◌∙◌, subst, ⊎_elim, arith, mod-lt, lit<, bit_and, below_more, length-set}
+use Rattle.word_image.proofs.Common.{le_or_l, or_lt, LocalRule, IsRule, node_count, IsSurjective, next, label, pair_of, first_of, second_of, pair_count, HasBit, next-below, IsEnds, IsStep}
 use Rattle.pair_laws.proofs.Common.{next-digits, row_cases, HasBit-or, IsBitSet-minus, IsBitSet-shl, pair_of-below, first_of-pair_of, second_of-pair_of, first_of-below, second_of-below, follow-pair_of, follow-some}
 use Rattle.word_image.specs.declared.side.Side.TheVariants.{Right}
 use Rattle.garden_laws.specs.ReachedPairs.{IsReached}
@@ -16,12 +15,12 @@ after_write P rows i row n inside new old u l =
     ⊎_elim (λ here. rw (here.1, here.0) new) (λ there. rw there.1 (old u l)) (row_cases rows i row u inside)
 
 -- one letter more is added
-pub AreAdded-step : {r : LocalRule} {node n : ℕ} {Has : ℕ → ℕ → Type 0} {old new : List ℕ} → IsRule r → (i set : ℕ) → AreAdded r node Has n old new → i ≡ next r node n → set < 2 ^ node_count r
+pub AreAdded-step : {r : LocalRule} {node n : ℕ} {Has : ℕ → ℕ → Type 0} {old new : List ℕ} → IsRule r → (i set : ℕ) → AreAdded r node Has n old new
+    → i ≡ next r node n → set < 2 ^ node_count r
     → ((v : ℕ) → v < node_count r → (IsBitSet set v ↔ Has n v)) → AreAdded r node Has (n + 1) old (slice_set new i (bit_or (slice_index new i) set))
 AreAdded-step {r} {node} {n} {Has} {old} {new} rule i set h at small has =
     let row : ℕ = bit_or (slice_index new i) set in
-    let few : node_count r ≤ 16 = rule.shape.most_nodes in
-    let below : i < node_count r = subst (λ j. j < node_count r) (sym at) (next-below rule node n) in
+    let below : i < node_count r = rw at (next-below rule node n) in
     let inside : i < length new = omega (arith, h.rows.long) in
     record {
       rows = record {
@@ -38,18 +37,16 @@ AreAdded-step {r} {node} {n} {Has} {old} {new} rule i set h at small has =
                 (λ (here, one). inr (n, omega arith, sym at ∙ sym here, (has v hv).0 one))
                 (λ o. ⊎_elim inl (λ (a, l, e, one). inr (a, omega (arith, l), e, one)) (before.0 o))
                 (more.0 some)),
-            (λ either. more.1 (⊎_elim
-                (λ o. inr (before.1 (inl o)))
-                (λ (a, l, e, one). ⊎_elim
-                (λ last. inl (sym e ∙ ap (next r node) last ∙ sym at, (has v hv).1 (subst (λ x. Has x v) last one)))
-                (λ less. inr (before.1 (inr (a, omega (arith, l, less), e, one))))
-                (cases_eq a n))
-                either)),
+            ⊎_elim
+                (λ o. more.1 (inr (before.1 (inl o))))
+                (λ (a, l, e, one). below_more (λ a. next r node a ≡ u → Has a v → HasBit (slice_set new i row) u v) n
+                (λ a l e one. more.1 (inr (before.1 (inr (a, l, e, one))))) (λ e one. more.1 (inl (sym e ∙ sym at, (has v hv).1 one))) a l e one),
           );
     }
 
 -- what was found stays in the rows to which pairs are added
-pub HasBit-added : {r : LocalRule} {node n : ℕ} {Has : ℕ → ℕ → Type 0} {old new : List ℕ} → AreAdded r node Has n old new → (u v : ℕ) → u < node_count r → v < node_count r → HasBit old u v → HasBit new u v
+pub HasBit-added : {r : LocalRule} {node n : ℕ} {Has : ℕ → ℕ → Type 0} {old new : List ℕ} → AreAdded r node Has n old new → (u v : ℕ)
+    → u < node_count r → v < node_count r → HasBit old u v → HasBit new u v
 HasBit-added h u v hu hv old = (h.pairs u v hu hv).1 (inl old)
 
 -- two letters lead from one node to one node only if they are one
@@ -57,11 +54,10 @@ pub next-injective : {r : LocalRule} → IsRule r → (u a b : ℕ) → a < r.st
 next-injective rule u a b ha hb e = omega (arith, next-digits rule u a ha, next-digits rule u b hb)
 
 -- the ends of the edges with the label of a, but for the one of a itself
-pub LeadsApart-set : {r : LocalRule} → IsRule r → (node a label_a to ends : ℕ) → a < r.states → label_a ≡ label r node a → to ≡ next r node a → IsEnds Right r node label_a ends
+pub LeadsApart-set : {r : LocalRule} → IsRule r → (node a label_a to ends : ℕ) → a < r.states → label_a ≡ label r node a → to ≡ next r node a
+    → IsEnds Right r node label_a ends
     → (v : ℕ) → v < node_count r → (IsBitSet (bit_and ends (65535 - 1 * 2 ^ to % 2 ^ 16)) v ↔ LeadsApart r node a v)
 LeadsApart-set {r} rule node a label_a to ends ha labelled at h v hv =
-    let few : node_count r ≤ 16 = rule.shape.most_nodes in
-    let below : to < node_count r = subst (λ i. i < node_count r) (sym at) (next-below rule node a) in
     let one : IsBitSet (1 * 2 ^ to % 2 ^ 16) v ↔ (v ≡ to) = IsBitSet-shl to v (omega arith) in
     let minus = IsBitSet-minus ends (1 * 2 ^ to % 2 ^ 16) v (mod-lt (1 * 2 ^ to) (lit< tt)) (omega arith) in (
       (λ some.
@@ -90,36 +86,40 @@ LeadsBeside-set r node set a label_a others labelled h v hv = (
   (λ leads. (h.nodes v hv).1 (leads.other, leads.in_nodes, (leads.in_set, (leads.b, leads.letter, (sym leads.one_label ∙ sym labelled, leads.leads))))),
 )
 
--- with the first pairs of one node more
-pub IsRowSearch-firsts : {r : LocalRule} {node : ℕ} {found followed new : List ℕ} → IsRule r → node < node_count r → IsRowSearch r found followed
-    → AreAdded r node (LeadsApart r node) r.states found new → IsRowSearch r new followed
-IsRowSearch-firsts {r} {node} rule inside h added = record {
+-- with pairs added that are reached and have two different nodes
+IsRowSearch-added : {r : LocalRule} {node : ℕ} {Has : ℕ → ℕ → Type 0} {found followed new : List ℕ} → IsRule r → IsRowSearch r found followed
+    → AreAdded r node Has r.states found new
+    → ((a v : ℕ) → a < r.states → Has a v → IsReached r (pair_of r (next r node a) v) × (next r node a ≢ v)) → IsRowSearch r new followed
+IsRowSearch-added rule h added here = record {
   rows = added.rows;
   long = h.long;
   behind = λ u hu. omega (arith, h.behind u hu, added.grown u hu);
-  reached = λ u v hu hv some. ⊎_elim
-      (h.reached u v hu hv)
-      (λ (a, ha, e, leads). First (pair_of r u v) (record {
-        node = node;
-        a = a;
-        b = leads.b;
-        in_nodes = inside;
-        a_letter = ha;
-        b_letter = leads.letter;
-        different = leads.different;
-        one_label = leads.one_label;
-        pair = ap₂ (pair_of r) (sym e) (sym leads.leads);
-      }))
-      ((added.pairs u v hu hv).0 some);
-  apart = λ u hu some. ⊎_elim
-      (h.apart u hu)
-      (λ (a, ha, e, leads). leads.different (next-injective rule node a leads.b ha leads.letter (e ∙ sym leads.leads)))
-      ((added.pairs u u hu hu).0 some);
-  steps = λ u v a b hu hv some ha hb e. HasBit-added added (next r u a) (next r v b) (next-below rule u a) (next-below rule v b) (h.steps u v a b hu hv some ha hb e);
+  reached = λ u v hu hv some. ⊎_elim (h.reached u v hu hv) (λ (a, ha, e, has). rw (← e) (here a v ha has).0) ((added.pairs u v hu hv).0 some);
+  apart = λ u hu some. ⊎_elim (h.apart u hu) (λ (a, ha, e, has). (here a u ha has).1 e) ((added.pairs u u hu hu).0 some);
+  steps = λ u v a b hu hv some ha hb e. HasBit-added added _ _ (next-below rule u a) (next-below rule v b) (h.steps u v a b hu hv some ha hb e);
 }
 
+-- with the first pairs of one node more
+pub IsRowSearch-firsts : {r : LocalRule} {node : ℕ} {found followed new : List ℕ} → IsRule r → node < node_count r → IsRowSearch r found followed
+    → AreAdded r node (LeadsApart r node) r.states found new → IsRowSearch r new followed
+IsRowSearch-firsts {r} {node} rule inside h added = IsRowSearch-added rule h added (λ a v ha leads. (
+  First _ (record {
+    node = node;
+    a = a;
+    b = leads.b;
+    in_nodes = inside;
+    a_letter = ha;
+    b_letter = leads.letter;
+    different = leads.different;
+    one_label = leads.one_label;
+    pair = ap (pair_of r (next r node a)) (sym leads.leads);
+  }),
+  λ same. leads.different (next-injective rule node a leads.b ha leads.letter (same ∙ sym leads.leads)),
+))
+
 -- a step from what was found is reached
-IsReached-beside : {r : LocalRule} {node : ℕ} {found followed : List ℕ} → IsRule r → node < node_count r → IsRowSearch r found followed → (a v : ℕ) → a < r.states
+IsReached-beside : {r : LocalRule} {node : ℕ} {found followed : List ℕ} → IsRule r → node < node_count r → IsRowSearch r found followed → (a v : ℕ)
+    → a < r.states
     → LeadsBeside r node (slice_index found node) a v → IsReached r (pair_of r (next r node a) v)
 IsReached-beside {r} {node} rule inside h a v ha leads =
     On (pair_of r node leads.other) a leads.b _ (h.reached node leads.other inside leads.in_nodes leads.in_set) ha leads.letter
@@ -128,29 +128,23 @@ IsReached-beside {r} {node} rule inside h a v ha leads =
 -- with the steps from what was found of one node
 pub IsRowSearch-steps : {r : LocalRule} {node : ℕ} {found followed new : List ℕ} → IsRule r → node < node_count r → IsRowSearch r found followed
     → AreAdded r node (LeadsBeside r node (slice_index found node)) r.states found new
-    → ((a : ℕ) → a < r.states → ¬ LeadsBeside r node (slice_index found node) a (next r node a)) → IsRowSearch r new (slice_set followed node (slice_index found node))
+    → ((a : ℕ) → a < r.states → ¬ LeadsBeside r node (slice_index found node) a (next r node a))
+    → IsRowSearch r new (slice_set followed node (slice_index found node))
 IsRowSearch-steps {r} {node} {found} {followed} {new} rule inside h added none =
     let row : ℕ = slice_index found node in
     let here : node < length followed = omega (arith, h.long, rule.shape.most_nodes) in
+    let more = IsRowSearch-added rule h added (λ a v ha leads. (IsReached-beside rule inside h a v ha leads, λ same. none a ha (rw (← same) at leads))) in
     record {
-      rows = added.rows;
+      rows = more.rows;
       long = length-set followed node row ∙ h.long;
-      behind = after_write (λ u x. x ≤ slice_index new u)
-          followed node row (node_count r) here (added.grown node inside) (λ u hu. omega (arith, h.behind u hu, added.grown u hu));
-      reached = λ u v hu hv some. ⊎_elim
-          (h.reached u v hu hv)
-          (λ (a, ha, e, leads). subst (λ w. IsReached r (pair_of r w v)) e (IsReached-beside rule inside h a v ha leads))
-          ((added.pairs u v hu hv).0 some);
-      apart = λ u hu some. ⊎_elim
-          (h.apart u hu)
-          (λ (a, ha, e, leads). none a ha (subst (LeadsBeside r node row a) (sym e) leads))
-          ((added.pairs u u hu hu).0 some);
+      behind = after_write (λ u x. x ≤ slice_index new u) followed node row (node_count r) here (added.grown node inside) more.behind;
+      reached = more.reached;
+      apart = more.apart;
       steps = λ u v a b hu hv some ha hb e. after_write
           (λ u x. IsBitSet x v → label r u a ≡ label r v b → HasBit new (next r u a) (next r v b)) followed node row (node_count r) here
           (λ some e. (added.pairs _ _ (next-below rule node a) (next-below rule v b)).1
           (inr (a, ha, refl, record { other = v; b = b; in_nodes = hv; in_set = some; letter = hb; one_label = e; leads = refl })))
-          (λ u hu some e. HasBit-added added _ _ (next-below rule u a) (next-below rule v b) (h.steps u v a b hu hv some ha hb e))
-          u hu some e;
+          (λ u hu some e. more.steps u v a b hu hv some ha hb e) u hu some e;
     }
 
 -- where a step leads to a pair of two equal nodes, the rule isn't surjective
@@ -166,7 +160,8 @@ abbrev pub HasFirsts : LocalRule → ℕ → List ℕ → Type 0
 HasFirsts r n rows = (u a b : ℕ) → u < n → a < r.states → b < r.states → a ≢ b → label r u a ≡ label r u b → HasBit rows (next r u a) (next r u b)
 
 -- the first pairs of one node more are in the rows, once they are added
-pub HasFirsts-added : {r : LocalRule} {node : ℕ} {found new : List ℕ} → IsRule r → HasFirsts r node found → AreAdded r node (LeadsApart r node) r.states found new → HasFirsts r (node + 1) new
+pub HasFirsts-added : {r : LocalRule} {node : ℕ} {found new : List ℕ} → IsRule r → HasFirsts r node found
+    → AreAdded r node (LeadsApart r node) r.states found new → HasFirsts r (node + 1) new
 HasFirsts-added {r} {node} {found} {new} rule firsts added u a b =
     below_more (λ u. a < r.states → b < r.states → a ≢ b → label r u a ≡ label r u b → HasBit new (next r u a) (next r u b)) node
     (λ u l ha hb other e. HasBit-added added _ _ (next-below rule u a) (next-below rule u b) (firsts u a b l ha hb other e))
@@ -175,7 +170,8 @@ HasFirsts-added {r} {node} {found} {new} rule firsts added u a b =
     u
 
 -- once the first pairs of all nodes were found, and all steps from what was found were followed, it is
-pub IsSurjective-rows : {r : LocalRule} {found followed : List ℕ} → IsRule r → IsRowSearch r found followed → ((u : ℕ) → u < node_count r → slice_index followed u ≡ slice_index found u)
+pub IsSurjective-rows : {r : LocalRule} {found followed : List ℕ} → IsRule r → IsRowSearch r found followed
+    → ((u : ℕ) → u < node_count r → slice_index followed u ≡ slice_index found u)
     → HasFirsts r (node_count r) found → IsSurjective r
 IsSurjective-rows {r} {found} {followed} rule h all firsts =
     let Has : ℕ → Type 0 = λ p. (p < pair_count r) × HasBit found (first_of r p) (second_of r p) in

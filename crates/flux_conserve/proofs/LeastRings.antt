@@ -4,7 +4,8 @@ use Rattle.word_image.proofs.Common.{slice_cmp, cases_lt, LocalRule, value, IsLe
 use Rattle.flux_conserve.specs.LeastRings.{IsFirstLossyRing, KeepSumAt}
 
 -- where the rings of fewer letters keep their sums
-pub IsLeastLossyRing-first : {weight : ℕ → ℕ} {r : LocalRule} {n : ℕ} {p : List ℕ} → ((j : ℕ) → j < n → KeepSumAt weight r j) → IsFirstLossyRing weight r n p → IsLeastLossyRing weight r p
+pub IsLeastLossyRing-first : {weight : ℕ → ℕ} {r : LocalRule} {n : ℕ} {p : List ℕ} → ((j : ℕ) → j < n → KeepSumAt weight r j)
+    → IsFirstLossyRing weight r n p → IsLeastLossyRing weight r p
 IsLeastLossyRing-first {r} {n} {p} fewer first = record {
   lossy = first.lossy;
   least = λ q other.

@@ -44,10 +44,9 @@ counted r w =
     }
 
 -- preimages of two words that are equal have one number, and the words are equal
-same_preimage : (r : LocalRule) (v w : List ℕ) (i j : ℕ) → i < count_of r v → j < count_of r w → (counted r v).at i ≡ (counted r w).at j → (v ≡ w) × (i ≡ j)
-same_preimage r v w i j hi hj e =
-    let one : v ≡ w = sym ((counted r v).preimage i hi).maps ∙ ap (image r) e ∙ ((counted r w).preimage j hj).maps in
-    (one, sym ((counted r v).forth i hi) ∙ ap₂ (λ (u x : List ℕ). (counted r u).place x) one e ∙ (counted r w).forth j hj)
+same_preimage : (r : LocalRule) (v w : List ℕ) (i j : ℕ) → i < count_of r v → j < count_of r w → (counted r v).at i ≡ (counted r w).at j
+    → (v ≡ w) × (i ≡ j)
+same_preimage r v w i j hi hj e = grind arith
 
 -- the word w, the letters of a node, and w again
 abbrev woven : LocalRule → List ℕ → ℕ → List ℕ
@@ -120,7 +119,8 @@ IsPreimage-both {r} {w} {x} {y} rule p q =
     )
 
 -- if each woven word has at least e preimages, they are no more than the pairs of preimages of w
-woven-least : {r : LocalRule} → IsRule r → (w : List ℕ) (e : ℕ) → ((v : ℕ) → v < node_count r → e ≤ count_of r (woven r w v)) → node_count r * e ≤ count_of r w * count_of r w
+woven-least : {r : LocalRule} → IsRule r → (w : List ℕ) (e : ℕ) → ((v : ℕ) → v < node_count r → e ≤ count_of r (woven r w v))
+    → node_count r * e ≤ count_of r w * count_of r w
 woven-least {r} rule w e least =
     let n : ℕ = length w + (r.width - 1) in
     let c : Counted r w = counted r w in
@@ -142,7 +142,8 @@ woven-least {r} rule w e least =
     (woven-injective r w u v hu hv alike.0, alike.1))
 
 -- if each woven word has at most q preimages, there are no more pairs of preimages of w than q for each node
-woven-most : {r : LocalRule} → IsRule r → (w : List ℕ) (q : ℕ) → ((v : ℕ) → v < node_count r → count_of r (woven r w v) ≤ q) → count_of r w * count_of r w ≤ q * node_count r
+woven-most : {r : LocalRule} → IsRule r → (w : List ℕ) (q : ℕ) → ((v : ℕ) → v < node_count r → count_of r (woven r w v) ≤ q)
+    → count_of r w * count_of r w ≤ q * node_count r
 woven-most {r} rule w q most =
     let n : ℕ = length w + (r.width - 1) in
     let c : Counted r w = counted r w in
@@ -189,7 +190,8 @@ many_more {r} rule w more (suc e) =
     (some_below (λ v. n < count_of r (woven r z v)) (λ v. less_or_not n (count_of r (woven r z v))) (node_count r))
 
 -- of more preimages of a word than there are pairs of nodes two begin and end with the same nodes, and are an erasable pair
-pub IsErasable-many : {r : LocalRule} → IsRule r → (w : List ℕ) → node_count r * node_count r < count_of r w → (x : List ℕ) × (y : List ℕ) × IsErasable r x y
+pub IsErasable-many : {r : LocalRule} → IsRule r → (w : List ℕ) → node_count r * node_count r < count_of r w
+    → (x : List ℕ) × (y : List ℕ) × IsErasable r x y
 IsErasable-many {r} rule w more =
     let d : ℕ = r.width - 1 in
     let c : Counted r w = counted r w in

@@ -1,6 +1,6 @@
 -- How many of the numbers below a bound pass a test, and which they are.
-use Rattle.std.proofs.Common.{◌≡◌, ℕ, zero, suc, ◌+◌, ◌-◌, ◌<◌, ◌≤◌, Bool, true, false, ltb, lt-ltb, le-ltb, if◌then◌else◌, refl, ap, ap₂, ⊎_elim, arith}
-use Rattle.word_image.proofs.Common.{from_bool, cases_Bool, cases_lt}
+use Rattle.std.proofs.Common.{◌≡◌, ℕ, zero, suc, ◌+◌, ◌-◌, ◌<◌, ◌≤◌, Bool, true, false, ltb, lt-ltb, if◌then◌else◌, refl, ap, ap₂, ⊎_elim, arith, rules}
+use Rattle.word_image.proofs.Common.{from_bool, cases_lt}
 use Rattle.garden_laws.specs.ZeroPairs.{count_below}
 
 -- no number below 0 passes a test
@@ -41,17 +41,13 @@ unfolding count_below
 nth-passes p zero i l = absurd (omega arith)
 nth-passes p (suc n) i l =
     ⊎_elim
-    (λ before. let is = nth-passes p n i before in rw (lt-ltb i (count_below p n) before) (omega (arith, is.0), is.1, is.2))
-    (λ none. let passes : p n ≡ true = ⊎_elim (λ yes. yes) (λ no. absurd (omega (arith, ap from_bool no))) (cases_Bool (p n)) in
-    rw (le-ltb i (count_below p n) none) (omega arith, passes, omega (arith, ap from_bool passes)))
+    (λ before. let is = nth-passes p n i before in rw (lt-ltb i (count_below p n) before) (omega arith, is.1, is.2))
+    (λ none. grind arith)
     (cases_lt i (count_below p n))
 
 -- a number that passes has as many before it as its place says, and comes back from there
 pub nth-place : (p : ℕ → Bool) (n a : ℕ) → a < n → p a ≡ true → (count_below p a < count_below p n) × (nth p n (count_below p a) ≡ a)
-nth-place p n a l passes =
-    let few = count_below-less p a n passes l in
-    let is = nth-passes p n (count_below p a) few in
-    (few, count_below-injective p (nth p n (count_below p a)) a is.1 passes is.2)
+nth-place p n a l passes = search (rules, count_below-less, nth-passes, count_below-injective)
 
 -- of two tests that agree as many numbers pass the one as the other
 pub count_below-agree : (p q : ℕ → Bool) (n : ℕ) → ((a : ℕ) → a < n → p a ≡ q a) → count_below p n ≡ count_below q n
@@ -74,7 +70,8 @@ count_below-add p n (suc d) =
     omega (arith, ap (count_below p) e, count_below-more p (n + d), count_below-add p n d, ap (count_below (λ a. p (n + a))) f, count_below-more (λ a. p (n + a)) d)
 
 -- if a test passes where one of two others does, and those never pass both, its count is the sum of their counts
-pub count_below-split : (p q s : ℕ → Bool) (n : ℕ) → ((a : ℕ) → from_bool (s a) ≡ from_bool (p a) + from_bool (q a)) → count_below s n ≡ count_below p n + count_below q n
+pub count_below-split : (p q s : ℕ → Bool) (n : ℕ) → ((a : ℕ) → from_bool (s a) ≡ from_bool (p a) + from_bool (q a))
+    → count_below s n ≡ count_below p n + count_below q n
 unfolding count_below
 count_below-split p q s zero each = refl
 count_below-split p q s (suc n) each = omega (arith, count_below-split p q s n each, each n)

@@ -51,7 +51,8 @@ last_test : (p q s : Bool) → p ≡ false → q ≡ false → (p || q || s) ≡
 last_test p q s first second e = cc
 
 -- a list that passes all four is a pair list
-pub IsPairList-tests : {r : LocalRule} {pairs : List ℕ} → below_test r pairs ≡ true → firsts_test r pairs ≡ true → closed_test r pairs ≡ true → apart_test r pairs ≡ true → IsPairList r pairs
+pub IsPairList-tests : {r : LocalRule} {pairs : List ℕ} → below_test r pairs ≡ true → firsts_test r pairs ≡ true → closed_test r pairs ≡ true
+    → apart_test r pairs ≡ true → IsPairList r pairs
 IsPairList-tests {r} {pairs} below firsts closed apart = record {
   below = λ p contains. (Decides-ltb p (pair_count r)).0 (passes (λ p. ltb p (pair_count r)) pairs p below contains);
   firsts = λ p first.

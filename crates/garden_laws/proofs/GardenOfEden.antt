@@ -49,11 +49,11 @@ IsWord-one_other {r} {x} {y} h (suc n) zero = All-append (λ a. a < r.states) y 
 IsWord-one_other {r} {x} {y} h (suc n) (suc i) = All-append (λ a. a < r.states) x (one_other x y n i) h.first (IsWord-one_other h n i)
 
 -- the image of words in a row doesn't tell which of them is the other one of an erasable pair
-image-one_other : {r : LocalRule} {x y : List ℕ} → IsRule r → IsErasable r x y → (p : List ℕ) (n i : ℕ) → image r (p ++ one_other x y n i) ≡ image r (p ++ one_other x y n n)
+image-one_other : {r : LocalRule} {x y : List ℕ} → IsRule r → IsErasable r x y → (p : List ℕ) (n i : ℕ)
+    → image r (p ++ one_other x y n i) ≡ image r (p ++ one_other x y n n)
 image-one_other rule h p zero i = refl
 image-one_other {r} {x} {y} rule h p (suc n) zero = sym (image-exchange rule h p (one_other x y n n))
-image-one_other {r} {x} {y} rule h p (suc n) (suc i) =
-    ap (image r) (sym (append_assoc p x (one_other x y n i))) ∙ image-one_other rule h (p ++ x) n i ∙ ap (image r) (append_assoc p x (one_other x y n n))
+image-one_other {r} {x} rule h p (suc n) (suc i) = grind (arith, append_assoc, image-one_other rule h (p ++ x) n i)
 
 -- words in a row differ if another one of them is the other one of an erasable pair
 one_other-apart : {r : LocalRule} {x y : List ℕ} → IsErasable r x y → (n i j : ℕ) → i < j → j ≤ n → one_other x y n i ≢ one_other x y n j

@@ -1,5 +1,5 @@
 -- Numbers that are mapped one to one, and sums part by part.
-use Rattle.std.proofs.Common.{◌≡◌, ◌≢◌, ◌⊎◌, ℕ, zero, suc, ◌+◌, ◌*◌, ◌/◌, ◌%◌, ◌<◌, ◌≤◌, inl, inr, sym, ap₂, ◌∙◌, subst, ⊎_elim, arith, mod-lt, div-add-mod'}
+use Rattle.std.proofs.Common.{◌≡◌, ◌≢◌, ◌⊎◌, ℕ, zero, suc, ◌+◌, ◌*◌, ◌/◌, ◌%◌, ◌<◌, ◌≤◌, inl, inr, sym, subst, ⊎_elim, arith, mod-lt}
 use Rattle.word_image.proofs.Common.{cases_eq, cases_lt, div_below, twice_below}
 
 -- a number is less than another, or it isn't
@@ -21,17 +21,13 @@ pairs-le a zero b f below apart = omega arith
 pairs-le a (suc e) b f below apart =
     let some : 0 < suc e = omega arith in
     let row : (t : ℕ) → t < a * suc e → t / suc e < a = λ t l. div_below t (suc e) a some l in
-    injective-le (a * suc e) b (λ t. f (t / suc e) (t % suc e)) (λ t l. below (t / suc e) (t % suc e) (row t l) (mod-lt t some)) (λ s t less last same.
-    let parts = apart (s / suc e) (t / suc e) (s % suc e) (t % suc e) (row s (omega arith)) (row t last) (mod-lt s some) (mod-lt t some) same in
-    let one : s ≡ t = sym (div-add-mod' s (suc e)) ∙ ap₂ (λ u i. u * suc e + i) parts.0 parts.1 ∙ div-add-mod' t (suc e) in
-    omega arith)
+    injective-le (a * suc e) b (λ t. f (t / suc e) (t % suc e)) (λ t l. below (t / suc e) (t % suc e) (row t l) (mod-lt t some)) (grind arith)
 
 -- of two sums with as many parts, part by part, the one with the lesser parts is no greater, and if it is no less then no part is
-pub parts-le : (f g sum_f sum_g : ℕ → ℕ) (n : ℕ) → ((i : ℕ) → i < n → sum_f (suc i) ≡ sum_f i + f i) → ((i : ℕ) → i < n → sum_g (suc i) ≡ sum_g i + g i)
+pub parts-le : (f g sum_f sum_g : ℕ → ℕ) (n : ℕ) → ((i : ℕ) → i < n → sum_f (suc i) ≡ sum_f i + f i)
+    → ((i : ℕ) → i < n → sum_g (suc i) ≡ sum_g i + g i)
     → sum_f 0 ≡ sum_g 0 → ((i : ℕ) → i < n → f i ≤ g i) → (sum_f n ≤ sum_g n) × (sum_g n ≤ sum_f n → (i : ℕ) → i < n → g i ≤ f i)
 parts-le f g sum_f sum_g zero of_f of_g start least = (omega arith, λ e i l. absurd (omega arith))
 parts-le f g sum_f sum_g (suc n) of_f of_g start least =
     let (less, all) = parts-le f g sum_f sum_g n (λ i l. of_f i (omega arith)) (λ i l. of_g i (omega arith)) start (λ i l. least i (omega arith)) in
-    let last = least n (omega arith) in
-    let of_last : (sum_f (suc n) ≡ sum_f n + f n) × (sum_g (suc n) ≡ sum_g n + g n) = (of_f n (omega arith), of_g n (omega arith)) in
-    (omega (arith, less), λ e i l. ⊎_elim (λ is. subst (λ j. g j ≤ f j) (sym is) (omega (arith, less))) (λ other. all (omega (arith, less)) i (omega arith)) (cases_eq i n))
+    (omega arith, λ e i l. ⊎_elim (λ is. subst (λ j. g j ≤ f j) (sym is) (omega arith)) (λ other. all (omega arith) i (omega arith)) (cases_eq i n))

@@ -146,10 +146,7 @@ weighed-nil (suc n) = omega (arith, weighed-nil n, mul-zero n)
 weighed-other : (n x : ℕ) (xs : List ℕ) → n ≤ x → weighed n (x ∷ xs) ≡ weighed n xs
 unfolding weighed
 weighed-other zero x xs l = refl
-weighed-other (suc n) x xs l =
-    let same : count_by (λ b. b == n) (x ∷ xs) ≡ count_by (λ b. b == n) xs =
-    omega (arith, sum_by-cons (λ b. cond (b == n) 1 0) x xs, cond-false {A = ℕ} (x == n) 1 0 (ne_eqb x n (λ e. absurd (omega arith)))) in
-    omega (arith, weighed-other n x xs (omega arith), ap (λ i. n * i) same)
+weighed-other (suc n) x xs l = grind (arith, weighed-other n x xs (omega arith))
 
 -- a letter more that is below n adds its value
 weighed-one : (n x : ℕ) (xs : List ℕ) → x < n → weighed n (x ∷ xs) ≡ weighed n xs + x
@@ -178,8 +175,7 @@ weighed-even : (q n : ℕ) (xs : List ℕ) → ((a : ℕ) → a < n → count_by
 unfolding weighed triangle
 weighed-even q zero xs each = sym (zero-mul q)
 weighed-even q (suc n) xs each =
-    let parts = add-mul (triangle n) n q in
-    omega (arith, weighed-even q n xs (λ a l. each a (omega arith)), parts, ap (λ i. n * i) (each n (omega arith)))
+    omega (arith, weighed-even q n xs (λ a l. each a (omega arith)), ap (λ i. n * i) (each n (omega arith)))
 
 -- a table in which each letter stands equally often has the mean of all letters
 pub HasMean-even : {r : LocalRule} → IsRule r → IsEven r.states r.table → HasMean r.states r.table
@@ -199,7 +195,8 @@ HasMean-even {r} rule even =
     omega (arith, all, square, add-mul (2 * triangle k) k q, mul_assoc 2 (triangle k) q, length_times, turned, long)
 
 -- under a conserving rule a window that leads from a node to itself keeps its first letter
-keeps-loop : {r : LocalRule} → IsRule r → IsConserving (λ a. a) r → (v : ℕ) → v < r.states ^ r.width → v / r.states ≡ v % node_count r → slice_index r.table v ≡ v / node_count r
+keeps-loop : {r : LocalRule} → IsRule r → IsConserving (λ a. a) r → (v : ℕ) → v < r.states ^ r.width → v / r.states ≡ v % node_count r
+    → slice_index r.table v ≡ v / node_count r
 keeps-loop {r} rule keep v within loop =
     let phi = walk_gains (λ a. a) r in
     let flux : IsFlux (λ a. a) r phi = (IsConserving-walk_gains rule (λ a. a)).0 keep in

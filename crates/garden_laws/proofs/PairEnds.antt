@@ -1,7 +1,7 @@
 -- Two words with one image by the pair of their last nodes: one more letter each is a step from this pair.
 use Rattle.std.proofs.Common.{◌≡◌, ℕ, ◌+◌, ◌-◌, ◌<◌, List, [], ◌∷◌, ◌++◌, length, take, drop, get_or, Some, sym, ap, ap₂, ◌∙◌, arith, length-drop}
 use Rattle.word_image.proofs.Common.{same_from_push, All-drop, LocalRule, IsRule, IsWord, value, node_count, image, HaveOneImage, next, label, follow, pair_of, first_of, second_of, split_last, value-next, value-node}
-use Rattle.pair_laws.proofs.Common.{HaveOneImage-take, image-push, HaveOneImage-push, first_of-pair_of, second_of-pair_of, follow-some}
+use Rattle.pair_laws.proofs.Common.{HaveOneImage-take, image-push, HaveOneImage-push, first_of-pair_of, second_of-pair_of}
 
 -- the last m - 1 letters of a word are a node
 pub last-below : (r : LocalRule) (n : ℕ) (x : List ℕ) → IsWord r.states x → length x ≡ n + (r.width - 1) → value r.states (drop n x) < node_count r
@@ -25,11 +25,11 @@ pair_behind-push : {r : LocalRule} {n : ℕ} {x y : List ℕ} → IsRule r → H
 pair_behind-push {r} {n} {x} {y} rule h a b ha hb = ap₂ (pair_of r) (value-next rule n x a h.first h.first_long ha) (value-next rule n y b h.second h.second_long hb)
 
 -- two words with one image go on along a step of their pair
-pub HaveOneImage-follow : {r : LocalRule} {n q : ℕ} {x y : List ℕ} → IsRule r → HaveOneImage r n x y → (a b : ℕ) → a < r.states → b < r.states → follow r (pair_behind r n x y) a b ≡ Some q
+pub HaveOneImage-follow : {r : LocalRule} {n q : ℕ} {x y : List ℕ} → IsRule r → HaveOneImage r n x y → (a b : ℕ) → a < r.states → b < r.states
+    → follow r (pair_behind r n x y) a b ≡ Some q
     → HaveOneImage r (n + 1) (x ++ a ∷ []) (y ++ b ∷ []) × (pair_behind r (n + 1) (x ++ a ∷ []) (y ++ b ∷ []) ≡ q)
-HaveOneImage-follow {r} {n} {q} {x} {y} rule h a b ha hb f =
-    let edges = rw (first_of-behind h, second_of-behind h) at (follow-some r (pair_behind r n x y) a b q f) in
-    (HaveOneImage-push {j = n} rule (omega arith) h a b ha hb edges.0, pair_behind-push rule h a b ha hb ∙ edges.1)
+HaveOneImage-follow rule h a b ha hb f =
+    grind (arith, first_of-behind, second_of-behind, pair_behind-push, HaveOneImage-push)
 
 -- two words with one image that end with the letters a and b, and what stands before these
 pub record IsPush (r : LocalRule) (n : ℕ) (x y : List ℕ) : Type 0 where

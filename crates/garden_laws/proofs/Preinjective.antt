@@ -7,7 +7,8 @@ use Rattle.garden_laws.proofs.Exchange.{image_of-exchange}
 use Rattle.garden_laws.proofs.GardenOfEden.{NoneErasable, garden_of_eden}
 
 -- two runs that agree at both ends and share an image are an erasable pair, if they differ
-IsErasable-run : {r : LocalRule} {x y : Config} → IsRule r → IsConfig r.states x → IsConfig r.states y → ((i : ℤ) → image_of r x i ≡ image_of r y i) → (s e : ℤ) (n : ℕ) → s +ℤ pos n ≡ e
+IsErasable-run : {r : LocalRule} {x y : Config} → IsRule r → IsConfig r.states x → IsConfig r.states y → ((i : ℤ) → image_of r x i ≡ image_of r y i)
+    → (s e : ℤ) (n : ℕ) → s +ℤ pos n ≡ e
     → run x s (r.width - 1) ≡ run y s (r.width - 1) → run x e (r.width - 1) ≡ run y e (r.width - 1)
     → run x s (n + (r.width - 1)) ≢ run y s (n + (r.width - 1)) → IsErasable r (run x s (n + (r.width - 1))) (run y s (n + (r.width - 1)))
 IsErasable-run {r} {x} {y} rule hx hy share s e n end front back other =
@@ -25,7 +26,8 @@ IsErasable-run {r} {x} {y} rule hx hy share s e n end front back other =
     }
 
 -- where no two words are an erasable pair, configurations that share an image and agree far out on both sides are equal
-pub agree_between : {r : LocalRule} {x y : Config} → IsRule r → NoneErasable r → IsConfig r.states x → IsConfig r.states y → ((i : ℤ) → image_of r x i ≡ image_of r y i)
+pub agree_between : {r : LocalRule} {x y : Config} → IsRule r → NoneErasable r → IsConfig r.states x → IsConfig r.states y
+    → ((i : ℤ) → image_of r x i ≡ image_of r y i)
     → AgreeFarLeft x y → AgreeFarRight x y → (i : ℤ) → x i ≡ y i
 agree_between {r} {x} {y} rule none hx hy share (p, left) (q, right) i =
     let m : ℕ = r.width - 1 in

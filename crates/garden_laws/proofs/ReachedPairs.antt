@@ -4,19 +4,18 @@ use Rattle.word_image.proofs.Common.{cases_eq, take-append-le, same_from_push, L
 use Rattle.pair_laws.proofs.Common.{HaveOneImage-none, follow-pair_of, follow-below, IsFirstOfRight-below}
 use Rattle.garden_laws.specs.ReachedPairs.{IsReached}
 use Rattle.garden_laws.specs.ReachedPairs.IsReached.{First, On}
-use Rattle.garden_laws.proofs.Exchange.{IsErasable-long, IsErasable-nodes}
+use Rattle.garden_laws.proofs.Exchange.{IsErasable-nodes}
 use Rattle.garden_laws.proofs.GardenOfEden.{IsSurjective-none_erasable, none_erasable-surjective}
 use Rattle.garden_laws.proofs.PairEnds.{last-below, pair_behind, first_of-behind, second_of-behind, HaveOneImage-follow, IsPush-some}
 
 -- with one letter more at the end, two words begin alike exactly where they did
-take-push : {r : LocalRule} {n : ℕ} {x y : List ℕ} (a b : ℕ) → HaveOneImage r n x y → take (r.width - 1) (x ++ a ∷ []) ≡ take (r.width - 1) (y ++ b ∷ []) ↔ (take (r.width - 1) x ≡ take (r.width - 1) y)
-take-push {r} {n} {x} {y} a b h =
-    let first : take (r.width - 1) (x ++ a ∷ []) ≡ take (r.width - 1) x = take-append-le (r.width - 1) x (a ∷ []) (omega (arith, h.first_long)) in
-    let second : take (r.width - 1) (y ++ b ∷ []) ≡ take (r.width - 1) y = take-append-le (r.width - 1) y (b ∷ []) (omega (arith, h.second_long)) in
-    ((λ e. sym first ∙ e ∙ second), (λ e. first ∙ e ∙ sym second))
+take-push : {r : LocalRule} {n : ℕ} {x y : List ℕ} (a b : ℕ) → HaveOneImage r n x y
+    → take (r.width - 1) (x ++ a ∷ []) ≡ take (r.width - 1) (y ++ b ∷ []) ↔ (take (r.width - 1) x ≡ take (r.width - 1) y)
+take-push a b h = grind (arith, take-append-le)
 
 -- of two words with one image and one beginning that differ, the pair of their last nodes is reached
-pub same_or_reached : {r : LocalRule} → IsRule r → (n : ℕ) (x y : List ℕ) → HaveOneImage r n x y → take (r.width - 1) x ≡ take (r.width - 1) y → (x ≡ y) ⊎ IsReached r (pair_behind r n x y)
+pub same_or_reached : {r : LocalRule} → IsRule r → (n : ℕ) (x y : List ℕ) → HaveOneImage r n x y → take (r.width - 1) x ≡ take (r.width - 1) y
+    → (x ≡ y) ⊎ IsReached r (pair_behind r n x y)
 same_or_reached {r} rule zero x y h front = inl (sym (take_all (r.width - 1) x (omega (arith, h.first_long))) ∙ front ∙ take_all (r.width - 1) y (omega (arith, h.second_long)))
 same_or_reached {r} rule (suc n) x y h front =
     let more : suc n ≡ n + 1 = omega arith in
@@ -57,7 +56,8 @@ pub record ReachingWords (r : LocalRule) (p : ℕ) : Type 0 where
   pub pair : pair_behind r n x y ≡ p
 
 -- a step leads two words with one image and one beginning to two different such words, if they or the letters differ
-ReachingWords-push : {r : LocalRule} {n p q : ℕ} {x y : List ℕ} → IsRule r → HaveOneImage r n x y → take (r.width - 1) x ≡ take (r.width - 1) y → pair_behind r n x y ≡ p → (a b : ℕ) → a < r.states → b < r.states
+ReachingWords-push : {r : LocalRule} {n p q : ℕ} {x y : List ℕ} → IsRule r → HaveOneImage r n x y → take (r.width - 1) x ≡ take (r.width - 1) y
+    → pair_behind r n x y ≡ p → (a b : ℕ) → a < r.states → b < r.states
     → follow r p a b ≡ Some q → ((x ≡ y) → a ≢ b) → ReachingWords r q
 ReachingWords-push {r} {n} {p} {q} {x} {y} rule h front e a b ha hb f other =
     let after = HaveOneImage-follow rule h a b ha hb (ap (λ s. follow r s a b) e ∙ f) in
@@ -86,14 +86,11 @@ words-reached rule (On p a b q reached ha hb f) =
 
 -- if the pair has two equal nodes, the words are an erasable pair
 pub IsErasable-words : {r : LocalRule} {p : ℕ} → (w : ReachingWords r p) → first_of r p ≡ second_of r p → IsErasable r w.x w.y
-IsErasable-words {r} w same =
-    let h = w.one_image in
-    IsErasable-nodes h w.different (ap (value r.states) w.same_front) (sym (first_of-behind h) ∙ ap (first_of r) w.pair ∙ same ∙ sym (sym (second_of-behind h) ∙ ap (second_of r) w.pair))
+IsErasable-words w same = grind (arith, first_of-behind, IsErasable-nodes)
 
 -- an erasable pair is two words with one image
 pub HaveOneImage-erasable : {r : LocalRule} {x y : List ℕ} → IsErasable r x y → HaveOneImage r (length x - (r.width - 1)) x y
-HaveOneImage-erasable h =
-    record { first = h.first; second = h.second; first_long = omega (arith, IsErasable-long h); second_long = omega (arith, IsErasable-long h, h.one_length); one_image = h.one_image }
+HaveOneImage-erasable h = grind arith
 
 -- the words of an erasable pair end with one node
 pub last-erasable : {r : LocalRule} {x y : List ℕ} → IsErasable r x y → drop (length x - (r.width - 1)) x ≡ drop (length x - (r.width - 1)) y
@@ -131,7 +128,8 @@ pub IsSurjective-pair_list : {r : LocalRule} {pairs : List ℕ} → IsRule r →
 IsSurjective-pair_list rule list = (IsSurjective-reached rule).1 (λ p reached. list.off_diagonal p (holds-reached (Contains _) list.firsts list.closed reached))
 
 -- where a rule is surjective, the list of the reached pairs is a pair list
-pub IsPairList-reached : {r : LocalRule} {pairs : List ℕ} → IsRule r → IsSurjective r → ((p : ℕ) → Contains pairs p ↔ IsReached r p) → IsPairList r pairs
+pub IsPairList-reached : {r : LocalRule} {pairs : List ℕ} → IsRule r → IsSurjective r → ((p : ℕ) → Contains pairs p ↔ IsReached r p)
+    → IsPairList r pairs
 IsPairList-reached rule every are = record {
   below = λ p listed. IsReached-below rule ((are p).0 listed);
   firsts = λ p h. (are p).1 (First p h);

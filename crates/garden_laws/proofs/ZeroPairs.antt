@@ -1,6 +1,6 @@
 -- Under a surjective rule as many words have the image 0 0 as there are nodes.
-use Rattle.std.proofs.Common.{◌≡◌, ℕ, suc, ◌+◌, ◌-◌, ◌*◌, ◌/◌, ◌%◌, ◌^◌, ◌<◌, ◌≤◌, ◌↔◌, List, [], ◌∷◌, ◌++◌, length, take, drop, slice_index, get_or, Bool, true, false, sym, ap, ap₂, ◌∙◌, arith, pow-suc, length-drop, ◌==◌, ◌&&◌, add-mul, mul_assoc, mul_comm, eq-eqb, length-take-le}
-use Rattle.word_image.proofs.Common.{false≢true, Decides-eqb, mul-add-lt, div-mul-add, mod-mul-add, All-cons, All-nil, LocalRule, IsRule, IsWord, value, node_count, image, IsSurjective, value-drop, value-front}
+use Rattle.std.proofs.Common.{◌≡◌, ℕ, suc, ◌+◌, ◌-◌, ◌*◌, ◌/◌, ◌%◌, ◌^◌, ◌<◌, ◌≤◌, ◌↔◌, List, [], ◌∷◌, ◌++◌, length, take, drop, slice_index, Bool, true, false, sym, ap, ap₂, ◌∙◌, arith, pow-suc, length-drop, ◌==◌, ◌&&◌, add-mul, mul_assoc, mul_comm, length-take-le}
+use Rattle.word_image.proofs.Common.{false≢true, mul-add-lt, div-mul-add, mod-mul-add, All-cons, All-nil, LocalRule, IsRule, IsWord, value, node_count, image, IsSurjective, value-drop, value-front}
 use Rattle.pair_laws.proofs.Common.{image-window, image-cut}
 use Rattle.garden_laws.specs.ZeroPairs.{count_below, gives_zeros, zero_pairs}
 use Rattle.garden_laws.proofs.TestedWords.{count_below-image}
@@ -26,10 +26,7 @@ both_true false b e = absurd (false≢true e)
 
 -- two letters are tested for 0
 two_zeros : (a b : ℕ) → (((a == 0) && (b == 0)) ≡ true) ↔ ((a ∷ b ∷ []) ≡ (0 ∷ 0 ∷ []))
-two_zeros a b = (
-  λ yes. let both = both_true (a == 0) (b == 0) yes in ap₂ (λ (c d : ℕ). c ∷ d ∷ []) ((Decides-eqb a 0).0 both.0) ((Decides-eqb b 0).0 both.1),
-  λ same. ap₂ (λ (c d : Bool). c && d) (eq-eqb a 0 (ap (λ w. get_or w 0 0) same)) (eq-eqb b 0 (ap (λ w. get_or w 1 0) same)),
-)
+two_zeros a b = grind arith
 
 -- under a surjective rule as many words have the image 0 0 as there are nodes
 pub zero_pairs-surjective : {r : LocalRule} → IsRule r → IsSurjective r → zero_pairs r.states r.table ≡ node_count r

@@ -9,11 +9,13 @@ pub length-classes-le : {r : LocalRule} {classes : List ℕ} {e : ℕ} → IsCla
 length-classes-le {r} x = length-search-le x (2 ^ node_count r) (omega (arith, pow_pos (node_count r))) (λ s a t step. step.closure.of.within)
 
 -- each class is a set of nodes
-pub class-below : {r : LocalRule} {classes : List ℕ} {e : ℕ} → IsClassSearch r classes e → (i : ℕ) → i < length classes → slice_index classes i < 2 ^ node_count r
+pub class-below : {r : LocalRule} {classes : List ℕ} {e : ℕ} → IsClassSearch r classes e → (i : ℕ) → i < length classes
+    → slice_index classes i < 2 ^ node_count r
 class-below {r} {classes} x i l = search-below x (2 ^ node_count r) (omega (arith, pow_pos (node_count r))) (λ s a t step. step.closure.of.within) i (slice_index classes i) (slice_get-get_or classes i 0 l)
 
 -- if all edges have been followed, a closed step from a class leads to a class
-class_after : {r : LocalRule} {classes : List ℕ} {e : ℕ} → IsClassSearch r classes e → length classes * r.states ≤ e → (i a to : ℕ) → i < length classes → a < r.states → IsClosedStep r (slice_index classes i) a to
+class_after : {r : LocalRule} {classes : List ℕ} {e : ℕ} → IsClassSearch r classes e → length classes * r.states ≤ e → (i a to : ℕ)
+    → i < length classes → a < r.states → IsClosedStep r (slice_index classes i) a to
     → (j : ℕ) × (slice_get classes j ≡ Some to)
 class_after {r} {classes} x closed i a to inside letter step =
     let (y, at, state) = search_place x i (slice_index classes i) (slice_get-get_or classes i 0 inside) in
@@ -22,14 +24,16 @@ class_after {r} {classes} x closed i a to inside letter step =
     (j, subst (λ l. slice_get l j ≡ Some to) x.lists (mapped_at (λ v. v.state) x.tree j z stands ∙ ap Some leads))
 
 -- a state stands at one place of a search
-one_place : {Step : ℕ → ℕ → ℕ → Type 0} {k start : ℕ} {states : List ℕ} {e : ℕ} → IsSearch Step k start states e → (i j s : ℕ) → slice_get states i ≡ Some s → slice_get states j ≡ Some s → i ≡ j
+one_place : {Step : ℕ → ℕ → ℕ → Type 0} {k start : ℕ} {states : List ℕ} {e : ℕ} → IsSearch Step k start states e → (i j s : ℕ)
+    → slice_get states i ≡ Some s → slice_get states j ≡ Some s → i ≡ j
 one_place x i j s at also =
     let (y, here, same) = search_place x i s at in
     let (z, there, other) = search_place x j s also in
     x.queue.apart i j y z here there (same ∙ sym other)
 
 -- a state stands somewhere in a search or nowhere
-place_in : {Step : ℕ → ℕ → ℕ → Type 0} {k start : ℕ} {states : List ℕ} {e : ℕ} → IsSearch Step k start states e → (s : ℕ) → (place : Option ℕ) × IsPlaceOf states s place
+place_in : {Step : ℕ → ℕ → ℕ → Type 0} {k start : ℕ} {states : List ℕ} {e : ℕ} → IsSearch Step k start states e → (s : ℕ)
+    → (place : Option ℕ) × IsPlaceOf states s place
 place_in {states = states} x s =
     ⊎_elim
     (λ (i, inside, same).
@@ -39,7 +43,8 @@ place_in {states = states} x s =
     (some_below (λ i. slice_index states i ≡ s) (λ i. cases_eq (slice_index states i) s) (length states))
 
 -- if all edges have been followed, there is a least automaton, of these classes
-pub HasClasses-closed : {r : LocalRule} {closures classes : List ℕ} {e : ℕ} → IsRule r → AreClosures r closures → IsClassSearch r classes e → length classes * r.states ≤ e → HasClasses r closures classes
+pub HasClasses-closed : {r : LocalRule} {closures classes : List ℕ} {e : ℕ} → IsRule r → AreClosures r closures → IsClassSearch r classes e
+    → length classes * r.states ≤ e → HasClasses r closures classes
 HasClasses-closed {r} {closures} {classes} rule have x closed =
     let k = r.states in
     let (words, are) = AreClassWords-closed rule have x closed in
@@ -53,10 +58,8 @@ HasClasses-closed {r} {closures} {classes} rule have x closed =
       λ i a is below. let (row, column) = same_from_place i a (e / k) (e % k) k below letter (is ∙ same) in subst₂ (λ g b. Leads g b j) (sym row) (sym column) there,
     )) in
     let full : length next ≡ size = sym long ∙ length-replicate {A = ℕ} size 0 in
-    let entry : (i a : ℕ) → i < length classes → a < k → Leads i a (slice_index next (i * k + a)) = λ i a inside letter.
-    let row : suc i * k ≤ length classes * k = mul-le-mul_right k inside in
-    let within : i * k + a < length next = omega (arith, suc-mul i k, full) in
-    fits (i * k + a) (slice_index next (i * k + a)) (slice_get-get_or next (i * k + a) 0 within) i a refl letter in
+    let entry : (i a : ℕ) → i < length classes → a < k → Leads i a (slice_index next (i * k + a)) =
+    grind (arith, mul-le-mul_right, suc-mul, slice_get-get_or) in
     let (dead, place) = place_in x 0 in
     record {
       rule = rule;
@@ -82,9 +85,11 @@ HasClasses-closed {r} {closures} {classes} rule have x closed =
     }
 
 -- it is the least automaton
-pub the_automaton : {r q : LocalRule} {closures classes : List ℕ} {m : Automaton} → (h : HasClasses r closures classes) → r ≡ q → IsLeastAutomaton q m → h.automaton ≡ m
+pub the_automaton : {r q : LocalRule} {closures classes : List ℕ} {m : Automaton} → (h : HasClasses r closures classes) → r ≡ q → IsLeastAutomaton q m
+    → h.automaton ≡ m
 the_automaton {m = m} h same least = IsLeastAutomaton-unique h.rule h.least (subst (λ r. IsLeastAutomaton r m) (sym same) least)
 
 -- a class of the least automaton is listed
-pub class_inside : {r q : LocalRule} {closures classes : List ℕ} → HasClasses r closures classes → r ≡ q → (i : ℕ) → ((m : Automaton) → IsLeastAutomaton q m → i < m.classes) → i < length classes
+pub class_inside : {r q : LocalRule} {closures classes : List ℕ} → HasClasses r closures classes → r ≡ q → (i : ℕ)
+    → ((m : Automaton) → IsLeastAutomaton q m → i < m.classes) → i < length classes
 class_inside h same i inside = omega (arith, h.long, inside h.automaton (subst (λ r. IsLeastAutomaton r h.automaton) same h.least))

@@ -1,6 +1,5 @@
 -- Lists of different sets, with an index by set.
-use Rattle.image_minimal.proofs.Common.{◌≡◌, ℕ, ◌-◌, ◌<◌, ◌≤◌, Bool, true, if◌then◌else◌, take, replicate, length-replicate, get_or-replicate, List, [], ◌∷◌, ◌++◌, length, set, slice_index, Option, Some, None, Contains, refl, sym, ap, ◌∙◌, subst, arith, ⊎_elim, slice_get, length-set, cases_lt, same_Some, slice_get-get_or, none-some, slice_get-append, slice_get-push, slice_get-push_cases, Contains-slice_get, slice_get-Contains, twice_below, IsPlaceOf, IsExactIndex, each-set}
-use Rattle.std.proofs.Math.Seq.{take-nil}
+use Rattle.image_minimal.proofs.Common.{◌≡◌, ℕ, ◌<◌, ◌≤◌, List, [], ◌∷◌, ◌++◌, length, set, slice_index, Option, Some, None, Contains, refl, sym, ap, ◌∙◌, arith, ⊎_elim, slice_get, length-set, cases_lt, same_Some, slice_get-get_or, none-some, slice_get-append, slice_get-push, slice_get-push_cases, Contains-slice_get, slice_get-Contains, twice_below, IsPlaceOf, IsExactIndex, each-set}
 
 -- a set without a place isn't in the list
 pub IsPlaceOf-none : (sets : List ℕ) (set : ℕ) (place : Option ℕ) → IsPlaceOf sets set place → place ≡ None → ¬ Contains sets set
@@ -11,22 +10,6 @@ pub IsPlaceOf-one : (sets : List ℕ) (set : ℕ) (place other : Option ℕ) →
 IsPlaceOf-one sets set None None h g = refl
 IsPlaceOf-one sets set None (Some i) h g = (h i).1 ((g i).0 refl)
 IsPlaceOf-one sets set (Some i) other h g = sym ((g i).1 ((h i).0 refl))
-
--- an empty list of places that was filled up is an index of nothing
-pub IsExactIndex-filled : (n len : ℕ) (old new : List (Option ℕ)) (ok : Bool) → n ≤ 65536 → ok ≡ true → old ≡ [] → len ≡ 0 → new ≡ (if ok then take n old ++ replicate (n - len) None else old) → IsExactIndex [] new
-IsExactIndex-filled n len old new ok small succeeds empty none is =
-    let all : n - 0 ≡ n = omega arith in
-    let places : new ≡ replicate n None = is ∙ rw (succeeds, empty, none, all, take-nil n) refl in
-    let long = length-replicate {A = Option ℕ} n None in
-    rw places (record {
-      most = omega (arith, long, small);
-      within = λ i set at. absurd (none-some set at);
-      each = λ set l i. ((λ e. absurd (none-some i (sym (get_or-replicate n set None None (omega (arith, long))) ∙ e))), (λ at. absurd (none-some set at)));
-    })
-
--- an index of nothing
-pub IsExactIndex-start : IsExactIndex [] []
-IsExactIndex-start = record { most = omega arith; within = λ i set at. absurd (none-some set at); each = λ set l. absurd (omega (arith, l)) }
 
 -- a list with an exact index has at most 65,536 sets
 pub length-listed-le : {sets : List ℕ} {places : List (Option ℕ)} → IsExactIndex sets places → length sets ≤ 65536
@@ -49,16 +32,11 @@ pub IsExactIndex-push : {sets : List ℕ} {places : List (Option ℕ)} → IsExa
     → IsExactIndex (sets ++ new ∷ []) (set places new (Some (length sets)))
 IsExactIndex-push {sets} {places} h new small none = record {
   most = omega (arith, length-set places new (Some (length sets)), h.most);
-  within = λ i s at.
-      let long = length-set places new (Some (length sets)) in
-      ⊎_elim (λ before. omega (arith, long, h.within i s before)) (λ added. omega (arith, long, added.1, small)) (slice_get-push_cases sets new i s at);
+  within = grind (arith, length-set, slice_get-push_cases);
   each = each-set (IsPlaceOf (sets ++ new ∷ [])) places new None (Some (length sets)) small
       (λ s l other i. (
         (λ e. slice_get-append sets (new ∷ []) i s ((h.each s l i).0 e)),
         (λ at. ⊎_elim (λ before. (h.each s l i).1 before) (λ added. absurd (other (sym added.1))) (slice_get-push_cases sets new i s at)),
       ))
-      (λ i. (
-        (λ e. subst (λ j. slice_get (sets ++ new ∷ []) j ≡ Some new) (same_Some (length sets) i e) (slice_get-push sets new)),
-        (λ at. ⊎_elim (λ before. absurd (none (Contains-slice_get sets i new before))) (λ added. ap Some (sym added.0)) (slice_get-push_cases sets new i new at)),
-      ));
+      (λ i. grind (arith, same_Some, slice_get-push, Contains-slice_get, slice_get-push_cases));
 }

@@ -1,18 +1,10 @@
 -- Ways from parent to parent: what halving them keeps, and what joining two roots does.
-use Rattle.image_minimal.proofs.Common.{◌≡◌, ◌≢◌, ℕ, ◌<◌, ◌≤◌, ◌⊎◌, List, length, set, slice_index, Bool, true, false, true≢false, refl, sym, ap, ◌∙◌, arith, ⊎_elim, length-set, AreColours, IsFalling, IsOnWay, IsJoin, range_with_len, get_or-range_with_len, length-range_with_len, each-set}
+use Rattle.image_minimal.proofs.Common.{◌≡◌, ◌≢◌, ℕ, ◌<◌, ◌≤◌, ◌⊎◌, List, length, set, slice_index, Bool, true, false, true≢false, sym, ap, ◌∙◌, arith, ⊎_elim, length-set, AreColours, IsFalling, IsOnWay, IsJoin, range_with_len, get_or-range_with_len, length-range_with_len, each-set}
 use Rattle.image_minimal.proofs.laws.ClassCounts.{class_count-lower, class_count-root}
 
 -- each of the numbers is its own parent
 pub IsFalling-numbers : (n : ℕ) → IsFalling (range_with_len 0 n)
 IsFalling-numbers n x l = omega (arith, get_or-range_with_len 0 n x 0 (omega (arith, l, length-range_with_len 0 n)))
-
--- a way of no step
-pub IsOnWay-start : {parents : List ℕ} → IsFalling parents → (number : ℕ) → IsOnWay parents parents number number
-IsOnWay-start falling number = record {
-  halved = record { long = refl; falling = falling; colours = λ f of. of; roots = λ x l root. root; no_more = omega arith };
-  within = omega arith;
-  one = λ f of. refl;
-}
 
 -- a number that is no root leads to the parent of its parent, and the way goes on from there
 pub IsOnWay-next : {old new : List ℕ} {number at : ℕ} → IsOnWay old new number at → number < length old → slice_index new at ≢ at
@@ -49,15 +41,12 @@ IsJoin-one first second same = record {
 }
 
 -- of two different roots the greater one is led to the lesser one
-pub IsJoin-roots : {old middle new : List ℕ} {x y a b : ℕ} → IsOnWay old middle x a → IsOnWay middle new y b → x < length old → y < length old → slice_index middle a ≡ a → slice_index new b ≡ b
+pub IsJoin-roots : {old middle new : List ℕ} {x y a b : ℕ} → IsOnWay old middle x a → IsOnWay middle new y b → x < length old → y < length old
+    → slice_index middle a ≡ a → slice_index new b ≡ b
     → (high low : ℕ) → low < high → ((high ≡ b) × (low ≡ a)) ⊎ ((high ≡ a) × (low ≡ b)) → IsJoin old (set new high low) x y true
 IsJoin-roots {old} {middle} {new} {a = a} {b = b} first second inside also root_a root_b high low less which =
     let still : slice_index new a ≡ a = second.halved.roots a (omega (arith, first.within, first.halved.long)) root_a in
-    let high_is : (high < length new) × (slice_index new high ≡ high) =
-    ⊎_elim
-    (λ (is, _). (omega (arith, is, second.within, first.halved.long, second.halved.long), rw is root_b))
-    (λ (is, _). (omega (arith, is, first.within, first.halved.long, second.halved.long), rw is still))
-    which in
+    let high_is : (high < length new) × (slice_index new high ≡ high) = grind arith in
     record {
       long = length-set new high low ∙ second.halved.long ∙ first.halved.long;
       one = λ f of never. absurd (true≢false never);

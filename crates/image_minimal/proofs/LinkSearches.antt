@@ -11,8 +11,10 @@ pub record IsLinkSearchAt (r q : LocalRule) (links : List Link) (parents : List 
   pub search : IsLinkSearch r q links parents (place * r.states + letter)
 
 -- one edge more leads to a pair whose sets are in one class
-pub IsLinkSearchAt-there : {r q : LocalRule} {links : List Link} {parents new : List ℕ} {place letter : ℕ} {firsts seconds : List ℕ} → IsLinkSearchAt r q links parents place firsts seconds letter → letter < r.states
-    → IsJoin parents new (slice_index firsts letter) (2 ^ node_count r + slice_index seconds letter) false → IsLinkSearchAt r q links new place firsts seconds (letter + 1)
+pub IsLinkSearchAt-there : {r q : LocalRule} {links : List Link} {parents new : List ℕ} {place letter : ℕ} {firsts seconds : List ℕ}
+    → IsLinkSearchAt r q links parents place firsts seconds letter → letter < r.states
+    → IsJoin parents new (slice_index firsts letter) (2 ^ node_count r + slice_index seconds letter) false
+    → IsLinkSearchAt r q links new place firsts seconds (letter + 1)
 IsLinkSearchAt-there {r} {q} {links} {parents} {new} {place} {letter} h below join =
     let n = 2 ^ node_count r in
     let x = h.link in
@@ -29,8 +31,10 @@ IsLinkSearchAt-there {r} {q} {links} {parents} {new} {place} {letter} h below jo
     record { link = x; here = h.here; first = h.first; second = h.second; search = subst (IsLinkSearch r q links new) (omega arith) more }
 
 -- one edge more leads to a pair whose sets aren't in one class, which is linked
-pub IsLinkSearchAt-new : {r q : LocalRule} {links : List Link} {parents new : List ℕ} {place letter : ℕ} {firsts seconds : List ℕ} → IsLinkSearchAt r q links parents place firsts seconds letter → letter < r.states
-    → nat_eq (slice_index firsts letter) 0 ≡ nat_eq (slice_index seconds letter) 0 → IsJoin parents new (slice_index firsts letter) (2 ^ node_count r + slice_index seconds letter) true
+pub IsLinkSearchAt-new : {r q : LocalRule} {links : List Link} {parents new : List ℕ} {place letter : ℕ} {firsts seconds : List ℕ}
+    → IsLinkSearchAt r q links parents place firsts seconds letter → letter < r.states
+    → nat_eq (slice_index firsts letter) 0 ≡ nat_eq (slice_index seconds letter) 0
+    → IsJoin parents new (slice_index firsts letter) (2 ^ node_count r + slice_index seconds letter) true
     → IsLinkSearchAt r q (links ++ record { first = slice_index firsts letter; second = slice_index seconds letter; parent = place; letter = letter } ∷ []) new place firsts seconds (letter + 1)
 IsLinkSearchAt-new {r} {q} {links} {new = new} {place} {letter} {firsts} {seconds} h below even join =
     let k = r.states in

@@ -1,16 +1,10 @@
 -- A search through sets of nodes that are put into a list, and the unread sets that one lists.
-use Rattle.image_minimal.proofs.Common.{◌≡◌, ℕ, suc, ◌+◌, ◌*◌, ◌<◌, ◌≤◌, List, [], ◌∷◌, ◌++◌, length, slice_index, Some, Contains, refl, sym, ap, ◌∙◌, subst, arith, ⊎_elim, slice_get, mul-le-mul_right, suc-mul, slice_get_within, slice_get-get_or, slice_get-append, LocalRule, Leads, Place, IsQueue, IsSearch, Leads-induct, place_of_listed, Contains-state, IsSearch-start, IsSearch-there, IsSearch-new, length-search, TreeSpells-some, Leads-spelled, IsBack, IsUnread, IsUnreadSet, IsInserted, AreUnreadSets}
+use Rattle.image_minimal.proofs.Common.{◌≡◌, ℕ, suc, ◌+◌, ◌*◌, ◌<◌, ◌≤◌, List, [], ◌∷◌, length, slice_index, Some, Contains, refl, sym, ap, ◌∙◌, subst, arith, ⊎_elim, slice_get, mul-le-mul_right, suc-mul, slice_get_within, slice_get-get_or, slice_get-append, LocalRule, Leads, Place, IsQueue, IsSearch, Leads-induct, place_of_listed, Contains-state, IsSearch-start, IsSearch-there, IsSearch-new, length-search, TreeSpells-some, Leads-spelled, IsBack, IsUnread, IsUnreadSet, IsInserted, AreUnreadSets}
 
 -- at the beginning the start is put into an empty list
-pub IsSearch-first : (Step : ℕ → ℕ → ℕ → Type 0) (k : ℕ) {start : ℕ} {old new : List ℕ} → old ≡ [] → IsInserted old new start → IsSearch Step k start new (0 * k)
-IsSearch-first Step k {start} {old} {new} none h =
-    let alone : new ≡ start ∷ [] =
-    ⊎_elim
-    (λ (_, (i, inside, _)). absurd (omega (arith, ap length none)))
-    (λ (_, longer). longer ∙ ap (λ l. l ++ start ∷ []) none)
-    h in
-    let here : IsSearch Step k start new 0 = rw alone (IsSearch-start Step k start) in
-    subst (IsSearch Step k start new) (omega arith) here
+pub IsSearch-first : (Step : ℕ → ℕ → ℕ → Type 0) (k : ℕ) {start : ℕ} {old new : List ℕ} → old ≡ [] → IsInserted old new start
+    → IsSearch Step k start new (0 * k)
+IsSearch-first Step k {start} {old} {new} none h = grind (arith, IsSearch-start)
 
 -- a search in which the steps on the first letters have been followed from the state at a place
 pub record IsSearchAt (Step : ℕ → ℕ → ℕ → Type 0) (k start : ℕ) (states : List ℕ) (place from letter : ℕ) : Type 0 where
@@ -18,24 +12,20 @@ pub record IsSearchAt (Step : ℕ → ℕ → ℕ → Type 0) (k start : ℕ) (s
   pub here : slice_get states place ≡ Some from
 
 -- before the first letter
-pub IsSearchAt-start : {Step : ℕ → ℕ → ℕ → Type 0} {k start : ℕ} {states : List ℕ} {place from : ℕ} → IsSearch Step k start states (place * k) → place < length states → from ≡ slice_index states place
+pub IsSearchAt-start : {Step : ℕ → ℕ → ℕ → Type 0} {k start : ℕ} {states : List ℕ} {place from : ℕ} → IsSearch Step k start states (place * k)
+    → place < length states → from ≡ slice_index states place
     → IsSearchAt Step k start states place from 0
 IsSearchAt-start {Step} {k} {start} {states} {place} x inside is = record { search = subst (IsSearch Step k start states) (omega arith) x; here = slice_get-get_or states place 0 inside ∙ ap Some (sym is) }
 
 -- one more step is followed, to a state that is put into the list
-pub IsSearchAt-insert : {Step : ℕ → ℕ → ℕ → Type 0} {k start : ℕ} {states new : List ℕ} {place from letter to : ℕ} → IsSearchAt Step k start states place from letter → letter < k
+pub IsSearchAt-insert : {Step : ℕ → ℕ → ℕ → Type 0} {k start : ℕ} {states new : List ℕ} {place from letter to : ℕ}
+    → IsSearchAt Step k start states place from letter → letter < k
     → Step from letter to → ((t : ℕ) → Step from letter t → to ≡ t) → IsInserted states new to → IsSearchAt Step k start new place from (letter + 1)
 IsSearchAt-insert {Step} {k} {start} {states} {new} {place} {from} {letter} {to} h below step only added =
     let next : place * k + letter + 1 ≡ place * k + (letter + 1) = omega arith in
     ⊎_elim
-    (λ (same, there). subst (λ l. IsSearchAt Step k start l place from (letter + 1)) (sym same) (record {
-      search = subst (IsSearch Step k start states) next (IsSearch-there place letter from h.search below h.here (λ t other. subst (Contains states) (only t other) there));
-      here = h.here;
-    }))
-    (λ (absent, longer). subst (λ l. IsSearchAt Step k start l place from (letter + 1)) (sym longer) (record {
-      search = subst (IsSearch Step k start (states ++ to ∷ [])) next (IsSearch-new place letter from to h.search below h.here step (λ t other. sym (only t other)) absent);
-      here = slice_get-append states (to ∷ []) place from h.here;
-    }))
+    (λ (same, there). grind (arith, IsSearch-there))
+    (λ (absent, longer). grind (arith, IsSearch-new, slice_get-append))
     added
 
 -- where steps backwards lead is an unread set
@@ -53,7 +43,8 @@ listed_unread {r} {tree} {e} q closed (a ∷ z) set (rest, (letter, back), unrea
     (found.0, found.1, found.2, found.3)
 
 -- where all edges are followed exactly the unread sets are listed
-pub AreUnreadSets-closed : {r : LocalRule} {sets : List ℕ} {e : ℕ} → IsSearch (IsBack r) r.states 0 sets e → length sets * r.states ≤ e → AreUnreadSets r sets
+pub AreUnreadSets-closed : {r : LocalRule} {sets : List ℕ} {e : ℕ} → IsSearch (IsBack r) r.states 0 sets e → length sets * r.states ≤ e
+    → AreUnreadSets r sets
 AreUnreadSets-closed {r} {sets} {e} x closed set = (
   (λ has.
       let (i, y, at, state) = place_of_listed x.tree set (subst (λ l. Contains l set) (sym x.lists) has) in

@@ -9,7 +9,8 @@ abbrev family_word : {r : LocalRule} {sets : List ℕ} → IsFamily r sets → �
 family_word family i = get_or family.words i []
 
 -- the word that a family has for the set at a place is the least one of its set
-family_word-least : {r : LocalRule} {sets : List ℕ} → (family : IsFamily r sets) (i : ℕ) → i < length sets → IsLeastWordOf r (slice_index sets i) (family_word family i)
+family_word-least : {r : LocalRule} {sets : List ℕ} → (family : IsFamily r sets) (i : ℕ) → i < length sets
+    → IsLeastWordOf r (slice_index sets i) (family_word family i)
 family_word-least {r} {sets} family i below = paired_at (IsLeastWordOf r) sets family.words i 0 [] family.each below
 
 -- no word of a set has a lesser number than its least word
@@ -33,9 +34,10 @@ family_word-ascending {r} {sets} family p (suc q) le below =
     (cases_eq p (suc q))
 
 -- no word of the set has a lesser number than its word
-family_word-le : {r : LocalRule} {sets : List ℕ} → (family : IsFamily r sets) (i : ℕ) → i < length sets → (u : List ℕ) (set : ℕ) → IsLastSet r u set → slice_index sets i ≡ set
+family_word-le : {r : LocalRule} {sets : List ℕ} → (family : IsFamily r sets) (i : ℕ) → i < length sets → (u : List ℕ) (set : ℕ) → IsLastSet r u set
+    → slice_index sets i ≡ set
     → word_number r.states (family_word family i) ≤ word_number r.states u
-family_word-le {r} family i below u set last same = least_number (family_word-least family i below) (subst (IsLastSet r u) (sym same) last)
+family_word-le {r} family i below u set last same = least_number (family_word-least family i below) (rw same last)
 
 -- a number of two digits is at most another if its first digit is less, or equal and its last digit at most the other's
 digits-le : (x y a b k : ℕ) → a < k → x ≤ y → (x ≡ y → a ≤ b) → x * k + a ≤ y * k + b

@@ -1,7 +1,7 @@
 -- Marks on the sets that contain another set, one node more at a time.
 use Rattle.std.proofs.Common.{◌≡◌, ◌≢◌, ℕ, ◌+◌, ◌-◌, ◌*◌, ◌/◌, ◌%◌, ◌^◌, ◌<◌, ◌≤◌, ◌↔◌, ◌⊎◌, inl, inr, List, length, slice_index, slice_set, take, drop, ◌++◌, IsBitSet, bit_and, bit_or, ap, ◌∙◌, subst, arith, ⊎_elim, w16}
 use Rattle.std.proofs.Math.Pow.{pow-lt, pow_mono}
-use Rattle.std.proofs.lemmas.Nat.Bits.{and_pow, bit_at_and, bit_at_not, bit_at_above, bit_at-lt, bit_at-pow_same, bit_at-pow_other, same_from_bits}
+use Rattle.std.proofs.lemmas.Nat.Bits.{and_pow, bit_at_and, bit_at_not, bit_at_above, bit_at-pow_same, bit_at-pow_other, same_from_bits}
 use Rattle.word_image.proofs.Common.{bit_at, cases_eq, cases_lt, get_or_default, take-append_seam, and-not, and_comm, one_shl, some_below, bit_at-IsBitSet}
 use Rattle.pair_laws.proofs.Common.{HasBit-or}
 use Rattle.image_subsets.specs.Marks.{IsSetMarked, IsPart, HoldsWithout, IsSpreadTo, AreListed, ContainsBy, AreMarksTo, AreAbove, AreBeyond, HoldsSmaller}
@@ -14,17 +14,12 @@ without-bit x u i small node has =
     let minus : x - 2 ^ u ≡ bit_and (65535 - 2 ^ u) x =
     omega (arith, and-not 16 (2 ^ u) x (pow-lt node) small, and_comm (2 ^ u) x, and_pow x u, ap (λ b. b * 2 ^ u) one) in
     let both = bit_at_and (65535 - 2 ^ u) x i in
-    let others = bit_at_not w16 (2 ^ u) i (pow-lt node) in
-    rw minus (grind (arith, cases_eq i u, cases_lt i 16, both, others, bit_at-pow_same u, bit_at-pow_other u i, bit_at_above x 16 i small, bit_at-lt x i))
+    rw minus (grind (arith, bit_at_not w16 (2 ^ u) i (pow-lt node), bit_at-pow_same u, bit_at-pow_other u i, bit_at_above x 16 i small))
 
 -- sets that lack the node keep their marks, so that the rows may be the rows from which marks are spread
-pub HoldsWithout-same : {u n : ℕ} {old now : List ℕ} → IsSpreadTo u n old old now → u < 16 → (x : ℕ) → x < 2 ^ 16 → HoldsWithout now u x ↔ HoldsWithout old u x
-HoldsWithout-same {u} h node x small =
-    let lacks : IsBitSet x u → ¬ IsBitSet (x - 2 ^ u) u =
-    λ has some. omega (arith, without-bit x u u small node has, (bit_at-IsBitSet (x - 2 ^ u) u).0 some) in (
-      (λ (has, marked). (has, ⊎_elim (λ old. old) (λ more. absurd (lacks has more.1.0)) ((h.marked (x - 2 ^ u)).0 marked))),
-      (λ (has, marked). (has, (h.marked (x - 2 ^ u)).1 (inl marked))),
-    )
+pub HoldsWithout-same : {u n : ℕ} {old now : List ℕ} → IsSpreadTo u n old old now → u < 16 → (x : ℕ) → x < 2 ^ 16
+    → HoldsWithout now u x ↔ HoldsWithout old u x
+HoldsWithout-same h node x small = grind (arith, without-bit, bit_at-IsBitSet)
 
 -- the marks of one row more are spread
 pub IsSpreadTo-row : {u i : ℕ} (more : ℕ) {others old now : List ℕ} → IsSpreadTo u (64 * i) others old now → i < length now
@@ -52,10 +47,7 @@ IsSpreadTo-row {u} {i} more {others} {now = now} h inside exact = record {
 -- at the beginning only the sets of the list are marked
 pub AreMarksTo-start : (sets : List ℕ) (n : ℕ) (rows : List ℕ) → AreListed sets n rows → AreMarksTo sets n 0 rows
 AreMarksTo-start sets n rows h x below = (
-  (λ marked.
-      let (i, inside, at) = (h x below).0 marked in
-      let same : slice_index sets i ≡ x = get_or_default sets i 0 x inside ∙ at in
-      (i, inside, λ v. let bits = ap (λ s. bit_at s v) same in (omega (arith, bits), λ _. bits))),
+  grind (arith, get_or_default),
   (λ (i, inside, contains).
       let same = same_from_bits (slice_index sets i) x (λ v. (contains v).1 (omega arith)) in
       (h x below).1 (i, inside, get_or_default sets i x 0 inside ∙ same)),
@@ -65,30 +57,24 @@ AreMarksTo-start sets n rows h x below = (
 ContainsBy-next : (s x u : ℕ) → x < 2 ^ 16 → u < 16 → ContainsBy (u + 1) s x ↔ (ContainsBy u s x ⊎ (IsBitSet x u × ContainsBy u s (x - 2 ^ u)))
 ContainsBy-next s x u small node = (
   (λ h. ⊎_elim
-      (λ same. inl (λ i. grind (arith, h i, cases_eq i u, same)))
-      (λ differ.
-      let has = (bit_at-IsBitSet x u).1 (omega (arith, differ, h u, bit_at-lt x u)) in
-      inr (has, λ i. grind (arith, h i, h u, without-bit x u i small node has, differ)))
+      (λ same. inl (λ i. grind arith))
+      (grind (arith, bit_at-IsBitSet, without-bit))
       (cases_eq (bit_at s u) (bit_at x u))),
-  (λ either. ⊎_elim
-      (λ h i. grind (arith, h i))
-      (λ (has, h) i. grind (arith, h i, without-bit x u i small node has))
-      either),
+  (λ either. grind (arith, without-bit)),
 )
 
 -- the marks of one node more are spread
 pub AreMarksTo-next : (sets : List ℕ) (n u : ℕ) (old new : List ℕ) (count : ℕ) → n ≤ 16 → u < n → 2 ^ n ≤ count → IsSpreadTo u count old old new
     → AreMarksTo sets n u old → AreMarksTo sets n (u + 1) new
 AreMarksTo-next sets n u old new count few node all spread marks x below =
-    let small : x < 2 ^ 16 = omega (arith, below, pow_mono few) in
-    let next = λ (j : ℕ). ContainsBy-next (slice_index sets j) x u small (omega (arith, node, few)) in (
+    let next = λ (j : ℕ). ContainsBy-next (slice_index sets j) x u (omega (arith, pow_mono few)) (omega arith) in (
       (λ marked. ⊎_elim
           (λ before. let (j, inside, contains) = (marks x below).0 before in (j, inside, (next j).1 (inl contains)))
-          (λ (_, (has, lower)). let (j, inside, contains) = (marks (x - 2 ^ u) (omega (arith, below))).0 lower in (j, inside, (next j).1 (inr (has, contains))))
+          (λ (_, (has, lower)). let (j, inside, contains) = (marks (x - 2 ^ u) (omega arith)).0 lower in (j, inside, (next j).1 (inr (has, contains))))
           ((spread.marked x).0 marked)),
       (λ (j, inside, contains). (spread.marked x).1 (⊎_elim
           (λ before. inl ((marks x below).1 (j, inside, before)))
-          (λ (has, lower). inr (omega (arith, below, all), (has, (marks (x - 2 ^ u) (omega (arith, below))).1 (j, inside, lower))))
+          (λ (has, lower). inr (omega arith, (has, (marks (x - 2 ^ u) (omega arith)).1 (j, inside, lower))))
           ((next j).0 contains))),
     )
 
@@ -104,20 +90,12 @@ lacking n s x small part other = ⊎_elim
 pub AreBeyond-above : (sets above rows : List ℕ) {n : ℕ} → n ≤ 16 → AreAbove sets n above
     → ((x : ℕ) → x < 2 ^ n → (IsSetMarked rows x ↔ HoldsSmaller above n x)) → AreBeyond sets n rows
 AreBeyond-above sets above rows {n} few marked exact x below =
-    let small : x < 2 ^ 16 = omega (arith, below, pow_mono few) in
-    let smaller : (u : ℕ) → x - 2 ^ u < 2 ^ n = λ u. omega (arith, below) in (
-      (λ there.
-          let (u, node, (has, lower)) = (exact x below).0 there in
-          let (j, inside, contains) = (marked (x - 2 ^ u) (smaller u)).0 lower in
-          let bits = λ (i : ℕ). without-bit x u i small (omega (arith, node, few)) has in (
-            j,
-            inside,
-            (λ same. omega (arith, contains u, bits u, ap (λ s. bit_at s u) same, (bit_at-IsBitSet x u).0 has)),
-            (λ i. omega (arith, contains i, bits i)),
-          )),
+    let small : x < 2 ^ 16 = omega (arith, pow_mono few) in
+    let smaller : (u : ℕ) → x - 2 ^ u < 2 ^ n = λ u. omega arith in (
+      grind (arith, without-bit, bit_at-IsBitSet),
       (λ (j, inside, other, part).
           let (u, node, less) = lacking n (slice_index sets j) x below part other in
-          let has = (bit_at-IsBitSet x u).1 (omega (arith, less, bit_at-lt x u)) in
+          let has = (bit_at-IsBitSet x u).1 (omega arith) in
           (exact x below).1 (
             u,
             node,
@@ -126,7 +104,7 @@ AreBeyond-above sets above rows {n} few marked exact x below =
               (marked (x - 2 ^ u) (smaller u)).1 (
                 j,
                 inside,
-                λ i. grind (arith, part i, less, without-bit x u i small (omega (arith, node, few)) has, bit_at_above x n i below),
+                λ i. grind (arith, without-bit x u i small (omega (arith, node, few)) has, bit_at_above x n i below),
               ),
             ),
           )),

@@ -1,13 +1,12 @@
 -- A list of different sets with a mark on each, one set more at a time, and emptied.
-use Rattle.std.proofs.Common.{◌≡◌, ◌≢◌, ℕ, ◌*◌, ◌/◌, ◌%◌, ◌^◌, ◌<◌, ◌≤◌, ◌↔◌, ◌⊎◌, inl, inr, List, [], ◌∷◌, ◌++◌, length, replicate, slice_index, slice_set, Contains, IsBitSet, bit_or, refl, sym, ap, ◌∙◌, subst, arith, ⊎_elim}
+use Rattle.std.proofs.lemmas.Grind.{common_steps}
+use Rattle.std.proofs.Common.{◌≡◌, ◌≢◌, ℕ, ◌*◌, ◌/◌, ◌%◌, ◌^◌, ◌<◌, ◌≤◌, ◌↔◌, ◌⊎◌, inl, inr, List, [], ◌∷◌, ◌++◌, length, replicate, slice_index, slice_set, Contains, bit_or, refl, sym, ap, ◌∙◌, subst, arith, ⊎_elim, length-set}
 use Rattle.std.proofs.lemmas.List.Quantifiers.{all_pairs_push}
-use Rattle.std.proofs.lemmas.List.Elements.{All-nil, All-push, All-contains}
 use Rattle.std.proofs.lemmas.Map.Made.{IsDistinct-from_AllPairs}
 use Rattle.std.proofs.lemmas.Map.Steps.{length-le_from_distinct_below}
 use Rattle.std.proofs.lemmas.Map.Views.{Contains-from_any}
-use Rattle.word_image.proofs.Common.{Decides-eqb, length_push, length-replicate, get_or_default, Contains-push, Contains-append_left, Contains-push_cases, one_shl, IsBitSet-pow}
-use Rattle.std.proofs.lemmas.List.{length-set}
-use Rattle.pair_laws.proofs.Common.{HasBit-or, HasBit-none}
+use Rattle.word_image.proofs.Common.{Decides-eqb, length_push, length-replicate, get_or_default, Contains-push, Contains-append_left, Contains-push_cases, All-nil, All-push, All-contains}
+use Rattle.pair_laws.proofs.Common.{HasBit-none}
 use Rattle.image_subsets.specs.Marks.{IsSetMarked}
 use Rattle.image_subsets.specs.Masks.{AreMembers}
 
@@ -23,12 +22,7 @@ AreMembers-none rows zeros = record {
 -- rows with a mark more
 IsSetMarked-more : (rows : List ℕ) (set i v : ℕ) → i < length rows → i ≡ set / 64 → v ≡ set % 64 → (x : ℕ)
     → IsSetMarked (slice_set rows i (bit_or (slice_index rows i) (1 * 2 ^ v % 2 ^ 64))) x ↔ ((x ≡ set) ⊎ IsSetMarked rows x)
-IsSetMarked-more rows set i v inside row bit x =
-    let more = HasBit-or rows i (1 * 2 ^ v % 2 ^ 64) inside (x / 64) (x % 64) in
-    let one : IsBitSet (1 * 2 ^ v % 2 ^ 64) (x % 64) ↔ (x % 64 ≡ v) = rw (one_shl v 64 (omega (arith, bit))) (IsBitSet-pow v (x % 64)) in (
-      (λ some. ⊎_elim (λ (at, new). inl (omega (arith, at, one.0 new, row, bit))) (λ old. inr old) (more.0 some)),
-      (λ either. more.1 (⊎_elim (λ same. inl (omega (arith, same, row), one.1 (omega (arith, same, bit)))) (λ old. inr old) either)),
-    )
+IsSetMarked-more rows set i v inside row bit x = grind (arith, common_steps)
 
 -- a new set is put in at the end
 pub AreMembers-push : {sets rows : List ℕ} → AreMembers sets rows → (set i v : ℕ) → i ≡ set / 64 → v ≡ set % 64 → set < 65536 → ¬ Contains sets set

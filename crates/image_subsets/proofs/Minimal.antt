@@ -16,13 +16,10 @@ is_subset-IsPart s x = Decides-like (is_subset s x)
 pub is_minimal-marks : {sets rows : List ℕ} → AreCovers sets rows → (i : ℕ) → i < length sets
     → (marked : Bool) → (IsTrue marked ↔ IsSetMarked rows (slice_index sets i))
     → not marked ≡ is_minimal sets (slice_index sets i)
-is_minimal-marks {sets} {rows} h i inside marked says =
+is_minimal-marks {sets} h i inside marked says =
     let x = slice_index sets i in
     let test : ℕ → Bool = λ t. not (t == x) && is_subset t x in
     let exact = h.marked x (h.within i inside) in
     let any = Decides-by_or test (λ t. (t ≢ x) × IsPart t x) (list_any test)
     (λ t. Decides-and (not (t == x)) (is_subset t x) (Decides-not (t == x) (Decides-eqb t x)) (is_subset-IsPart t x)) refl (λ _ _. refl) sets in
-    ap not (same_from_decides marked (list_any test sets) says (Decides-like (list_any test sets)
-    (λ (j, below, holds). exact.1 (j, below, (holds 0).0, (holds 0).1))
-    (λ some. let (j, below, other, part) = exact.0 some in (j, below, λ d. rw (get_or_default sets j d 0 below) (other, part)))
-    any))
+    ap not (same_from_decides marked (list_any test sets) says (grind (arith, get_or_default)))

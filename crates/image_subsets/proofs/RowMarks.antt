@@ -1,19 +1,15 @@
 -- Marks in rows of 64 bits: the nodes of a set by its row and its bit, and rows with one row written.
-use Rattle.std.proofs.Common.{◌≡◌, ℕ, suc, ◌+◌, ◌-◌, ◌*◌, ◌/◌, ◌%◌, ◌^◌, ◌<◌, ◌≤◌, ◌↔◌, List, Bool, true, slice_index, IsBitSet, bit_and, zero, refl, sym, ap, ap₂, ◌∙◌, arith, ⊎_elim, ◌==◌, ◌&&◌}
+use Rattle.std.proofs.Common.{◌≡◌, ℕ, suc, ◌+◌, ◌-◌, ◌*◌, ◌/◌, ◌%◌, ◌^◌, ◌<◌, ◌≤◌, ◌↔◌, List, Bool, true, slice_index, IsBitSet, bit_and, zero, refl, sym, ap, ap₂, ◌∙◌, arith, ⊎_elim, ◌==◌, ◌&&◌, pow-add, pow_pos, eqb-true}
 use Rattle.std.proofs.lemmas.Nat.Bits.{bit_at_cat_low, bit_at_cat_high}
-use Rattle.std.proofs.lemmas.Nat.{pow-add, pow_pos}
-use Rattle.std.proofs.lemmas.Bool.{eqb-true}
-use Rattle.word_image.proofs.Common.{bit_at, cases_lt, cases_eq, and_parts, bit_at-IsBitSet, IsBitSet-zero, HasBit}
+use mathlib.Core.Logic.Iff.{symm as iff_sym, trans as iff_then}
+use Rattle.word_image.proofs.Common.{bit_at, cases_lt, Decides-below_and, bit_at-IsBitSet, IsBitSet-zero, HasBit}
 use Rattle.pair_laws.proofs.Common.{IsBitSet-below, IsBitSet-and}
 use Rattle.image_subsets.specs.declared.rows.TheConstants.{WITH_LOW_NODE}
 use Rattle.image_subsets.specs.Marks.{HoldsWithout}
 
 -- of two equal bits both are set or none
 same_bits : (a i b j : ℕ) → bit_at a i ≡ bit_at b j → IsBitSet a i ↔ IsBitSet b j
-same_bits a i b j same = (
-  (λ some. (bit_at-IsBitSet b j).1 (sym same ∙ (bit_at-IsBitSet a i).0 some)),
-  (λ some. (bit_at-IsBitSet a i).1 (same ∙ (bit_at-IsBitSet b j).0 some)),
-)
+same_bits a i b j same = iff_then (bit_at-IsBitSet a i) (rw same (iff_sym (bit_at-IsBitSet b j)))
 
 -- a bit of a number is at most that number
 pub pow-le : (n u : ℕ) → IsBitSet n u → 2 ^ u ≤ n
@@ -36,10 +32,7 @@ every (suc n) f = f n && every n f
 
 -- a test that each number below n passes is passed by any one of them
 every-at : (n : ℕ) (f : ℕ → Bool) → every n f ≡ true → (i : ℕ) → i < n → f i ≡ true
-every-at zero f all i less = absurd (omega (arith, less))
-every-at (suc n) f all i less =
-    let both = and_parts (f n) (every n f) all in
-    ⊎_elim (λ same. ap f same ∙ both.0) (λ other. every-at n f both.1 i (omega (arith, less, other))) (cases_eq i n)
+every-at n f = (Decides-below_and f (λ i. f i ≡ true) (λ m. every m f) (λ i. (λ t. t, λ t. t)) refl (λ _. refl) n).0
 
 -- the masks of the first six nodes
 mask_bits : (u b : ℕ) → u < 6 → b < 64 → IsBitSet (slice_index WITH_LOW_NODE u) b ↔ IsBitSet b u
@@ -73,17 +66,10 @@ with_low_node rows i b u s inside low size =
     )
 
 -- the sets of a row that have a node from 6 on and are marked without it in another row
-pub with_high_node : (rows : List ℕ) (i b v at : ℕ) → b < 64 → IsBitSet i v → at + 2 ^ v ≡ i → IsBitSet (slice_index rows at) b ↔ HoldsWithout rows (6 + v) (64 * i + b)
-with_high_node rows i b v at inside some is =
-    let x : ℕ = 64 * i + b in
-    let power : 2 ^ (6 + v) ≡ 64 * 2 ^ v = pow-add 2 6 v in
-    let same : HasBit rows at b ≡ HasBit rows ((x - 2 ^ (6 + v)) / 64) ((x - 2 ^ (6 + v)) % 64) =
-    ap₂ (HasBit rows) (omega (arith, power, is, inside)) (omega (arith, power, is, inside)) in
-    rw (← same) ((λ bit. ((IsBitSet-high i b v inside).1 some, bit)), (λ both. both.1))
+pub with_high_node : (rows : List ℕ) (i b v at : ℕ) → b < 64 → IsBitSet i v → at + 2 ^ v ≡ i
+    → IsBitSet (slice_index rows at) b ↔ HoldsWithout rows (6 + v) (64 * i + b)
+with_high_node rows i b v at inside some is = grind (arith, pow-add, IsBitSet-high)
 
 -- a row of sets that lack a node from 6 on has no set with the node
 pub with_no_node : (rows : List ℕ) (i b v : ℕ) → b < 64 → ¬ IsBitSet i v → IsBitSet 0 b ↔ HoldsWithout rows (6 + v) (64 * i + b)
-with_no_node rows i b v inside none = (
-  (λ some. absurd (IsBitSet-zero b some)),
-  (λ both. absurd (none ((IsBitSet-high i b v inside).0 both.0))),
-)
+with_no_node rows i b v inside none = (λ some. absurd (IsBitSet-zero b some), λ both. absurd (none ((IsBitSet-high i b v inside).0 both.0)))

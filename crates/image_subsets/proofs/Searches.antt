@@ -1,7 +1,6 @@
 -- A search through the sets, one edge more at a time, and the family that it lists in the end.
-use Rattle.std.proofs.Common.{◌≡◌, ◌≢◌, ℕ, ◌+◌, ◌-◌, ◌*◌, ◌^◌, ◌<◌, ◌≤◌, List, [], ◌∷◌, ◌++◌, length, slice_index, Option, Some, None, MatchOption, Contains, false, refl, sym, ap, ◌∙◌, subst, subst₂, arith, ⊎_elim, slice_get, pow_mono}
+use Rattle.std.proofs.Common.{◌≡◌, ◌≢◌, ℕ, ◌+◌, ◌-◌, ◌*◌, ◌^◌, ◌<◌, ◌≤◌, List, [], ◌∷◌, ◌++◌, length, slice_index, Option, Some, None, MatchOption, Contains, false, refl, sym, ap, ◌∙◌, subst, subst₂, arith, ⊎_elim, slice_get, pow_mono, pow_pos}
 use Rattle.word_image.proofs.Common.{slice_get_within, slice_get-get_or, get_or_from_slice_get, get_or_append_left, length_push, Contains-push_cases, LocalRule, IsRule, node_count, full_set, IsStep, IsFamily, node_count_pos, slice_get-append, slice_get-push, slice_get-push_cases, only_place}
-use Rattle.std.proofs.lemmas.Nat.{pow_pos}
 use Rattle.search_laws.proofs.Common.{Place, states_of, mapped_at, IsSearch-start, IsSearch-there, IsSearch-new, search_place, search-below, length-search, length-search-le, IsSetOf-unique, IsFamily-closed, IsFamily-stopped}
 use Rattle.search_laws.proofs.LeastSteps.{parent-least}
 use Rattle.image_subsets.specs.FamilyTrees.{IsTree, IsLeastParent, IsFamilyTree}
@@ -107,8 +106,7 @@ module _ {r : LocalRule} {sets : List ℕ} {parents : List (Option (ℕ × ℕ))
 -- the empty set was added last
 pub EndsEmpty-push : (sets : List ℕ) (after : ℕ) → after ≡ 0 → EndsEmpty (sets ++ after ∷ [])
 EndsEmpty-push sets after empty =
-    let last : length (sets ++ after ∷ []) - 1 ≡ length sets = omega (arith, length_push sets after) in
-    ap (slice_get (sets ++ after ∷ [])) last ∙ slice_get-push sets after ∙ ap Some empty
+    ap (slice_get (sets ++ after ∷ [])) (omega (arith, length_push sets after)) ∙ slice_get-push sets after ∙ ap Some empty
 
 -- the edges from the places before h are followed, and from h, where the set stands, those of the first n letters; no set is empty
 pub record IsExpanding (r : LocalRule) (sets : List ℕ) (parents : List (Option (ℕ × ℕ))) (h set n : ℕ) : Type 0 where
@@ -118,7 +116,8 @@ pub record IsExpanding (r : LocalRule) (sets : List ℕ) (parents : List (Option
   pub here : slice_index sets h ≡ set
 
 -- the set whose edges are followed stands at its place
-head_at : {r : LocalRule} {sets : List ℕ} {parents : List (Option (ℕ × ℕ))} {h set n : ℕ} → IsExpanding r sets parents h set n → slice_get sets h ≡ Some set
+head_at : {r : LocalRule} {sets : List ℕ} {parents : List (Option (ℕ × ℕ))} {h set n : ℕ} → IsExpanding r sets parents h set n
+    → slice_get sets h ≡ Some set
 head_at {sets = sets} {h = h} x = slice_get-get_or sets h 0 x.within ∙ ap Some x.here
 
 -- the number of the edge after the edge of the letter n from place h
@@ -142,7 +141,8 @@ IsExpanding-there {r} {sets} {parents} {h} {set} {n} x after letter step has =
 
 -- the next step leads to a set that is new
 pub IsTreeSearch-expanding : {r : LocalRule} {sets : List ℕ} {parents : List (Option (ℕ × ℕ))} {h set n : ℕ} → IsExpanding r sets parents h set n
-    → (after : ℕ) → n < r.states → IsStep r set n after → ¬ Contains sets after → IsTreeSearch r (sets ++ after ∷ []) (parents ++ Some (h, n) ∷ []) (h * r.states + (n + 1))
+    → (after : ℕ) → n < r.states → IsStep r set n after → ¬ Contains sets after
+    → IsTreeSearch r (sets ++ after ∷ []) (parents ++ Some (h, n) ∷ []) (h * r.states + (n + 1))
 IsTreeSearch-expanding {r} {sets} {parents} {h} {set} {n} x after letter step new =
     let old = x.so_far in
     let z : Place ℕ = record { state = after; parent = h; letter = n } in

@@ -1,12 +1,9 @@
 -- Steps of sets, part by part, and the tables that are made of them.
-use Rattle.std.proofs.Common.{◌≡◌, ℕ, ◌+◌, ◌-◌, ◌*◌, ◌/◌, ◌%◌, ◌^◌, ◌<◌, ◌≤◌, List, [], ◌++◌, length, map, get_or, slice_index, min, inl, inr, bit_or, refl, sym, ap, ap₂, ◌∙◌, subst, subst₂, arith, ⊎_elim, pow_mono}
+use Rattle.std.proofs.Common.{◌≡◌, ℕ, ◌+◌, ◌-◌, ◌*◌, ◌/◌, ◌%◌, ◌^◌, ◌<◌, ◌≤◌, List, [], ◌++◌, length, map, get_or, slice_index, min, inl, inr, bit_or, sym, ap, ap₂, ◌∙◌, subst₂, arith, ⊎_elim, pow_mono, one-mul, mul-one, get_or-append-add, length-append, pow_pos, pow-add}
 use Rattle.std.proofs.lemmas.Simd.{get_or-zip2, length-zip2}
 use Rattle.std.specs.Int.Bits.{or_shifted_r}
 use Rattle.std.specs.Simd.Lanes.{zip2}
-use Rattle.word_image.proofs.Common.{mod-add-div, cases_lt, get_or_append_left, get_or_default, length-map, get_or-map, or_lt, div_below, LocalRule, IsRule, node_count, IsBitSet-or, IsBitSet-pow, IsEdge, IsEnds, IsStep, IsSetOf-same}
-use Rattle.std.proofs.Math.Nat.{mul-lt-mul_of_pos_right, one-mul, mul-one, mul_comm, add-mul}
-use Rattle.std.proofs.lemmas.List.{get_or-append-add, length-append}
-use Rattle.std.proofs.lemmas.Nat.{pow_pos, pow-add}
+use Rattle.word_image.proofs.Common.{cases_lt, get_or_append_left, get_or_default, length-map, get_or-map, or_lt, div_below, LocalRule, IsRule, node_count, IsBitSet-or, IsBitSet-pow, IsEnds, IsStep}
 use Rattle.word_image.specs.declared.side.Side.TheVariants.{Right}
 use Rattle.image_subsets.specs.StepTables.{AreSteps, Rows, AreTables, HasRows}
 
@@ -15,10 +12,7 @@ pub IsStep-or : (r : LocalRule) (s t a : ℕ) {p q : ℕ} → IsStep r s a p →
 IsStep-or r s t a {p} {q} first second = record {
   within = or_lt (node_count r) p q first.within second.within;
   nodes = λ v inside. (
-    (λ some. ⊎_elim
-        (λ here. let (u, node, (present, edge)) = (first.nodes v inside).0 here in (u, node, ((IsBitSet-or s t u).1 (inl present), edge)))
-        (λ there. let (u, node, (present, edge)) = (second.nodes v inside).0 there in (u, node, ((IsBitSet-or s t u).1 (inr present), edge)))
-        ((IsBitSet-or p q v).0 some)),
+    (λ some. grind (arith, IsBitSet-or)),
     (λ (u, node, (present, edge)). (IsBitSet-or p q v).1 (⊎_elim
         (λ here. inl ((first.nodes v inside).1 (u, node, (here, edge))))
         (λ there. inr ((second.nodes v inside).1 (u, node, (there, edge))))
@@ -28,29 +22,23 @@ IsStep-or r s t a {p} {q} first second = record {
 
 -- a step of one node leads to the ends of its edges
 pub IsStep-node : (r : LocalRule) (u a : ℕ) {ends : ℕ} → u < node_count r → IsEnds Right r u a ends → IsStep r (2 ^ u) a ends
-IsStep-node r u a node = IsSetOf-same (λ v _. (
-  (λ edge. (u, node, ((IsBitSet-pow u u).1 refl, edge))),
-  (λ (w, below, (present, edge)). subst (λ x. IsEdge Right r a x v) ((IsBitSet-pow u w).0 present) edge),
-))
+IsStep-node r u a node = grind (arith, IsBitSet-pow)
 
 -- the set of x with one node more
 upper_set : (y count first u : ℕ) → u ≡ first + count → y < 2 ^ count → bit_or (y * 2 ^ first) (2 ^ u) ≡ (2 ^ count + y) * 2 ^ first
 upper_set y count first u last below =
-    let top : 2 ^ u ≡ 2 ^ count * 2 ^ first = ap (λ n. 2 ^ n) last ∙ pow-add 2 first count ∙ mul_comm (2 ^ first) (2 ^ count) in
-    let small : y * 2 ^ first < 2 ^ u = subst (λ n. y * 2 ^ first < n) (sym top) (mul-lt-mul_of_pos_right below (pow_pos first)) in
-    let spread : (2 ^ count + y) * 2 ^ first ≡ 2 ^ count * 2 ^ first + y * 2 ^ first = add-mul (2 ^ count) y (2 ^ first) in
-    ap (bit_or (y * 2 ^ first)) (sym (one-mul (2 ^ u))) ∙ or_shifted_r 1 u (y * 2 ^ first) small ∙ omega (arith, top, spread)
+    let top : 2 ^ u ≡ 2 ^ count * 2 ^ first = grind (arith, pow-add) in
+    let small : y * 2 ^ first < 2 ^ u = grind (arith, pow_pos) in
+    ap (bit_or (y * 2 ^ first)) (sym (one-mul (2 ^ u))) ∙ or_shifted_r 1 u (y * 2 ^ first) small ∙ omega arith
 
 -- the row of the set of x with one node more
 upper_row : (rows : List (List ℕ)) (ends : List ℕ) (x y : ℕ) → x ≡ length rows + y → y < length rows
     → get_or (rows ++ map (λ row. zip2 bit_or row ends) rows) x [] ≡ zip2 bit_or (get_or rows y []) ends
-upper_row rows ends x y at below =
-    ap (λ i. get_or (rows ++ map (λ row. zip2 bit_or row ends) rows) i []) at
-    ∙ get_or-append-add rows (map (λ row. zip2 bit_or row ends) rows) y []
-    ∙ get_or-map (λ row. zip2 bit_or row ends) rows y [] [] below
+upper_row rows ends x y at below = grind (arith, get_or-append-add, get_or-map)
 
 -- the steps of the sets of one node more
-pub AreSteps-double : {r : LocalRule} {first count : ℕ} {rows : List (List ℕ)} → IsRule r → AreSteps r first count rows → (u : ℕ) (ends : List ℕ) → u ≡ first + count → u < node_count r
+pub AreSteps-double : {r : LocalRule} {first count : ℕ} {rows : List (List ℕ)} → IsRule r → AreSteps r first count rows → (u : ℕ) (ends : List ℕ)
+    → u ≡ first + count → u < node_count r
     → length ends ≡ 16 → ((a : ℕ) → a < r.states → IsEnds Right r u a (slice_index ends a))
     → AreSteps r first (count + 1) (rows ++ map (λ row. zip2 bit_or row ends) rows)
 AreSteps-double {r} {first} {count} {rows} rule h u ends last node wide leads =
@@ -58,26 +46,24 @@ AreSteps-double {r} {first} {count} {rows} rule h u ends last node wide leads =
     let twice : 2 ^ (count + 1) ≡ 2 ^ count + 2 ^ count = pow-add 2 count 1 ∙ omega arith in
     let long = h.long in
     record {
-      long = length-append rows (map more rows) ∙ omega (arith, length-map rows more, long, twice);
+      long = length-append rows (map more rows) ∙ omega (arith, length-map rows more);
       wide = λ x below. ⊎_elim
-          (λ before. ap length (get_or_append_left rows (map more rows) [] x (omega (arith, before, long))) ∙ h.wide x before)
+          (λ before. ap length (get_or_append_left rows (map more rows) [] x (omega arith)) ∙ h.wide x before)
           (λ past.
           let y = x - 2 ^ count in
-          let inside : y < 2 ^ count = omega (arith, below, past, twice) in
-          ap length (upper_row rows ends x y (omega (arith, past, long)) (omega (arith, inside, long)))
+          let inside : y < 2 ^ count = omega arith in
+          ap length (upper_row rows ends x y (omega arith) (omega arith))
           ∙ length-zip2 bit_or (get_or rows y []) ends (h.wide y inside ∙ sym wide) ∙ h.wide y inside)
           (cases_lt x (2 ^ count));
       steps = λ x a below letter. ⊎_elim
-          (λ before. subst (λ row. IsStep r (x * 2 ^ first) a (slice_index row a))
-          (sym (get_or_append_left rows (map more rows) [] x (omega (arith, before, long)))) (h.steps x a before letter))
+          (λ before. rw (get_or_append_left rows (map more rows) [] x (omega arith)) (h.steps x a before letter))
           (λ past.
           let y = x - 2 ^ count in
-          let inside : y < 2 ^ count = omega (arith, below, past, twice) in
-          let row = upper_row rows ends x y (omega (arith, past, long)) (omega (arith, inside, long)) in
-          let few : a < 16 = omega (arith, rule.shape.most_states, letter) in
-          let entry = ap (λ l. slice_index l a) row ∙ get_or-zip2 bit_or (get_or rows y []) ends a 0 0 0 (omega (arith, h.wide y inside)) (omega (arith, wide)) in
-          let set : bit_or (y * 2 ^ first) (2 ^ u) ≡ x * 2 ^ first = upper_set y count first u last inside ∙ ap (λ i. i * 2 ^ first) (omega (arith, past)) in
-          subst₂ (λ s t. IsStep r s a t) set (sym entry) (IsStep-or r (y * 2 ^ first) (2 ^ u) a (h.steps y a inside letter) (IsStep-node r u a node (leads a letter))))
+          let inside : y < 2 ^ count = omega arith in
+          let row = upper_row rows ends x y (omega arith) (omega arith) in
+          let entry = ap (λ l. slice_index l a) row ∙ get_or-zip2 bit_or (get_or rows y []) ends a 0 0 0 (omega arith) (omega arith) in
+          let set : bit_or (y * 2 ^ first) (2 ^ u) ≡ x * 2 ^ first = upper_set y count first u last inside ∙ ap (λ i. i * 2 ^ first) (omega arith) in
+          rw (← set, entry) (IsStep-or r (y * 2 ^ first) (2 ^ u) a (h.steps y a inside letter) (IsStep-node r u a node (leads a letter))))
           (cases_lt x (2 ^ count));
     }
 
@@ -93,27 +79,24 @@ high_below n set within =
 
 -- the tables have rows for each set of nodes
 pub HasRows-tables : {r : LocalRule} {rows : Rows} → AreTables r rows → (set : ℕ) → set < 2 ^ node_count r → HasRows rows set
-HasRows-tables {r} h set within = record {
-  low = subst (λ n. set % 256 < n) (sym h.low.long) (low_below (node_count r) set within);
-  high = subst (λ n. set / 256 < n) (sym h.high.long) (high_below (node_count r) set within);
-}
+HasRows-tables {r} h set within = record { low = rw h.low.long (low_below (node_count r) set within); high = rw h.high.long (high_below (node_count r) set within) }
 
 -- a step by two look-ups
-pub IsStep-tables : {r : LocalRule} {rows : Rows} → AreTables r rows → (set a low high : ℕ) (first second : List ℕ) → set < 2 ^ node_count r → a < r.states
+pub IsStep-tables : {r : LocalRule} {rows : Rows} → AreTables r rows → (set a low high : ℕ) (first second : List ℕ) → set < 2 ^ node_count r
+    → a < r.states
     → low ≡ set % 256 → high ≡ set / 256 → first ≡ get_or rows.low low first → second ≡ get_or rows.high high second
     → IsStep r set a (slice_index (zip2 bit_or first second) a)
 IsStep-tables {r} {rows} h set a low high first second within letter lower upper at_first at_second =
     let n = node_count r in
-    let below_low : low < 2 ^ min 8 n = subst (λ x. x < 2 ^ min 8 n) (sym lower) (low_below n set within) in
-    let below_high : high < 2 ^ (n - 8) = subst (λ x. x < 2 ^ (n - 8)) (sym upper) (high_below n set within) in
-    let small : low < 2 ^ 8 = omega (arith, lower) in
-    let parts : set % 256 + 256 * (set / 256) ≡ set = mod-add-div set 256 in
+    let below_low : low < 2 ^ min 8 n = rw lower (low_below n set within) in
+    let below_high : high < 2 ^ (n - 8) = rw upper (high_below n set within) in
+    let small : low < 2 ^ 8 = omega arith in
     let whole : bit_or (low * 2 ^ 0) (high * 2 ^ 8) ≡ set =
-    ap (λ l. bit_or l (high * 2 ^ 8)) (mul-one low) ∙ or_shifted_r high 8 low small ∙ omega (arith, parts, lower, upper) in
-    let few : a < 16 = omega (arith, h.rule.shape.most_states, letter) in
-    let one : first ≡ get_or rows.low low [] = at_first ∙ get_or_default rows.low low first [] (omega (arith, below_low, h.low.long)) in
-    let two : second ≡ get_or rows.high high [] = at_second ∙ get_or_default rows.high high second [] (omega (arith, below_high, h.high.long)) in
+    ap (λ l. bit_or l (high * 2 ^ 8)) (mul-one low) ∙ or_shifted_r high 8 low small ∙ omega arith in
+    let few : a < 16 = omega arith in
+    let one : first ≡ get_or rows.low low [] = at_first ∙ get_or_default rows.low low first [] (omega arith) in
+    let two : second ≡ get_or rows.high high [] = at_second ∙ get_or_default rows.high high second [] (omega arith) in
     let entry = get_or-zip2 bit_or first second a 0 0 0
-    (omega (arith, few, ap length one, h.low.wide low below_low)) (omega (arith, few, ap length two, h.high.wide high below_high)) in
+    (omega (arith, ap length one)) (omega (arith, ap length two)) in
     subst₂ (λ s t. IsStep r s a t) whole (sym (entry ∙ ap₂ (λ l h. bit_or (slice_index l a) (slice_index h a)) one two))
     (IsStep-or r (low * 2 ^ 0) (high * 2 ^ 8) a (h.low.steps low a below_low letter) (h.high.steps high a below_high letter))

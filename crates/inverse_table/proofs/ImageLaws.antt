@@ -11,16 +11,13 @@ row_below i j k l = let more : (i + 1) * k ≤ j * k = mul-le-mul_right k (omega
 -- a node has as many labels as there are letters, and they are in the table
 pub row-long : {r : LocalRule} → IsRule r → (node : ℕ) → node < node_count r
     → (node * r.states + r.states ≤ length r.table) × (length (labels_from r node) ≡ r.states)
-row-long {r} rule node l =
-    let k : ℕ = r.states in
-    let within : node * k + k ≤ length r.table = omega (arith, row_below node (node_count r) k l, windows-nodes rule, rule.entries) in
-    let count : node * k + k - node * k ≡ k = omega arith in
-    (within, length-take-le (node * k + k - node * k) (drop (node * k) r.table) (omega (arith, length-drop (node * k) r.table)) ∙ count)
+row-long {r} rule node l = grind (arith, row_below, windows-nodes, length-take-le, length-drop)
 
 -- the images of the words that are one letter longer than the first ones: after the image of the word without its last letter, what the rule gives on the last window
 pub record AreLonger (r : LocalRule) (images : List ℕ) (count : ℕ) (values : List ℕ) : Type 0 where
   pub long : length values ≡ count * r.states
-  pub each : (word a : ℕ) → word < count → a < r.states → slice_index values (word * r.states + a) ≡ slice_index images word * r.states + label r (word % node_count r) a
+  pub each : (word a : ℕ) → word < count → a < r.states
+      → slice_index values (word * r.states + a) ≡ slice_index images word * r.states + label r (word % node_count r) a
 
 -- the row of the next word's longer images is added
 pub AreLonger-row : {r : LocalRule} → IsRule r → (images values : List ℕ) (count node first : ℕ) → AreLonger r images count values
@@ -34,9 +31,7 @@ AreLonger-row {r} rule images values count node first h at is =
     record {
       long = length-append values row ∙ ap₂ (λ (i j : ℕ). i + j) h.long (length-map labels (λ label. first + label) ∙ wide) ∙ omega arith;
       each = λ word a l below. ⊎_elim
-          (λ before.
-          let most : word * k + k ≤ count * k = row_below word count k before in
-          get_or-append values row 0 (word * k + a) (omega (arith, h.long)) ∙ h.each word a before below)
+          (λ before. grind (arith, row_below, get_or-append))
           (λ past.
           let same : word ≡ count = omega arith in
           let place : word * k + a - count * k ≡ a = rw same (omega arith) in
@@ -84,14 +79,11 @@ AreImageValues-longer {r} rule n images values longer before =
 -- the image of the word with a value
 pub image-at : {r : LocalRule} {n : ℕ} {images : List ℕ} → AreImageValues r n images → (v : ℕ) → v < length images
     → slice_index images v ≡ value r.states (image r (word_of r.states (n + (r.width - 1)) v))
-image-at {r} {n} {images} h v l =
-    let below : v < r.states ^ (n + (r.width - 1)) = omega (arith, h.long) in
-    let x : List ℕ = word_of r.states (n + (r.width - 1)) v in
-    ap (slice_index images) (sym (value-word_of r.states (n + (r.width - 1)) v below))
-    ∙ h.each x (IsWord-word_of r.states (n + (r.width - 1)) v below) (length-word_of r.states (n + (r.width - 1)) v)
+image-at {r} {n} {images} h v l = grind (arith, value-word_of, IsWord-word_of, length-word_of)
 
 -- each image of the words of n + m - 1 letters is a number below k ^ n
-pub AreImageValues-below : {r : LocalRule} {n : ℕ} {images : List ℕ} → IsRule r → AreImageValues r n images → All (λ image. image < r.states ^ n) images
+pub AreImageValues-below : {r : LocalRule} {n : ℕ} {images : List ℕ} → IsRule r → AreImageValues r n images
+    → All (λ image. image < r.states ^ n) images
 AreImageValues-below {r} {n} {images} rule h = All-from_get_or (λ image. image < r.states ^ n) images 0 (λ v l.
     let x : List ℕ = word_of r.states (n + (r.width - 1)) v in
     let long : length (image r x) ≡ n = length-image r x ∙ ap (λ j. j - (r.width - 1)) (length-word_of r.states (n + (r.width - 1)) v) ∙ omega arith in

@@ -1,5 +1,5 @@
 -- From the letters that are read back from images to the inverse map, and what the map does.
-use Rattle.std.proofs.Common.{◌≡◌, ℕ, ◌+◌, ◌-◌, ◌/◌, ◌%◌, ◌^◌, ◌<◌, ◌≤◌, List, length, map, take, drop, slice_index, slice_range, ℤ, pos, ◌+ℤ◌, ◌-ℤ◌, refl, sym, ap, subst, ◌∙◌, arith, length-drop, length-take-le, get_or-take, get_or-drop}
+use Rattle.std.proofs.Common.{◌≡◌, ℕ, ◌+◌, ◌-◌, ◌^◌, ◌<◌, ◌≤◌, List, length, map, take, drop, slice_index, slice_range, ℤ, pos, ◌+ℤ◌, ◌-ℤ◌, refl, sym, ap, ◌∙◌, arith, length-drop, length-take-le, get_or-take, get_or-drop}
 use Rattle.word_image.proofs.Common.{range_with_len, ints, fill_by_all, length-map-range_with_len, All-from_get_or, All-take, All-drop, LocalRule, IsRule, IsWord, value, word_of, local_map, image, IsPreimage, IsSurjective, IsDetermined, value-below, value-injective, length-word_of, IsWord-word_of, value-word_of, IsWord-image, length-image, get_or-image, image-drop, image-take, letter-value}
 use Rattle.tail_config.proofs.Common.{run, image_of, TailConfig, IsTail, cell, cells, image_cell, length-run, get_or-run, IsWord-run, image-run, cell-below, WindowMap, IsInverseMap, map_letter}
 use Rattle.tail_laws.proofs.Common.{IsInjective-determined}
@@ -21,62 +21,42 @@ pub record IsReadingBack (r : LocalRule) (n c : ℕ) (letter : ℕ → ℕ) (ima
 
 -- the letters are read back by their place in the value
 pub IsReadingBack-place : {r : LocalRule} {n c k unit : ℕ} {images letters : List ℕ} → IsRule r → 1 ≤ n → c ≤ n + r.width - 2 → k ≡ r.states
-    → unit ≡ r.states ^ (n + (r.width - 1) - 1 - c) → AreImageValues r n images → length letters ≡ r.states ^ n → IsReadingBack r n c (letter_by_unit k unit) images letters
-IsReadingBack-place {r} {n} {c} {k} {unit} rule some inside same behind values long = record {
-  some = some;
-  inside = inside;
-  values = values;
-  reads = λ x h wide. ap (λ j. value r.states x / unit % j) same ∙ ap (λ u. value r.states x / u % r.states) behind ∙ letter-value r.states x c (n + (r.width - 1) - 1 - c) h (omega arith);
-  long = long;
-}
+    → unit ≡ r.states ^ (n + (r.width - 1) - 1 - c) → AreImageValues r n images → length letters ≡ r.states ^ n
+    → IsReadingBack r n c (letter_by_unit k unit) images letters
+IsReadingBack-place {r} {n} {c} {k} {unit} rule some inside same behind values long = grind (arith, letter-value)
 
 -- the word of n + m - 1 letters with this value
 abbrev pub word_at : LocalRule → ℕ → ℕ → List ℕ
 word_at r n v = word_of r.states (n + (r.width - 1)) v
 
 -- for a value that a word has, its letter is the word's
-letter-word_at : {r : LocalRule} {n c : ℕ} {letter : ℕ → ℕ} {images letters : List ℕ} → IsReadingBack r n c letter images letters → (v : ℕ) → v < length images
+letter-word_at : {r : LocalRule} {n c : ℕ} {letter : ℕ → ℕ} {images letters : List ℕ} → IsReadingBack r n c letter images letters → (v : ℕ)
+    → v < length images
     → IsWord r.states (word_at r n v) × (letter v ≡ slice_index (word_at r n v) c)
-letter-word_at {r} {n} {c} {letter} h v l =
-    let below : v < r.states ^ (n + (r.width - 1)) = omega (arith, h.values.long) in
-    let word = IsWord-word_of r.states (n + (r.width - 1)) v below in
-    (word, ap letter (sym (value-word_of r.states (n + (r.width - 1)) v below)) ∙ h.reads (word_at r n v) word (length-word_of r.states (n + (r.width - 1)) v))
+letter-word_at {r} {n} {c} {letter} h v l = grind (arith, IsWord-word_of, value-word_of, length-word_of)
 
 -- the image of that word has n letters
 length-image-word_at : (r : LocalRule) (n v : ℕ) → length (image r (word_at r n v)) ≡ n
 length-image-word_at r n v = length-image r (word_at r n v) ∙ ap (λ j. j - (r.width - 1)) (length-word_of r.states (n + (r.width - 1)) v) ∙ omega arith
 
 -- two values of words that are apart: the words show that the window isn't determined
-pub AreApartAt-apart : {r : LocalRule} {n c : ℕ} {letter : ℕ → ℕ} {images letters : List ℕ} → IsRule r → IsReadingBack r n c letter images letters → (u v : ℕ)
+pub AreApartAt-apart : {r : LocalRule} {n c : ℕ} {letter : ℕ → ℕ} {images letters : List ℕ} → IsRule r → IsReadingBack r n c letter images letters
+    → (u v : ℕ)
     → AreUndetermined letter images u v → AreApartAt r n c u v
 AreApartAt-apart {r} {n} rule h u v apart =
     let first = letter-word_at h u apart.first in
     let second = letter-word_at h v apart.second in
-    record {
-      first = omega (arith, apart.first, h.values.long);
-      second = omega (arith, apart.second, h.values.long);
-      words = record {
-        one_image = record {
-          first = first.0;
-          second = second.0;
-          first_long = length-word_of r.states (n + (r.width - 1)) u;
-          second_long = length-word_of r.states (n + (r.width - 1)) v;
-          one_image = value-injective r.states (image r (word_at r n u)) (image r (word_at r n v)) (IsWord-image rule (word_at r n u)) (IsWord-image rule (word_at r n v))
-              (length-image-word_at r n u ∙ sym (length-image-word_at r n v)) (sym (image-at h.values u apart.first) ∙ apart.one_image ∙ image-at h.values v apart.second);
-        };
-        differ = λ same. apart.differ (first.1 ∙ same ∙ sym second.1);
-      };
-    }
+    grind (arith, length-word_of, value-injective, IsWord-image, length-image-word_at, image-at)
 
 -- where the letter of each word is read back, the letter at the image of a word is its letter c
-read_back : {r : LocalRule} {n c : ℕ} {letter : ℕ → ℕ} {images letters : List ℕ} → IsReadingBack r n c letter images letters → AreReadBack letter images (length images) letters
+read_back : {r : LocalRule} {n c : ℕ} {letter : ℕ → ℕ} {images letters : List ℕ} → IsReadingBack r n c letter images letters
+    → AreReadBack letter images (length images) letters
     → (x : List ℕ) → IsWord r.states x → length x ≡ n + (r.width - 1) → slice_index letters (value r.states (image r x)) ≡ slice_index x c
-read_back {r} {images = images} {letters = letters} h all x word long =
-    let below : value r.states x < length images = subst (λ j. value r.states x < j) (ap (λ j. r.states ^ j) long ∙ sym h.values.long) (value-below r.states x word) in
-    ap (slice_index letters) (sym (h.values.each x word long)) ∙ all (value r.states x) below ∙ h.reads x word long
+read_back {r} {images = images} {letters = letters} h all x word long = grind (arith, value-below)
 
 -- where the letter of each word is read back, the window is determined
-IsDetermined-read : {r : LocalRule} {n c : ℕ} {letter : ℕ → ℕ} {images letters : List ℕ} → IsReadingBack r n c letter images letters → AreReadBack letter images (length images) letters
+IsDetermined-read : {r : LocalRule} {n c : ℕ} {letter : ℕ → ℕ} {images letters : List ℕ} → IsReadingBack r n c letter images letters
+    → AreReadBack letter images (length images) letters
     → IsDetermined r n c
 IsDetermined-read {r} {letters = letters} h all = record {
   some = h.some;
@@ -89,7 +69,8 @@ IsSurjective-determined : {r : LocalRule} {n c : ℕ} → IsRule r → IsDetermi
 IsSurjective-determined rule window = IsSurjective-injective rule (IsInjective-determined rule window)
 
 -- the map of the letters that are read back is the inverse map
-IsInverseMap-read : {r : LocalRule} {n c : ℕ} {letter : ℕ → ℕ} {images letters : List ℕ} → IsRule r → IsReadingBack r n c letter images letters → AreReadBack letter images (length images) letters
+IsInverseMap-read : {r : LocalRule} {n c : ℕ} {letter : ℕ → ℕ} {images letters : List ℕ} → IsRule r → IsReadingBack r n c letter images letters
+    → AreReadBack letter images (length images) letters
     → IsInverseMap r n c (map_over r n c letters)
 IsInverseMap-read {r} {n} {c} {letter} {images} {letters} rule h all =
     let k : ℕ = r.states in
@@ -103,7 +84,8 @@ IsInverseMap-read {r} {n} {c} {letter} {images} {letters} rule h all =
     }
 
 -- the map that is read is one of the maps that there are
-IsWindowMap-read : {r : LocalRule} {n c : ℕ} {letter : ℕ → ℕ} {images letters : List ℕ} → IsRule r → IsReadingBack r n c letter images letters → AreReadBack letter images (length images) letters
+IsWindowMap-read : {r : LocalRule} {n c : ℕ} {letter : ℕ → ℕ} {images letters : List ℕ} → IsRule r → IsReadingBack r n c letter images letters
+    → AreReadBack letter images (length images) letters
     → r.states ^ n ≤ 65536 → IsWindowMap (map_over r n c letters)
 IsWindowMap-read {r} {n} {c} {letters = letters} rule h all few =
     let shape = rule.shape in
@@ -132,12 +114,11 @@ IsWindowMap-read {r} {n} {c} {letters = letters} rule h all few =
 -- the image of a word gives its letter c back
 map_letter-image : {r : LocalRule} {n c : ℕ} {g : WindowMap} → IsInverseMap r n c g → (x : List ℕ) → IsWord r.states x → length x ≡ n + (r.width - 1)
     → map_letter g (image r x) ≡ slice_index x c
-map_letter-image {r} {n} h x word long =
-    let fewer : length (image r x) ≡ n = length-image r x ∙ ap (λ j. j - (r.width - 1)) long ∙ omega arith in
-    h.letter (image r x) x fewer (record { word = word; long = omega (arith, fewer, long); maps = refl })
+map_letter-image {r} {n} h x word long = grind (arith, length-image)
 
 -- from n cells of the image of a configuration the map gives a cell back
-map_letter-cells : {r : LocalRule} {n c : ℕ} {g : WindowMap} → IsRule r → c ≤ n + r.width - 2 → 1 ≤ n → IsInverseMap r n c g → (t : TailConfig) → IsTail r.states t → (i : ℤ)
+map_letter-cells : {r : LocalRule} {n c : ℕ} {g : WindowMap} → IsRule r → c ≤ n + r.width - 2 → 1 ≤ n → IsInverseMap r n c g → (t : TailConfig)
+    → IsTail r.states t → (i : ℤ)
     → map_letter g (run (image_of r (cell t)) (i +ℤ g.offset) n) ≡ cell t i
 map_letter-cells {r} {n} {c} {g} rule inside some h t tail i =
     let start : ℤ = i -ℤ pos c in
@@ -159,14 +140,13 @@ IsPreimage-part {r} {w} {x} rule p i n l =
     let rest : n + d - d ≡ n = omega arith in
     record {
       word = All-take (λ a. a < r.states) (n + d) (drop i x) (All-drop (λ a. a < r.states) i x p.word);
-      long = length-take-le (n + d) (drop i x) (omega (arith, length-drop i x, p.long))
-          ∙ ap (λ j. j + d) (sym (length-take-le (i + n - i) (drop i w) (omega (arith, length-drop i w)) ∙ part));
-      maps = image-take rule (n + d) (drop i x) ∙ ap (λ j. take j (image r (drop i x))) (rest ∙ sym part)
-          ∙ ap (take (i + n - i)) (image-drop r i x ∙ ap (drop i) p.maps);
+      long = grind (arith, length-take-le, length-drop);
+      maps = grind (arith, image-take, image-drop);
     }
 
 -- what the map makes of a word is the part of its preimage from c on
-map_image-part : {r : LocalRule} {n c : ℕ} {g : WindowMap} {x z : List ℕ} → IsRule r → 1 ≤ n → c ≤ n + r.width - 2 → IsInverseMap r n c g → length x ≡ n + (r.width - 1) → IsPreimage r x z
+map_image-part : {r : LocalRule} {n c : ℕ} {g : WindowMap} {x z : List ℕ} → IsRule r → 1 ≤ n → c ≤ n + r.width - 2 → IsInverseMap r n c g
+    → length x ≡ n + (r.width - 1) → IsPreimage r x z
     → map_image g x ≡ slice_range z c (c + r.width)
 map_image-part {r} {n} {c} {g} {x} {z} rule some inside h long p =
     let few : length x + 1 - n ≡ r.width = omega arith in
@@ -204,7 +184,8 @@ GivesBack-determined rule window h = record {
 }
 
 -- where the letter of each word is read back, these are the letters of the inverse map
-pub AreMapLetters-read : {r : LocalRule} {n c : ℕ} {letter : ℕ → ℕ} {images letters : List ℕ} → IsRule r → IsReadingBack r n c letter images letters → AreReadBack letter images (length images) letters
+pub AreMapLetters-read : {r : LocalRule} {n c : ℕ} {letter : ℕ → ℕ} {images letters : List ℕ} → IsRule r → IsReadingBack r n c letter images letters
+    → AreReadBack letter images (length images) letters
     → r.states ^ n ≤ 65536 → AreMapLetters r n c letters
 AreMapLetters-read rule h all few =
     let window = IsDetermined-read h all in

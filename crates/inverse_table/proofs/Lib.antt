@@ -3,4 +3,3 @@ pub mod ImageLaws
 pub mod ReadLaws
 pub mod InverseLaws
 pub mod MapRules
-pub mod Filled

@@ -3,7 +3,8 @@ use Rattle.std.proofs.Common.{◌≡◌, ℕ, ◌+◌, ◌-◌, ◌*◌, ◌%◌
 use Rattle.word_image.proofs.Common.{mul-mod_left, one-le-pow, pow-le-pow_left, pow-le-pow_right, cases_lt, LocalRule, IsRule}
 
 -- at most 2^20 words of n + m - 1 letters, and less where they have fewer
-pub power-most : {r : LocalRule} → IsRule r → (n j k : ℕ) → r.states ^ n ≤ 65536 → k ≡ r.states → j ≤ n + (r.width - 1) → (0 < k ^ j) × (k ^ j ≤ 1048576)
+pub power-most : {r : LocalRule} → IsRule r → (n j k : ℕ) → r.states ^ n ≤ 65536 → k ≡ r.states → j ≤ n + (r.width - 1)
+    → (0 < k ^ j) × (k ^ j ≤ 1048576)
 power-most {r} rule n j k few e l =
     let some : 0 < k = omega (arith, rule.shape.least_states) in
     let grows : k ^ j ≤ k ^ (n + (r.width - 1)) = pow-le-pow_right some l in

@@ -1,8 +1,6 @@
 pub mod StartLaws
-pub mod Letters
 pub mod WindowLaws
 pub mod FirstWindowLaws
-pub mod PairRows
 pub mod PastRanks
 pub mod RankStarts
 pub mod FirstSearches

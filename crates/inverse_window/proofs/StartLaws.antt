@@ -1,6 +1,5 @@
 -- From which number on facts hold.
-use Rattle.std.proofs.Common.{ℕ, ◌+◌, ◌≤◌, ◌↔◌, Option, Some, None, subst, ⊎_elim, arith, IfSome}
-use Rattle.word_image.proofs.Common.{cases_eq, cases_lt, IsRank}
+use Rattle.std.proofs.Common.{ℕ, ◌+◌, ◌≤◌, ◌↔◌, Option, Some, None, arith, IfSome, below_more}
 use Rattle.inverse_window.specs.Starts.{HoldsFrom, later}
 use Rattle.inverse_window.specs.FirstWindows.{NoneHolds}
 
@@ -24,33 +23,21 @@ later-most None b k first second = tt
 later-most (Some a) None k first second = tt
 later-most (Some a) (Some b) k first second = omega arith
 
--- what holds for less wherever it holds no longer holds past its rank
-pub HoldsFrom-rank : (P : ℕ → Type 0) (a : ℕ) → ((i n : ℕ) → i ≤ n → P n → P i) → IsRank P a → HoldsFrom (Some (a + 1)) (λ n. ¬ P n)
-HoldsFrom-rank P a less rank = λ n. (
-  λ none. ⊎_elim (λ l. absurd (none (less n a (omega arith) rank.holds))) (λ l. l) (cases_lt n (a + 1)),
-  λ l h. rank.no_more (less (a + 1) n l h),
-)
-
--- where there is no pair, all numbers hold
-pub HoldsFrom-first : (Of : ℕ → Type 0) (P : ℕ → ℕ → Type 0) → HoldsFrom (Some 0) (NoneHolds 0 Of P)
-HoldsFrom-first Of P = λ n. (λ none. omega arith, λ l p below. absurd (omega arith))
-
 -- what holds where none of the pairs does, with one pair more, starts at the later of two numbers
-pub HoldsFrom-next : (a b : Option ℕ) (p : ℕ) (Of : ℕ → Type 0) (P : ℕ → ℕ → Type 0) → Of p → HoldsFrom a (NoneHolds p Of P) → HoldsFrom b (λ n. ¬ P p n) → HoldsFrom (later a b) (NoneHolds (p + 1) Of P)
+pub HoldsFrom-next : (a b : Option ℕ) (p : ℕ) (Of : ℕ → Type 0) (P : ℕ → ℕ → Type 0) → Of p → HoldsFrom a (NoneHolds p Of P)
+    → HoldsFrom b (λ n. ¬ P p n) → HoldsFrom (later a b) (NoneHolds (p + 1) Of P)
 HoldsFrom-next a b p Of P of before here =
     HoldsFrom-later a b (NoneHolds p Of P) (λ n. ¬ P p n) (NoneHolds (p + 1) Of P)
     (λ n. (
-      λ none. (λ q l of_q. none q (omega arith) of_q, none p (omega arith) of),
-      λ both q l of_q. ⊎_elim (λ same h. both.1 (subst (λ s. P s n) same h)) (λ other. both.0 q (omega (arith, other)) of_q) (cases_eq q p),
+      λ none. (λ q l. none q (omega arith), none p (omega arith) of),
+      λ both. below_more (λ q. Of q → ¬ P q n) p both.0 (λ _. both.1),
     ))
     before here
 
 -- one more pair that isn't among those asked for changes nothing
-pub HoldsFrom-other : (a : Option ℕ) (p : ℕ) (Of : ℕ → Type 0) (P : ℕ → ℕ → Type 0) → ¬ Of p → HoldsFrom a (NoneHolds p Of P) → HoldsFrom a (NoneHolds (p + 1) Of P)
+pub HoldsFrom-other : (a : Option ℕ) (p : ℕ) (Of : ℕ → Type 0) (P : ℕ → ℕ → Type 0) → ¬ Of p → HoldsFrom a (NoneHolds p Of P)
+    → HoldsFrom a (NoneHolds (p + 1) Of P)
 HoldsFrom-other a p Of P not_of before =
     HoldsFrom-same a (NoneHolds p Of P) (NoneHolds (p + 1) Of P)
-    (λ n. (
-      λ none q l of_q. none q (omega arith) of_q,
-      λ none q l of_q. ⊎_elim (λ same. absurd (not_of (subst Of same of_q))) (λ other. none q (omega (arith, other)) of_q) (cases_eq q p),
-    ))
+    (λ n. (λ none q l. none q (omega arith), λ none. below_more (λ q. Of q → ¬ P q n) p none (λ of. absurd (not_of of))))
     before

@@ -5,8 +5,10 @@ use Rattle.search_laws.proofs.Common.{uncode}
 use Rattle.tail_laws.proofs.Common.{turn-some, IsTurn, IsFirstFound, IsFirstBelow-old, IsFirstFound-none}
 
 -- the first walk found stays so with one more pair that has no walk of as few steps
-pub IsFirstFound-later : {r : LocalRule} → IsRule r → (n most : ℕ) (found : Option (List ℕ)) → MatchOption found (most ≡ 512) (λ steps. most ≡ length steps) → IsFirstFound (IsTurn r) n found
-    → ((w : List (ℕ × ℕ)) → 0 < length w → length w ≤ most → ¬ IsTurn r n w) → (512 ≤ most → (w : List (ℕ × ℕ)) → 0 < length w → ¬ IsTurn r n w) → IsFirstFound (IsTurn r) (n + 1) found
+pub IsFirstFound-later : {r : LocalRule} → IsRule r → (n most : ℕ) (found : Option (List ℕ))
+    → MatchOption found (most ≡ 512) (λ steps. most ≡ length steps) → IsFirstFound (IsTurn r) n found
+    → ((w : List (ℕ × ℕ)) → 0 < length w → length w ≤ most → ¬ IsTurn r n w) → (512 ≤ most → (w : List (ℕ × ℕ)) → 0 < length w → ¬ IsTurn r n w)
+    → IsFirstFound (IsTurn r) (n + 1) found
 IsFirstFound-later {r} rule n most None is none short all = IsFirstFound-none (IsTurn r) None none (λ w turn. all (omega arith) w (turn-some rule n w turn) turn)
 IsFirstFound-later rule n most (Some old) is best short all =
     IsFirstBelow-old best (λ v turn. ⊎_elim

@@ -1,6 +1,5 @@
 -- Steps of the marked graph, and rows that have marked pairs.
-use Rattle.std.proofs.Common.{◌≡◌, ◌≢◌, ℕ, ◌+◌, ◌-◌, ◌*◌, ◌/◌, ◌%◌, ◌^◌, ◌<◌, ◌≤◌, ◌↔◌, ◌⊎◌, inl, inr, List, Bool, true, false, Some, cond, length, IsBitSet, bit_and, bit_or, slice_index, slice_set, refl, sym, ap, ap₂, ◌∙◌, subst, arith, ⊎_elim, mod-lt, lit<, ◌==◌, ◌||◌, not, nat_le}
-use Rattle.std.proofs.lemmas.Bool.{eq-eqb}
+use Rattle.std.proofs.Common.{◌≡◌, ◌≢◌, ℕ, ◌+◌, ◌-◌, ◌*◌, ◌/◌, ◌%◌, ◌^◌, ◌<◌, ◌≤◌, ◌↔◌, ◌⊎◌, inl, inr, List, Bool, true, false, Some, cond, length, IsBitSet, bit_and, bit_or, slice_index, slice_set, refl, sym, ap, ap₂, ◌∙◌, subst, arith, ⊎_elim, mod-lt, lit<, ◌==◌, ◌||◌, not, nat_le, eq-eqb}
 use Rattle.word_image.proofs.Common.{cases_eq, cases_lt, nat_tests, div-eq_of_lt, div-mul-add, mod-mul-add, same_from_place, div_below, LocalRule, IsRule, node_count, next, label, first_of, second_of, pair_of, pair_count, marked, IsBitSet-or, IsBitSet-decide, next-below, pair_count_pos, IsEnds}
 use Rattle.std.proofs.lemmas.Nat.{div-add-mod', le-div}
 use Rattle.pair_laws.proofs.Common.{HasBit-more, IsBitSet-shl, IsBitSet-shr, IsBitSet-and, IsBitSet-minus, next-digits, some_if_equal, first_of-pair_of, second_of-pair_of, pair_of-first_of, pair_of-below, first_of-below, second_of-below}
@@ -60,17 +59,17 @@ row-pair_of r q mark u v in_u in_v e =
 pub row_of-injective : {r : LocalRule} → IsRule r → (s t : ℕ) → s < 2 * pair_count r → t < 2 * pair_count r → row_of r s ≡ row_of r t
     → second_of r (pair_part r s) ≡ second_of r (pair_part r t) → s ≡ t
 row_of-injective {r} rule s t in_s in_t rows seconds =
-    let few : node_count r ≤ 16 = rule.shape.most_nodes in
     let small : (q : ℕ) → first_of r (pair_part r q) < 16 = λ q. omega (arith, first_of-below rule (pair_part r q) (mod-lt q (pair_count_pos rule))) in
     let same = same_from_place (s / pair_count r) (first_of r (pair_part r s)) (t / pair_count r) (first_of r (pair_part r t)) 16 (small s) (small t) (omega arith) in
     let parts : pair_part r s ≡ pair_part r t = sym (pair_of-first_of r (pair_part r s)) ∙ ap₂ (pair_of r) same.1 seconds ∙ pair_of-first_of r (pair_part r t) in
     sym (div-add-mod' s (pair_count r)) ∙ ap₂ (λ (h p : ℕ). h * pair_count r + p) same.0 parts ∙ div-add-mod' t (pair_count r)
 
 -- one marked pair more
-pub HasPair-add : {r : LocalRule} → IsRule r → (rows : List ℕ) (t i j : ℕ) → length rows ≡ 32 → t < 2 * pair_count r → i ≡ row_of r t → j ≡ second_of r (pair_part r t)
-    → (s : ℕ) → s < 2 * pair_count r → HasPair r (slice_set rows i (bit_or (slice_index rows i) (1 * 2 ^ j % 2 ^ 16))) s ↔ ((s ≡ t) ⊎ HasPair r rows s)
+pub HasPair-add : {r : LocalRule} → IsRule r → (rows : List ℕ) (t i j : ℕ) → length rows ≡ 32 → t < 2 * pair_count r → i ≡ row_of r t
+    → j ≡ second_of r (pair_part r t)
+    → (s : ℕ) → s < 2 * pair_count r
+    → HasPair r (slice_set rows i (bit_or (slice_index rows i) (1 * 2 ^ j % 2 ^ 16))) s ↔ ((s ≡ t) ⊎ HasPair r rows s)
 HasPair-add {r} rule rows t i j long in_t row place s in_s =
-    let few : node_count r ≤ 16 = rule.shape.most_nodes in
     let half : t / pair_count r < 2 = div_below t (pair_count r) 2 (pair_count_pos rule) in_t in
     let first = first_of-below rule (pair_part r t) (mod-lt t (pair_count_pos rule)) in
     let second = second_of-below rule (pair_part r t) in
@@ -83,7 +82,6 @@ HasPair-add {r} rule rows t i j long in_t row place s in_s =
 end-old : {r : LocalRule} → IsRule r → (v b ends row end : ℕ) → b < r.states → row < 2 ^ 16 → end ≡ next r v 0 → IsBitSet ends (next r v b)
     → ¬ IsBitSet (bit_and ends (65535 - row) / 2 ^ end) b → IsBitSet row (next r v b)
 end-old {r} rule v b ends row end letter small first leads old =
-    let few : node_count r ≤ 16 = rule.shape.most_nodes in
     let place : end + b ≡ next r v b = omega (arith, next-digits rule v b letter, next-digits rule v 0 (omega arith)) in
     ⊎_elim
     (λ present. present)
@@ -104,21 +102,24 @@ step-old {r} rule rows t a b q u v mark ends row end step with first second lett
     rw (place.0, place.1) (subst (λ c. IsBitSet c (next r v b)) here (end-old rule v b ends row end letter small start present old))
 
 -- from a marked pair with the mark
-pub fresh-with_mark : {r : LocalRule} → IsRule r → (rows : List ℕ) (parts : PairParts) (t a b q ends row end : ℕ) → ArePartsOf r parts t → parts.mark ≡ 1 → b < r.states
-    → IsEnds Right r parts.second (label r parts.first a) ends → end ≡ next r parts.second 0 → row ≡ slice_index rows (16 + next r parts.first a) → row < 2 ^ 16
+pub fresh-with_mark : {r : LocalRule} → IsRule r → (rows : List ℕ) (parts : PairParts) (t a b q ends row end : ℕ) → ArePartsOf r parts t
+    → parts.mark ≡ 1 → b < r.states
+    → IsEnds Right r parts.second (label r parts.first a) ends → end ≡ next r parts.second 0 → row ≡ slice_index rows (16 + next r parts.first a)
+    → row < 2 ^ 16
     → ¬ IsBitSet (bit_and ends (65535 - row) / 2 ^ end) b → marked r t a b ≡ Some q → HasPair r rows q
 fresh-with_mark {r} rule rows parts t a b q ends row end of with letter leads start here small old e =
     let past : pair_count r ≤ t = omega (arith, div-add-mod' t (pair_count r), ap (λ h. h * pair_count r) (sym of.mark ∙ with)) in
     step-old rule rows t a b q parts.first parts.second 1 ends row end (marked-step r t a b q e) (mark_to-past r t a b past) (sym of.first) (sym of.second) letter leads start here small old
 
 -- from a marked pair without the mark, the mark stays away where the letters are the same
-pub fresh-without : {r : LocalRule} → IsRule r → (rows : List ℕ) (parts : PairParts) (t a b q ends row plain end same : ℕ) → ArePartsOf r parts t → parts.mark ≡ 0 → b < r.states → a < 16
+pub fresh-without : {r : LocalRule} → IsRule r → (rows : List ℕ) (parts : PairParts) (t a b q ends row plain end same : ℕ) → ArePartsOf r parts t
+    → parts.mark ≡ 0 → b < r.states → a < 16
     → IsEnds Right r parts.second (label r parts.first a) ends → end ≡ next r parts.second 0
-    → row ≡ slice_index rows (16 + next r parts.first a) → row < 2 ^ 16 → plain ≡ slice_index rows (next r parts.first a) → plain < 2 ^ 16 → same ≡ 1 * 2 ^ a % 2 ^ 16
+    → row ≡ slice_index rows (16 + next r parts.first a) → row < 2 ^ 16 → plain ≡ slice_index rows (next r parts.first a) → plain < 2 ^ 16
+    → same ≡ 1 * 2 ^ a % 2 ^ 16
     → ¬ IsBitSet (bit_or (bit_and (bit_and ends (65535 - row) / 2 ^ end) (65535 - same)) (bit_and (bit_and ends (65535 - plain) / 2 ^ end) same)) b
     → marked r t a b ≡ Some q → HasPair r rows q
 fresh-without {r} rule rows parts t a b q ends row plain end same of without letter first leads start here small also little shift old e =
-    let states : r.states ≤ 16 = rule.shape.most_states in
     let step = marked-step r t a b q e in
     let below : t < pair_count r = omega (arith, mod-lt t (pair_count_pos rule), div-add-mod' t (pair_count r), ap (λ h. h * pair_count r) (sym of.mark ∙ without)) in
     let with_mark : ℕ = bit_and ends (65535 - row) / 2 ^ end in

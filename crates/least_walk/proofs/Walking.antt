@@ -1,8 +1,7 @@
 -- A breadth first search through the marked pairs, one step more at a time.
-use Rattle.std.proofs.Common.{◌≡◌, ◌≢◌, ℕ, zero, suc, ◌+◌, ◌-◌, ◌*◌, ◌/◌, ◌%◌, ◌<◌, ◌≤◌, ◌↔◌, ◌⊎◌, inl, inr, List, [], ◌∷◌, ◌++◌, length, get_or, map, zero-mul, Option, Some, None, Bool, true, false, true≢false, refl, sym, ap, ◌∙◌, subst, subst₂, arith, ⊎_elim, slice_get, ◌==◌}
+use Rattle.std.proofs.Common.{◌≡◌, ◌≢◌, ℕ, zero, suc, ◌+◌, ◌-◌, ◌*◌, ◌/◌, ◌%◌, ◌<◌, ◌≤◌, ◌↔◌, ◌⊎◌, inl, inr, List, [], ◌∷◌, ◌++◌, length, get_or, map, zero-mul, Option, Some, None, Bool, true, false, true≢false, refl, sym, ap, ◌∙◌, subst, subst₂, arith, ⊎_elim, slice_get, ◌==◌, mul-le-mul_right}
 use Rattle.std.specs.Option.{option_eq}
 use Rattle.word_image.proofs.Common.{cases_lt, Decides-eqb, map-append, length-map, length_push, slice_get_within, slice_get-get_or, none-some, same_Some, LocalRule, IsRule, node_count, pair_count, marked, slice_get-append, slice_get-push, slice_get-push_cases, only_place}
-use Rattle.std.proofs.Math.Nat.{mul-le-mul_right}
 use Rattle.search_laws.proofs.Common.{Place, TreeSpells, NoEdgeBefore, Root, Branch, HaveMet-next, HaveMet-push, edge-within, IsQueue-start, IsQueue-there, IsQueue-new, mapped_at, unmapped_at, length-queue-le, state-below, TreeSpells-some, length-spelled-le, code, Leads-walk, CodeStep-some, IsLeastWalk-steps, PairWalk, IsLeastWalk, uncode}
 use Rattle.search_laws.proofs.LeastSteps.{IsLeastStepsTo, IsLeastStepsTo-edge}
 use Rattle.search_laws.proofs.QueueDepths.{lengths-ascending, no_word_within}
@@ -17,7 +16,8 @@ pub place_at : (queue : List Reached) (i : ℕ) (x : Reached) → slice_get queu
 place_at = mapped_at place_of
 
 -- what stands at a place of the tree stands there as it was reached
-pub reached_at : (queue : List Reached) (i : ℕ) (z : Place ℕ) → slice_get (places_of queue) i ≡ Some z → (x : Reached) × (slice_get queue i ≡ Some x) × (place_of x ≡ z)
+pub reached_at : (queue : List Reached) (i : ℕ) (z : Place ℕ) → slice_get (places_of queue) i ≡ Some z
+    → (x : Reached) × (slice_get queue i ≡ Some x) × (place_of x ≡ z)
 reached_at = unmapped_at place_of
 
 -- a step leads to a marked pair, and to one alone
@@ -45,7 +45,8 @@ edge : (h k n : ℕ) → h * k + (n + 1) ≡ h * k + n + 1
 edge h k n = omega arith
 
 -- a search stays one where one more edge leads nowhere, or to what has been reached and isn't the goal
-pub IsWalking-old : {r : LocalRule} {ends : Ends} {queue : List Reached} → (h n : ℕ) → IsWalking r ends queue (h * step_count r + n) → (x : Reached) → slice_get queue h ≡ Some x → n < step_count r
+pub IsWalking-old : {r : LocalRule} {ends : Ends} {queue : List Reached} → (h n : ℕ) → IsWalking r ends queue (h * step_count r + n) → (x : Reached)
+    → slice_get queue h ≡ Some x → n < step_count r
     → ((t : ℕ) → MarkedStep r x.pair n t → (ends.goal ≢ Some t) × IsListed queue t) → IsWalking r ends queue (h * step_count r + (n + 1))
 IsWalking-old {r} {ends} {queue} h n w x at letter old =
     let there = place_at queue h x at in
@@ -61,8 +62,10 @@ IsWalking-old {r} {ends} {queue} h n w x at letter old =
     }
 
 -- some more edges lead nowhere, or to what has been reached and isn't the goal
-pub IsWalking-skip : {r : LocalRule} {ends : Ends} {queue : List Reached} → (h n d : ℕ) → IsWalking r ends queue (h * step_count r + n) → (x : Reached) → slice_get queue h ≡ Some x → n + d ≤ step_count r
-    → ((c t : ℕ) → n ≤ c → c < n + d → MarkedStep r x.pair c t → (ends.goal ≢ Some t) × IsListed queue t) → IsWalking r ends queue (h * step_count r + (n + d))
+pub IsWalking-skip : {r : LocalRule} {ends : Ends} {queue : List Reached} → (h n d : ℕ) → IsWalking r ends queue (h * step_count r + n)
+    → (x : Reached) → slice_get queue h ≡ Some x → n + d ≤ step_count r
+    → ((c t : ℕ) → n ≤ c → c < n + d → MarkedStep r x.pair c t → (ends.goal ≢ Some t) × IsListed queue t)
+    → IsWalking r ends queue (h * step_count r + (n + d))
 IsWalking-skip {r} {ends} {queue} h n zero w x at within old =
     let none : h * step_count r + n ≡ h * step_count r + (n + 0) = omega arith in subst (IsWalking r ends queue) none w
 IsWalking-skip {r} {ends} {queue} h n (suc d) w x at within old =
@@ -71,7 +74,8 @@ IsWalking-skip {r} {ends} {queue} h n (suc d) w x at within old =
     subst (IsWalking r ends queue) more (IsWalking-old h (n + d) before x at (omega arith) (λ t. old (n + d) t (omega arith) (omega arith)))
 
 -- one place more, one step further than an earlier one
-HasDepths-push : {queue : List Reached} → HasDepths queue → (x y : Reached) → slice_get queue y.parent ≡ Some x → y.depth ≡ x.depth + 1 → HasDepths (queue ++ y ∷ [])
+HasDepths-push : {queue : List Reached} → HasDepths queue → (x y : Reached) → slice_get queue y.parent ≡ Some x → y.depth ≡ x.depth + 1
+    → HasDepths (queue ++ y ∷ [])
 HasDepths-push {queue} d x y at more =
     let stays : (i : ℕ) (z : Reached) → slice_get queue i ≡ Some z → slice_get (queue ++ y ∷ []) i ≡ Some z = λ i z there. slice_get-append queue (y ∷ []) i z there in
     record {
@@ -86,7 +90,8 @@ HasDepths-push {queue} d x y at more =
     }
 
 -- a search stays one where one more edge leads to what hasn't been reached and isn't the goal, and this is added
-pub IsWalking-new : {r : LocalRule} {ends : Ends} {queue : List Reached} → (h n : ℕ) → IsWalking r ends queue (h * step_count r + n) → (x y : Reached) → slice_get queue h ≡ Some x → n < step_count r
+pub IsWalking-new : {r : LocalRule} {ends : Ends} {queue : List Reached} → (h n : ℕ) → IsWalking r ends queue (h * step_count r + n) → (x y : Reached)
+    → slice_get queue h ≡ Some x → n < step_count r
     → y.parent ≡ h → y.step ≡ n → y.depth ≡ x.depth + 1 → MarkedStep r x.pair n y.pair → ends.goal ≢ Some y.pair → ¬ IsListed queue y.pair
     → IsWalking r ends (queue ++ y ∷ []) (h * step_count r + (n + 1))
 IsWalking-new {r} {ends} {queue} h n w x y at letter parent by deeper step other new =
@@ -107,13 +112,17 @@ IsWalking-new {r} {ends} {queue} h n w x y at letter parent by deeper step other
     }
 
 -- what a search has reached is a marked pair
-pub queued-below : {r : LocalRule} {ends : Ends} {queue : List Reached} {e : ℕ} → IsWalking r ends queue e → (i : ℕ) (x : Reached) → slice_get queue i ≡ Some x → x.pair < 2 * pair_count r
+pub queued-below : {r : LocalRule} {ends : Ends} {queue : List Reached} {e : ℕ} → IsWalking r ends queue e → (i : ℕ) (x : Reached)
+    → slice_get queue i ≡ Some x → x.pair < 2 * pair_count r
 queued-below {r} {queue = queue} w i x at =
     state-below w.filled (2 * pair_count r) w.start_in (MarkedStep-below w.rule) i (place_of x) (place_at queue i x at)
 
 -- some more steps on the first letter a, from the second letter b on, lead to nothing that the rows don't have
-pub IsWalkSearch-skip : {r : LocalRule} {ends : Ends} {queue : List Reached} {rows : List ℕ} → (h a b d n : ℕ) → IsWalkSearch r ends queue rows (h * step_count r + (a * 16 + b)) → (x : Reached) → slice_get queue h ≡ Some x
-    → a < r.states → b + d ≤ 16 → n ≡ a * 16 + b + d → ((c t : ℕ) → b ≤ c → c < b + d → c < r.states → marked r x.pair a c ≡ Some t → HasPair r rows t) → IsWalkSearch r ends queue rows (h * step_count r + n)
+pub IsWalkSearch-skip : {r : LocalRule} {ends : Ends} {queue : List Reached} {rows : List ℕ} → (h a b d n : ℕ)
+    → IsWalkSearch r ends queue rows (h * step_count r + (a * 16 + b)) → (x : Reached) → slice_get queue h ≡ Some x
+    → a < r.states → b + d ≤ 16 → n ≡ a * 16 + b + d
+    → ((c t : ℕ) → b ≤ c → c < b + d → c < r.states → marked r x.pair a c ≡ Some t → HasPair r rows t)
+    → IsWalkSearch r ends queue rows (h * step_count r + n)
 IsWalkSearch-skip {r} h a b d n s x at letter small reach old = record {
   walking = rw reach (IsWalking-skip h (a * 16 + b) d s.walking x at (omega arith) (λ c t least less step.
       let parts : (c / 16 ≡ a) × (c % 16 ≡ c - a * 16) = (omega arith, omega arith) in
@@ -124,8 +133,10 @@ IsWalkSearch-skip {r} h a b d n s x at letter small reach old = record {
 }
 
 -- the next step leads to a marked pair that the rows don't have and that isn't the goal
-pub IsWalkSearch-new : {r : LocalRule} {ends : Ends} {queue : List Reached} {rows : List ℕ} → (h a b : ℕ) → IsWalkSearch r ends queue rows (h * step_count r + (a * 16 + b)) → (x y : Reached) → slice_get queue h ≡ Some x
-    → a < r.states → b < r.states → y.parent ≡ h → y.step ≡ a * 16 + b → y.depth ≡ x.depth + 1 → marked r x.pair a b ≡ Some y.pair → ends.goal ≢ Some y.pair → ¬ HasPair r rows y.pair
+pub IsWalkSearch-new : {r : LocalRule} {ends : Ends} {queue : List Reached} {rows : List ℕ} → (h a b : ℕ)
+    → IsWalkSearch r ends queue rows (h * step_count r + (a * 16 + b)) → (x y : Reached) → slice_get queue h ≡ Some x
+    → a < r.states → b < r.states → y.parent ≡ h → y.step ≡ a * 16 + b → y.depth ≡ x.depth + 1 → marked r x.pair a b ≡ Some y.pair
+    → ends.goal ≢ Some y.pair → ¬ HasPair r rows y.pair
     → (after : List ℕ) → ((t : ℕ) → t < 2 * pair_count r → (HasPair r after t ↔ ((t ≡ y.pair) ⊎ HasPair r rows t)))
     → IsWalkSearch r ends (queue ++ y ∷ []) after (h * step_count r + (a * 16 + (b + 1)))
 IsWalkSearch-new {r} {ends} {queue} {rows} h a b s x y at first second parent by deeper leads other new after more_rows =
@@ -147,8 +158,10 @@ IsWalkSearch-new {r} {ends} {queue} {rows} h a b s x y at first second parent by
     }
 
 -- the start alone, which counts as reached unless it is the goal
-pub IsWalkSearch-start : {r : LocalRule} {ends : Ends} → IsRule r → ends.start < 2 * pair_count r → (x : Reached) → x.pair ≡ ends.start → x.depth ≡ 0 → (rows : List ℕ)
-    → ((t : ℕ) → t < 2 * pair_count r → (HasPair r rows t ↔ ((t ≡ ends.start) × (ends.goal ≢ Some ends.start)))) → IsWalkSearch r ends (x ∷ []) rows (0 * step_count r)
+pub IsWalkSearch-start : {r : LocalRule} {ends : Ends} → IsRule r → ends.start < 2 * pair_count r → (x : Reached) → x.pair ≡ ends.start → x.depth ≡ 0
+    → (rows : List ℕ)
+    → ((t : ℕ) → t < 2 * pair_count r → (HasPair r rows t ↔ ((t ≡ ends.start) × (ends.goal ≢ Some ends.start))))
+    → IsWalkSearch r ends (x ∷ []) rows (0 * step_count r)
 IsWalkSearch-start {r} {ends} rule start x at none rows exact = record {
   walking = rw (zero-mul (step_count r)) (record {
     rule = rule;
@@ -167,7 +180,8 @@ IsWalkSearch-start {r} {ends} rule start x at none rows exact = record {
 }
 
 -- the test whether the goal is this marked pair
-pub goal-tells : (goal : Option ℕ) (q : ℕ) (b : Bool) → b ≡ option_eq (λ x y. x == y) goal (Some q) → (b ≡ true → goal ≡ Some q) × (b ≡ false → goal ≢ Some q)
+pub goal-tells : (goal : Option ℕ) (q : ℕ) (b : Bool) → b ≡ option_eq (λ x y. x == y) goal (Some q)
+    → (b ≡ true → goal ≡ Some q) × (b ≡ false → goal ≢ Some q)
 goal-tells None q b e = (λ yes. absurd (true≢false (sym yes ∙ e)), λ no same. none-some q same)
 goal-tells (Some x) q b e =
     let test = Decides-eqb x q in (λ yes. ap Some (test.0 (sym e ∙ yes)), λ no same. true≢false (sym (test.1 (same_Some x q same)) ∙ sym e ∙ no))
@@ -177,7 +191,8 @@ pub IsBackward-walking : {r : LocalRule} {ends : Ends} {queue : List Reached} {e
 IsBackward-walking {queue = queue} w i x positive at = (w.filled.fills.branches i (place_of x) positive (place_at queue i x at)).earlier
 
 -- the word that is spelled to a place has as many letters as steps lead there
-pub length-walked : {r : LocalRule} {ends : Ends} {queue : List Reached} {e i : ℕ} {w : List ℕ} → IsWalking r ends queue e → TreeSpells (places_of queue) i w
+pub length-walked : {r : LocalRule} {ends : Ends} {queue : List Reached} {e i : ℕ} {w : List ℕ} → IsWalking r ends queue e
+    → TreeSpells (places_of queue) i w
     → (x : Reached) → slice_get queue i ≡ Some x → length w ≡ x.depth
 length-walked walking Root x at = sym (walking.depths.root x at)
 length-walked {queue = queue} walking (Branch i z w some there before) x at =
@@ -188,7 +203,8 @@ length-walked {queue = queue} walking (Branch i z w some there before) x at =
     omega (arith, length_push w z.letter)
 
 -- fewer than 512 steps lead to a place, since there are at most 512 places
-pub depth-below : {r : LocalRule} {ends : Ends} {queue : List Reached} {e : ℕ} → IsWalking r ends queue e → (i : ℕ) (x : Reached) → slice_get queue i ≡ Some x → x.depth < 512
+pub depth-below : {r : LocalRule} {ends : Ends} {queue : List Reached} {e : ℕ} → IsWalking r ends queue e → (i : ℕ) (x : Reached)
+    → slice_get queue i ≡ Some x → x.depth < 512
 depth-below {queue = queue} w i x at =
     let (v, spells) = TreeSpells-some w.filled.fills i (place_of x) (place_at queue i x at) in
     omega (arith, length-spelled-le w.filled.fills spells, length-walked w spells x at, slice_get_within queue i x at, length-walking-le w)
@@ -203,7 +219,8 @@ deeper {queue = queue} w i j x y le at there =
 
 -- where only the edges from the places before the head were followed, and these are nearer than `most` steps, no place is further
 pub near-all : {r : LocalRule} {ends : Ends} {queue : List Reached} {most : ℕ} → (h : ℕ) → IsWalking r ends queue (h * step_count r)
-    → ((i : ℕ) (x : Reached) → i < h → slice_get queue i ≡ Some x → x.depth < most) → (i : ℕ) (x : Reached) → slice_get queue i ≡ Some x → x.depth ≤ most
+    → ((i : ℕ) (x : Reached) → i < h → slice_get queue i ≡ Some x → x.depth < most) → (i : ℕ) (x : Reached) → slice_get queue i ≡ Some x
+    → x.depth ≤ most
 near-all h w near zero x at = omega (arith, w.depths.root x at)
 near-all {r} {ends} {queue} {most} h w near (suc i) x at =
     let (p, stands, further) = w.depths.more (suc i) x (omega arith) at in
@@ -215,7 +232,8 @@ near-all {r} {ends} {queue} {most} h w near (suc i) x at =
     omega (arith, near x.parent p before stands, further)
 
 -- the steps to the place where a search arrives, and the last one, are the least walk
-pub IsLeastWalk-arrival : {r : LocalRule} {ends : Ends} {queue : List Reached} {place step goal : ℕ} {steps : List ℕ} → IsArrival r ends queue place step → ends.goal ≡ Some goal
+pub IsLeastWalk-arrival : {r : LocalRule} {ends : Ends} {queue : List Reached} {place step goal : ℕ} {steps : List ℕ}
+    → IsArrival r ends queue place step → ends.goal ≡ Some goal
     → SpellsBefore queue place (step ∷ []) steps → IsLeastWalk (marked r) r.states ends.start goal (map (uncode 16) steps)
 IsLeastWalk-arrival {r} {ends} {queue} {place} {step} {goal} a sought (w, spells, whole) =
     let one : a.goal ≡ goal = same_Some a.goal goal (sym a.sought ∙ sought) in
@@ -223,13 +241,15 @@ IsLeastWalk-arrival {r} {ends} {queue} {place} {step} {goal} a sought (w, spells
     IsLeastWalk-steps a.walking.rule.shape.most_states (subst₂ (IsLeastStepsTo (MarkedStep r) (step_count r) ends.start) one (sym whole) first)
 
 -- the walk to where a search arrives has at most one step more than the place is away
-pub length-arrival : {r : LocalRule} {ends : Ends} {queue : List Reached} {place step most : ℕ} {steps : List ℕ} → IsArrival r ends queue place step → IsNearStart queue place most
+pub length-arrival : {r : LocalRule} {ends : Ends} {queue : List Reached} {place step most : ℕ} {steps : List ℕ} → IsArrival r ends queue place step
+    → IsNearStart queue place most
     → SpellsBefore queue place (step ∷ []) steps → length steps ≤ most
 length-arrival {step = step} a near (w, spells, whole) =
     omega (arith, near a.from a.stands, length-walked a.walking spells a.from a.stands, length_push w step, ap length whole)
 
 -- a search that stops at places `most` steps away, and found no edge to a marked pair, has not missed a walk of at most `most` steps to it
-pub no_walk-edge : {r : LocalRule} {ends : Ends} {queue : List Reached} {most goal : ℕ} → (x : IsEnded r ends queue most) → NoEdgeBefore (MarkedStep r) (step_count r) (places_of queue) x.edges goal
+pub no_walk-edge : {r : LocalRule} {ends : Ends} {queue : List Reached} {most goal : ℕ} → (x : IsEnded r ends queue most)
+    → NoEdgeBefore (MarkedStep r) (step_count r) (places_of queue) x.edges goal
     → (w : List (ℕ × ℕ)) → 0 < length w → length w ≤ most → ¬ PairWalk (marked r) r.states ends.start w goal
 no_walk-edge {r} {ends} {queue} {most} {goal} x none w some short walk =
     no_word_within x.walking.filled {most = most}
@@ -241,7 +261,8 @@ no_walk-edge {r} {ends} {queue} {most} {goal} x none w some short walk =
     (Leads-walk 16 x.walking.rule.shape.most_states walk)
 
 -- with a bound of 512 an ended search has followed all edges
-pub all_followed : {r : LocalRule} {ends : Ends} {queue : List Reached} {most : ℕ} → 512 ≤ most → (x : IsEnded r ends queue most) → length (places_of queue) * step_count r ≤ x.edges
+pub all_followed : {r : LocalRule} {ends : Ends} {queue : List Reached} {most : ℕ} → 512 ≤ most → (x : IsEnded r ends queue most)
+    → length (places_of queue) * step_count r ≤ x.edges
 all_followed {r} {ends} {queue} large x =
     let all : length queue ≤ x.head = ⊎_elim
     (λ short.

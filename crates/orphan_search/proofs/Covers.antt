@@ -12,7 +12,8 @@ is_cover-minimal : (full : ℕ) (sets : List ℕ) (s : ℕ) → s ≢ full → i
 is_cover-minimal full sets s other = ap (λ b. not b && is_minimal sets s) (ne_eqb s full other)
 
 -- a set other than the first comes into the cover list behind those before it, where it is minimal
-pub covers_more : (sets : List ℕ) → AllPairs (λ s t. s ≢ t) sets → (i : ℕ) → 0 < i → i < length sets → (minimal : Bool) → minimal ≡ is_minimal sets (slice_index sets i)
+pub covers_more : (sets : List ℕ) → AllPairs (λ s t. s ≢ t) sets → (i : ℕ) → 0 < i → i < length sets → (minimal : Bool)
+    → minimal ≡ is_minimal sets (slice_index sets i)
     → filter (is_cover (slice_index sets 0) sets) (take (i + 1) sets)
     ≡ filter (is_cover (slice_index sets 0) sets) (take i sets) ++ cond minimal (slice_index sets i ∷ []) []
 covers_more sets apart i later inside minimal says =

@@ -1,9 +1,8 @@
 -- Rows of sets by lanes: one lane for each second node.
-use Rattle.std.proofs.Common.{◌≡◌, ◌≢◌, ℕ, ◌+◌, ◌%◌, ◌^◌, ◌<◌, ◌↔◌, List, [], length, map, replicate, Bool, false, not, cond, nat_eq, slice_index, slice_index_or, IsBitSet, bit_and, bit_or, sym, ap, ◌∙◌, subst, arith, w16, ne_eqb}
+use Rattle.std.proofs.Common.{◌≡◌, ◌≢◌, ℕ, ◌+◌, ◌%◌, ◌^◌, ◌<◌, ◌↔◌, List, [], length, map, replicate, Bool, false, not, cond, nat_eq, slice_index, slice_index_or, IsBitSet, bit_and, bit_or, sym, ap, ◌∙◌, arith, w16, ne_eqb}
 use Rattle.std.proofs.lemmas.Simd.{get_or-zip2, length-zip2, mask_l-lt, bitmask_splat, bit_mask_l}
 use Rattle.std.specs.Simd.Lanes.{zip2, mask_l, top}
-use Rattle.word_image.proofs.Common.{bit_at, and_le_r, get_or-map, get_or-replicate, length-map, LocalRule, bit_at-IsBitSet, IsBitSet-some, IsBitSet-zero, IsUnion, IsUnion-take, label_at, end_at}
-use Rattle.std.proofs.lemmas.Simd.{length-replicate}
+use Rattle.word_image.proofs.Common.{bit_at, and_le_r, get_or-map, get_or-replicate, length-map, LocalRule, bit_at-IsBitSet, IsBitSet-some, IsBitSet-zero, IsUnion, IsUnion-take, label_at, end_at, length-replicate}
 use Rattle.pair_laws.proofs.Common.{IsBitSet-and}
 use Rattle.word_image.specs.declared.side.Side.{Side}
 use Rattle.pair_graph.specs.PairSets.{GoesOnBy, GoesOn}
@@ -14,7 +13,8 @@ pub record AreLanes (side : Side) (r : LocalRule) (ends : List (List ℕ)) (rows
   pub lanes : (v : ℕ) → v < 16 → IsUnion 16 (GoesOnBy side r ends rows u v) n (slice_index hits v)
 
 -- the lanes with one letter more
-pub AreLanes-next : {side : Side} {r : LocalRule} {ends : List (List ℕ)} {rows : List ℕ} {u n : ℕ} {hits : List ℕ} → AreLanes side r ends rows u n hits
+pub AreLanes-next : {side : Side} {r : LocalRule} {ends : List (List ℕ)} {rows : List ℕ} {u n : ℕ} {hits : List ℕ}
+    → AreLanes side r ends rows u n hits
     → (label to : ℕ) → label ≡ label_at side r u n → to ≡ end_at side r u n
     → length (slice_index_or ends label []) ≡ 16 → slice_index rows to < 2 ^ 16
     → AreLanes side r ends rows u (n + 1) (zip2 bit_or hits (zip2 bit_and (slice_index_or ends label []) (replicate 16 (slice_index rows to))))
@@ -34,17 +34,9 @@ AreLanes-next {side} {r} {ends} {rows} {u} {n} {hits} h label to labelled arrive
           let at_both : slice_index both v ≡ part =
           get_or-zip2 bit_and lanes splat v 0 0 0 (omega (arith, wide, inside)) (omega (arith, long_splat, inside)) ∙ ap (bit_and lane) (get_or-replicate 16 v seconds 0 inside) in
           let at_hits = get_or-zip2 bit_or hits both v 0 0 0 (omega (arith, long, inside)) (omega (arith, long_both, inside)) ∙ ap (bit_or (slice_index hits v)) at_both in
-          subst (IsUnion 16 (GoesOnBy side r ends rows u v) (n + 1)) (sym at_hits)
-          (IsUnion-take (h.lanes v inside) (omega (arith, and_le_r lane seconds, small)) (λ t node. (
-            (λ some. let (first, second) = (IsBitSet-and lane seconds t).0 some in record {
-              node = node;
-              second = subst (λ l. IsBitSet (slice_index (slice_index_or ends l []) v) t) labelled first;
-              pair = subst (λ x. IsBitSet (slice_index rows x) t) arrives second;
-            }),
-            (λ g. (IsBitSet-and lane seconds t).1 (
-              subst (λ l. IsBitSet (slice_index (slice_index_or ends l []) v) t) (sym labelled) g.second,
-              subst (λ x. IsBitSet (slice_index rows x) t) (sym arrives) g.pair,
-            )),
+          rw at_hits (IsUnion-take (h.lanes v inside) (omega (arith, and_le_r lane seconds, small)) (λ t node. (
+            (λ some. let (first, second) = (IsBitSet-and lane seconds t).0 some in record { node = node; second = rw labelled at first; pair = rw arrives at second }),
+            (λ g. (IsBitSet-and lane seconds t).1 (rw labelled g.second, rw arrives g.pair)),
           )));
     }
 
@@ -62,8 +54,7 @@ mask_is hits long = bitmask_splat w16 differs hits 16 0 long (omega arith)
 -- the mask of sixteen lanes has sixteen bits
 pub mask-below : (hits : List ℕ) → length hits ≡ 16 → mask_of hits < 2 ^ 16
 mask-below hits long =
-    let ms = map (λ x. differs x 0) hits in
-    subst (λ m. m < 2 ^ 16) (sym (mask_is hits long)) (subst (λ n. mask_l ms < 2 ^ n) (length-map hits (λ x. differs x 0) ∙ long) (mask_l-lt ms))
+    rw (mask_is hits long) (rw (length-map hits (λ x. differs x 0), long) at (mask_l-lt (map (λ x. differs x 0) hits)))
 
 -- what the comparison gives of a lane that isn't 0
 abbrev lane_bit : ℕ → ℕ
@@ -87,7 +78,8 @@ mask-bit hits v long inside =
     )
 
 -- the mask of the lanes is the set of the nodes v that go on with u
-pub GoesOn-mask : {side : Side} {r : LocalRule} {ends : List (List ℕ)} {rows : List ℕ} {u n : ℕ} {hits : List ℕ} → AreLanes side r ends rows u n hits → n ≡ r.states
+pub GoesOn-mask : {side : Side} {r : LocalRule} {ends : List (List ℕ)} {rows : List ℕ} {u n : ℕ} {hits : List ℕ} → AreLanes side r ends rows u n hits
+    → n ≡ r.states
     → (v : ℕ) → v < 16 → IsBitSet (mask_of hits) v ↔ GoesOn side r ends rows u v
 GoesOn-mask {side} {r} {ends} {rows} {u} {n} {hits} h all v inside =
     let lane = h.lanes v inside in
@@ -98,5 +90,5 @@ GoesOn-mask {side} {r} {ends} {rows} {u} {n} {hits} h all v inside =
           (a, t, omega (arith, before, all), goes)),
       (λ (a, t, letter, goes).
           let present = (lane.nodes t goes.node).1 (a, omega (arith, letter, all), goes) in
-          exact.1 (λ empty. IsBitSet-zero t (subst (λ x. IsBitSet x t) empty present))),
+          exact.1 (λ empty. IsBitSet-zero t (rw empty at present))),
     )

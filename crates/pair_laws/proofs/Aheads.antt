@@ -1,6 +1,6 @@
 -- Look-aheads by pairs of nodes: no first pair of the side goes on together for the rest.
-use Rattle.std.proofs.Common.{◌≡◌, ◌≢◌, ℕ, ◌+◌, ◌-◌, ◌*◌, ◌%◌, ◌<◌, ◌≤◌, ◌↔◌, ◌++◌, take, drop, get_or, slice_index, refl, sym, ap, ap₂, subst, subst₂, ◌∙◌, ⊎_elim, arith, length-take-le, mod-lt, div-add-mod'}
-use Rattle.word_image.proofs.Common.{cases_eq, same_from_place, take-append-le, get_or_append_left, All-take, LocalRule, IsRule, value, word_of, HaveOneImage, IsRightAhead, next, label, node_letter, pair_of, first_of, second_of, LeadsOn, PairGoes, Together, IsFirstOf, IsFirstOfRight, seen_from, value-injective, value-word_of, next-below, IsRule-mirrored, rest_count, node_parts}
+use Rattle.std.proofs.Common.{◌≡◌, ◌≢◌, ℕ, ◌+◌, ◌-◌, ◌*◌, ◌%◌, ◌<◌, ◌≤◌, ◌↔◌, ◌++◌, take, drop, get_or, slice_index, refl, sym, ap, ap₂, subst, subst₂, ◌∙◌, arith, length-take-le, mod-lt, div-add-mod'}
+use Rattle.word_image.proofs.Common.{same_from_place, take-append-le, get_or_append_left, All-take, LocalRule, IsRule, value, word_of, HaveOneImage, IsRightAhead, next, label, node_letter, pair_of, first_of, second_of, LeadsOn, PairGoes, Together, IsFirstOf, IsFirstOfRight, seen_from, value-injective, value-word_of, next-below, IsRule-mirrored, rest_count, node_parts}
 use Rattle.word_image.specs.declared.side.Side.{Side}
 use Rattle.word_image.specs.declared.side.Side.TheVariants.{Right, Left}
 use Rattle.pair_laws.proofs.Edges.{value-one, rest_count_pos, next-digits}
@@ -75,7 +75,8 @@ ahead_forks Left {r} rule n =
 -- Forks and first pairs
 
 -- edges that lead to one node have one letter, and leave nodes with the same letters behind the first
-pub same_next : {r : LocalRule} → IsRule r → (u v a b : ℕ) → a < r.states → b < r.states → next r u a ≡ next r v b → (u % rest_count r ≡ v % rest_count r) × (a ≡ b)
+pub same_next : {r : LocalRule} → IsRule r → (u v a b : ℕ) → a < r.states → b < r.states → next r u a ≡ next r v b
+    → (u % rest_count r ≡ v % rest_count r) × (a ≡ b)
 same_next {r} rule u v a b ha hb e = same_from_place (u % rest_count r) a (v % rest_count r) b r.states ha hb (sym (next-digits rule u a ha) ∙ e ∙ next-digits rule v b hb)
 
 -- the different nodes of a fork are a first pair
@@ -121,7 +122,8 @@ IsFirstOf-step Left {r} rule p q one other step =
     subst (IsFirstOf Left r) (pair_of-first_of r q) (IsFirstOf-fork Left rule _ _ _ (subst (LeadTogether r (first_of r q) (second_of r q) 1 (first_of r p)) (sym one) (PairStep-walk rule step)) other)
 
 -- the nodes of a first pair are different, and in a fork
-pub fork_of : (side : Side) {r : LocalRule} → IsRule r → (p : ℕ) → IsFirstOf side r p → (s : ℕ) × Fork side r s (first_of r p) (second_of r p) × (first_of r p ≢ second_of r p)
+pub fork_of : (side : Side) {r : LocalRule} → IsRule r → (p : ℕ) → IsFirstOf side r p
+    → (s : ℕ) × Fork side r s (first_of r p) (second_of r p) × (first_of r p ≢ second_of r p)
 fork_of Right {r} rule p f =
     let inside = next-below rule f.node f.b in
     let first = ap (first_of r) f.pair ∙ first_of-pair_of r _ _ inside in
@@ -145,17 +147,9 @@ fork_of Left {r} rule p f =
 pub ahead_pairs : (side : Side) {r : LocalRule} → IsRule r → (n : ℕ)
     → IsRightAhead (seen_from side r) n ↔ ((1 ≤ n) × ((p : ℕ) → IsFirstOf side r p → ¬ PairGoes side r p (n - 1)))
 ahead_pairs side {r} rule n =
-    let forks = ahead_forks side rule n in (
-      (λ h. ((forks.0 h).0, (λ p f goes. let (s, fork, other) = fork_of side rule p f in other ((forks.0 h).1 s _ _ fork goes)))),
-      (λ h. forks.1 (
-        h.0,
-        (λ s u v fork goes.
-            ⊎_elim (λ same. same)
-            (λ other. absurd (h.1 (pair_of r u v) (IsFirstOf-fork side rule s u v fork other) ((PairGoes-pair_of side r u v (n - 1) (Together-below side r u v (n - 1) goes).1).1 goes)))
-            (cases_eq u v)),
-      )),
-    )
+    let forks = ahead_forks side rule n in grind (arith, fork_of, IsFirstOf-fork, PairGoes-pair_of, Together-below)
 
 -- a rule looks ahead for n exactly where no first pair of the right begins together for n - 1
-pub IsRightAhead-pairs : {r : LocalRule} → IsRule r → (n : ℕ) → IsRightAhead r n ↔ ((1 ≤ n) × ((p : ℕ) → IsFirstOfRight r p → ¬ PairGoes Right r p (n - 1)))
+pub IsRightAhead-pairs : {r : LocalRule} → IsRule r → (n : ℕ)
+    → IsRightAhead r n ↔ ((1 ≤ n) × ((p : ℕ) → IsFirstOfRight r p → ¬ PairGoes Right r p (n - 1)))
 IsRightAhead-pairs = ahead_pairs Right

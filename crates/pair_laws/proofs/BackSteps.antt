@@ -1,7 +1,7 @@
 -- A window is a node and the letter after it, and also the letter before a node and that node: so a step leads back from a pair along the windows that its nodes end.
-use Rattle.std.proofs.Common.{◌≡◌, ℕ, ◌+◌, ◌*◌, ◌-◌, ◌/◌, ◌%◌, ◌^◌, ◌<◌, ◌↔◌, Some, slice_index, eq-eqb, refl, sym, ap, ap₂, ◌∙◌, subst, subst₂, mod-lt, mul_comm, arith, div-add-mod'}
-use Rattle.word_image.proofs.Common.{div-mul-add, mod-mul-add, div-div-eq-div-mul, LocalRule, IsRule, node_count, next, node_letter, first_of, second_of, pair_of, pair_count, follow_on, LeadsOn, IsWord-word_of, length-word_of, next-below, some_letter, rest_count, node_count-rest, node_parts, window_with-within, end_node-below, window_with, label_at, end_at}
-use Rattle.pair_laws.proofs.Pairs.{first_of-pair_of, second_of-pair_of, pair_of-first_of, some_if_equal, first_of-below, second_of-below, follow-some, follow-below, LeadTogether-pairs}
+use Rattle.std.proofs.Common.{◌≡◌, ℕ, ◌+◌, ◌*◌, ◌-◌, ◌/◌, ◌%◌, ◌^◌, ◌<◌, ◌↔◌, Some, slice_index, eq-eqb, refl, sym, ap, ◌∙◌, subst, subst₂, mod-lt, mul_comm, arith, div-add-mod'}
+use Rattle.word_image.proofs.Common.{div-mul-add, mod-mul-add, div-div-eq-div-mul, LocalRule, IsRule, node_count, node_letter, first_of, second_of, pair_of, pair_count, follow_on, LeadsOn, IsWord-word_of, length-word_of, some_letter, rest_count, node_count-rest, node_parts, window_with-within, end_node-below, window_with, label_at, end_at}
+use Rattle.pair_laws.proofs.Pairs.{first_of-pair_of, second_of-pair_of, pair_of-first_of, some_if_equal, first_of-below, second_of-below, LeadTogether-pairs}
 use Rattle.pair_laws.proofs.Walks.{LeadTogether, LeadTogether-edges}
 use Rattle.word_image.specs.declared.side.Side.{Side}
 use Rattle.word_image.specs.declared.side.Side.TheVariants.{Right, Left}
@@ -18,18 +18,9 @@ first_letter {r} rule u c letter =
     ∙ sym (div-div-eq-div-mul (u * r.states + c) r.states (rest_count r))
     ∙ ap (λ v. v / rest_count r) (div-mul-add u r.states c letter) ∙ sym (node_parts rule u).0
 
--- the window of a node and a letter is that of letter a before node s exactly where the node begins with a, and the letter leads to s
-same_window : {r : LocalRule} → IsRule r → (u c a s : ℕ) → c < r.states → s < node_count r → (u * r.states + c ≡ window_with Left r s a) ↔ ((node_letter r u 0 ≡ a) × (next r u c ≡ s))
-same_window {r} rule u c a s letter node = (
-  (λ same. (
-    sym (first_letter rule u c letter) ∙ ap (λ w. w / node_count r) same ∙ div-mul-add a (node_count r) s node,
-    ap (λ w. w % node_count r) same ∙ mod-mul-add a (node_count r) s node,
-  )),
-  (λ (first, leads). sym (div-add-mod' (u * r.states + c) (node_count r)) ∙ ap₂ (λ b t. window_with Left r t b) (first_letter rule u c letter ∙ first) leads),
-)
-
 -- two windows with one label are two edges with one label
-pub window_edges : {r : LocalRule} → IsRule r → (w z : ℕ) → w < r.states ^ r.width → z < r.states ^ r.width → slice_index r.table w ≡ slice_index r.table z
+pub window_edges : {r : LocalRule} → IsRule r → (w z : ℕ) → w < r.states ^ r.width → z < r.states ^ r.width
+    → slice_index r.table w ≡ slice_index r.table z
     → LeadTogether r (w / r.states) (z / r.states) 1 (w % node_count r) (z % node_count r)
 window_edges {r} rule w z below_w below_z one_label =
     let k : ℕ = r.states in
@@ -45,7 +36,8 @@ begins_with {r} rule s a node =
     sym (first_letter rule (w / r.states) (w % r.states) (mod-lt w (some_letter rule))) ∙ ap (λ x. x / node_count r) (div-add-mod' w r.states) ∙ div-mul-add a (node_count r) s node
 
 -- the pair of the nodes of two windows leads back, where the windows have one label
-leads_back : {r : LocalRule} → IsRule r → (q a b : ℕ) → q < pair_count r → a < r.states → b < r.states → label_at Left r (first_of r q) a ≡ label_at Left r (second_of r q) b
+leads_back : {r : LocalRule} → IsRule r → (q a b : ℕ) → q < pair_count r → a < r.states → b < r.states
+    → label_at Left r (first_of r q) a ≡ label_at Left r (second_of r q) b
     → LeadsBack r q a b (pair_of r (end_at Left r (first_of r q) a) (end_at Left r (second_of r q) b))
 leads_back {r} rule q a b pair ha hb one_label =
     let hu = first_of-below rule q pair in
@@ -63,20 +55,7 @@ leads_back {r} rule q a b pair ha hb one_label =
 -- where a pair leads back, the two windows have one label, and it leads to the pair of their nodes
 pub led_back : {r : LocalRule} → IsRule r → (q a b p : ℕ) → LeadsBack r q a b p
     → (label_at Left r (first_of r q) a ≡ label_at Left r (second_of r q) b) × (pair_of r (end_at Left r (first_of r q) a) (end_at Left r (second_of r q) b) ≡ p)
-led_back {r} rule q a b p back =
-    let u : ℕ = first_of r p in
-    let v : ℕ = second_of r p in
-    let (c, d, in_c, in_d, follows) = back.leads in
-    let edges = follow-some r p c d q follows in
-    let in_t = next-below rule v d in
-    let first : next r u c ≡ first_of r q = sym (first_of-pair_of r (next r u c) (next r v d) in_t) ∙ ap (first_of r) edges.1 in
-    let second : next r v d ≡ second_of r q = sym (second_of-pair_of r (next r u c) (next r v d) in_t) ∙ ap (second_of r) edges.1 in
-    let at_u = (same_window rule u c a (first_of r q) in_c (first_of-below rule q (follow-below rule p c d q follows))).1 (back.first, first) in
-    let at_v = (same_window rule v d b (second_of r q) in_d (second_of-below rule q)).1 (back.second, second) in (
-      ap (slice_index r.table) (sym at_u) ∙ edges.0 ∙ ap (slice_index r.table) at_v,
-      ap₂ (λ (x y : ℕ). pair_of r (x / r.states) (y / r.states)) (sym at_u) (sym at_v)
-          ∙ ap₂ (pair_of r) (div-mul-add u r.states c in_c) (div-mul-add v r.states d in_d) ∙ pair_of-first_of r p,
-    )
+led_back rule q a b p back = grind (arith, div-mul-add, first_letter, mod-mul-add, div-add-mod', window_with)
 
 -- two edges with one label lead to the pair of their ends
 pub follow_on-edges : (side : Side) (r : LocalRule) (p a b : ℕ) → label_at side r (first_of r p) a ≡ label_at side r (second_of r p) b
@@ -84,7 +63,8 @@ pub follow_on-edges : (side : Side) (r : LocalRule) (p a b : ℕ) → label_at s
 follow_on-edges side r p a b same = rw (eq-eqb _ _ same) refl
 
 -- from q the letters a and b lead back exactly where they lead to the left
-pub LeadsBack-follow : {r : LocalRule} → IsRule r → (q a b p : ℕ) → q < pair_count r → a < r.states → b < r.states → (follow_on Left r q a b ≡ Some p) ↔ LeadsBack r q a b p
+pub LeadsBack-follow : {r : LocalRule} → IsRule r → (q a b p : ℕ) → q < pair_count r → a < r.states → b < r.states
+    → (follow_on Left r q a b ≡ Some p) ↔ LeadsBack r q a b p
 LeadsBack-follow {r} rule q a b p pair ha hb = (
   (λ leads. let (same, here) = some_if_equal _ _ _ p leads in subst (LeadsBack r q a b) here (leads_back rule q a b pair ha hb same)),
   (λ back. let (same, here) = led_back rule q a b p back in follow_on-edges Left r q a b same ∙ ap Some here),
@@ -95,7 +75,8 @@ node_letter-first : {r : LocalRule} → IsRule r → (u : ℕ) → u < node_coun
 node_letter-first {r} rule u node = IsWord-word_of r.states (r.width - 1) u node 0 0 (omega (arith, rule.shape.least_width, length-word_of r.states (r.width - 1) u))
 
 -- a pair leads on where some letters lead on this side, and nowhere else
-pub LeadsOn-follows : (side : Side) {r : LocalRule} → IsRule r → (p q : ℕ) → p < pair_count r → LeadsOn side r p q ↔ ((a : ℕ) × (b : ℕ) × (a < r.states) × (b < r.states) × (follow_on side r p a b ≡ Some q))
+pub LeadsOn-follows : (side : Side) {r : LocalRule} → IsRule r → (p q : ℕ) → p < pair_count r
+    → LeadsOn side r p q ↔ ((a : ℕ) × (b : ℕ) × (a < r.states) × (b < r.states) × (follow_on side r p a b ≡ Some q))
 LeadsOn-follows Right rule p q inside = (
   (λ s. (s.a, s.b, s.a_letter, s.b_letter, s.follows)),
   (λ (a, b, in_a, in_b, leads). record { a = a; b = b; in_pairs = inside; a_letter = in_a; b_letter = in_b; follows = leads }),

@@ -12,7 +12,8 @@ use Rattle.pair_laws.proofs.Decisions.{differ_below}
 use Rattle.pair_laws.proofs.Endless.{Together-endless}
 
 -- two different nodes differ at a letter
-pub node_letter-different : (r : LocalRule) (u v : ℕ) → u < node_count r → v < node_count r → u ≢ v → (i : ℕ) × (i < r.width - 1) × (node_letter r u i ≢ node_letter r v i)
+pub node_letter-different : (r : LocalRule) (u v : ℕ) → u < node_count r → v < node_count r → u ≢ v
+    → (i : ℕ) × (i < r.width - 1) × (node_letter r u i ≢ node_letter r v i)
 node_letter-different r u v hu hv different =
     let k : ℕ = r.states in
     let d : ℕ = r.width - 1 in
@@ -29,7 +30,8 @@ pub record IsEndlessBothWays (r : LocalRule) (p : ℕ) : Type 0 where
   pub ends : IsEndless (PairGoes Left r p)
 
 -- where a window is determined, no two different nodes are endless both ways: in long words that pass them the window could be put on a letter at which they differ
-pub IsDetermined-not_both_ways : {r : LocalRule} {n c : ℕ} → IsRule r → IsDetermined r n c → (p : ℕ) → first_of r p ≢ second_of r p → ¬ IsEndlessBothWays r p
+pub IsDetermined-not_both_ways : {r : LocalRule} {n c : ℕ} → IsRule r → IsDetermined r n c → (p : ℕ) → first_of r p ≢ second_of r p
+    → ¬ IsEndlessBothWays r p
 IsDetermined-not_both_ways {r} {n} {c} rule h p different endless =
     let d : ℕ = r.width - 1 in
     let nodes = Together-below Right r (first_of r p) (second_of r p) 0 (endless.begins 0) in
@@ -55,7 +57,8 @@ IsDetermined-none_both_ways {r} rule none =
     )
 
 -- a rule looks ahead to a side for some n exactly where no first pair of this side is endless
-pub some_ahead : (side : Side) {r : LocalRule} → IsRule r → ((n : ℕ) × IsRightAhead (seen_from side r) n) ↔ ((p : ℕ) → IsFirstOf side r p → ¬ IsEndless (PairGoes side r p))
+pub some_ahead : (side : Side) {r : LocalRule} → IsRule r
+    → ((n : ℕ) × IsRightAhead (seen_from side r) n) ↔ ((p : ℕ) → IsFirstOf side r p → ¬ IsEndless (PairGoes side r p))
 some_ahead side {r} rule = (
   (λ h p f endless. ((ahead_pairs side rule h.0).0 h.1).1 p f (endless (h.0 - 1))),
   (λ none. (pair_count r + 1, (ahead_pairs side rule (pair_count r + 1)).1 (omega arith, (λ p f goes. none p f (Together-endless side rule (first_of r p) (second_of r p) (pair_count r + 1 - 1) (omega arith) goes))))),

@@ -13,7 +13,8 @@ abbrev pub FallsOn : Side → LocalRule → (ℕ → Option ℕ) → Type 0
 FallsOn side r claim = (p : ℕ) → p < pair_count r → (n q : ℕ) → claim p ≡ Some n → LeadsOn side r p q → ClaimsBelow claim q n
 
 -- a claim that falls is a bound
-pub PairGoes-claim : (side : Side) {r : LocalRule} {claim : ℕ → Option ℕ} → IsRule r → FallsOn side r claim → (j p n : ℕ) → claim p ≡ Some n → PairGoes side r p j → j ≤ n
+pub PairGoes-claim : (side : Side) {r : LocalRule} {claim : ℕ → Option ℕ} → IsRule r → FallsOn side r claim → (j p n : ℕ) → claim p ≡ Some n
+    → PairGoes side r p j → j ≤ n
 PairGoes-claim side rule falls zero p n e h = omega arith
 PairGoes-claim side rule falls (suc j) p n e h =
     let (q, step, rest) = PairGoes-step side rule p j (suc j) (omega arith) h in
@@ -21,7 +22,8 @@ PairGoes-claim side rule falls (suc j) p n e h =
     omega (arith, PairGoes-claim side rule falls j q below.0 below.1 rest, below.2)
 
 -- where a falling claim claims less than n of a pair, the pair doesn't go on for n
-pub PairGoes-claims_below : (side : Side) {r : LocalRule} {claim : ℕ → Option ℕ} → IsRule r → FallsOn side r claim → (p n : ℕ) → ClaimsBelow claim p n → ¬ PairGoes side r p n
+pub PairGoes-claims_below : (side : Side) {r : LocalRule} {claim : ℕ → Option ℕ} → IsRule r → FallsOn side r claim → (p n : ℕ) → ClaimsBelow claim p n
+    → ¬ PairGoes side r p n
 PairGoes-claims_below side rule falls p n below h = omega (arith, PairGoes-claim side rule falls n p below.0 below.1 h, below.2)
 
 -- the exact rank of each pair is claimed, and nothing where it is endless
@@ -35,7 +37,8 @@ rank-cases P claim p n less None e endless = inl (endless n)
 rank-cases P claim p n less (Some m) e rank = ⊎_elim (λ l. inr (m, e, l)) (λ l. inl (less n m l rank.holds)) (cases_lt m n)
 
 -- for each n a pair goes on together for n, or its exact rank is below n
-pub PairGoes-ranks : (side : Side) {r : LocalRule} → IsRule r → (claim : ℕ → Option ℕ) → ClaimsRanks side r claim → (p n : ℕ) → p < pair_count r → PairGoes side r p n ⊎ ClaimsBelow claim p n
+pub PairGoes-ranks : (side : Side) {r : LocalRule} → IsRule r → (claim : ℕ → Option ℕ) → ClaimsRanks side r claim → (p n : ℕ) → p < pair_count r
+    → PairGoes side r p n ⊎ ClaimsBelow claim p n
 PairGoes-ranks side {r} rule claim ranks p n h = rank-cases (PairGoes side r p) claim p n (λ i j l b. PairGoes-less side rule p i j l b) (claim p) refl (ranks p h)
 
 -- exact ranks fall

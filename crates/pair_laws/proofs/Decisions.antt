@@ -1,5 +1,5 @@
 -- Whether two nodes begin or end together for n can be decided, and so whether they have a rank or are endless.
-use Rattle.std.proofs.Common.{◌≡◌, ◌≢◌, ℕ, zero, suc, ◌+◌, ◌<◌, ◌⊎◌, inl, inr, Option, Some, None, refl, sym, subst, ⊎_elim, arith}
+use Rattle.std.proofs.Common.{◌≡◌, ◌≢◌, ℕ, zero, suc, ◌<◌, ◌⊎◌, inl, inr, Option, Some, None, refl, sym, subst, ⊎_elim, arith}
 use Rattle.word_image.proofs.Common.{cases_eq, cases_lt, none-some, same_Some, LocalRule, IsRule, node_count, first_of, second_of, pair_of, pair_count, follow_on, IsRank, IsEndless, PairGoes, Together, some_below, exists_below}
 use Rattle.word_image.specs.declared.side.Side.{Side}
 use Rattle.pair_laws.proofs.Ranks.{Together-below, Together-zero}
@@ -29,7 +29,8 @@ PairGoes-decide side {r} rule (suc n) p inside =
     (some_below (λ a. (b : ℕ) × (b < r.states) × Leads a b) (λ a. exists_below (Leads a) (λ b. given_decide (λ q. PairGoes side r q n) goes (follow_on side r p a b)) r.states) r.states)
 
 -- two nodes go on together for n or don't
-pub Together-decide : (side : Side) {r : LocalRule} → IsRule r → (n u v : ℕ) → u < node_count r → v < node_count r → Together side r u v n ⊎ ¬ Together side r u v n
+pub Together-decide : (side : Side) {r : LocalRule} → IsRule r → (n u v : ℕ) → u < node_count r → v < node_count r
+    → Together side r u v n ⊎ ¬ Together side r u v n
 Together-decide side {r} rule n u v hu hv =
     let same = PairGoes-pair_of side r u v n hv in
     ⊎_elim (λ h. inl (same.0 h)) (λ none. inr (λ h. none (same.1 h))) (PairGoes-decide side rule n (pair_of r u v) (pair_of-below r u v hu hv))
@@ -45,13 +46,11 @@ differ_below f g n =
 -- what holds at 0 holds at k, or there is a last number below k up to which it does
 last_below : (P : ℕ → Type 0) → ((n : ℕ) → P n ⊎ ¬ P n) → P 0 → (k : ℕ) → P k ⊎ ((n : ℕ) × IsRank P n)
 last_below P decide first zero = inl first
-last_below P decide first (suc k) =
-    ⊎_elim (λ holds. ⊎_elim (λ more. inl more) (λ none. inr (k, record { holds = holds; no_more = λ h. none (subst P (let e : k + 1 ≡ suc k = omega arith in e) h) })) (decide (suc k)))
-    (λ rank. inr rank)
-    (last_below P decide first k)
+last_below P decide first (suc k) = grind (arith, last_below P decide first k)
 
 -- two nodes have a rank or are endless
-pub Together-rank : (side : Side) {r : LocalRule} → IsRule r → (u v : ℕ) → u < node_count r → v < node_count r → ((n : ℕ) × IsRank (Together side r u v) n) ⊎ IsEndless (Together side r u v)
+pub Together-rank : (side : Side) {r : LocalRule} → IsRule r → (u v : ℕ) → u < node_count r → v < node_count r
+    → ((n : ℕ) × IsRank (Together side r u v) n) ⊎ IsEndless (Together side r u v)
 Together-rank side {r} rule u v hu hv =
     ⊎_elim (λ long. inr (Together-endless side rule u v (pair_count r) (omega arith) long)) (λ rank. inl rank)
     (last_below (Together side r u v) (λ n. Together-decide side rule n u v hu hv) (Together-zero side r u v hu hv) (pair_count r))

@@ -47,7 +47,8 @@ around {r} {s} {t} rule loop zero = let nodes = LeadTogether-first loop in (0, o
 around {l = l} rule loop (suc n) = let rest = around rule loop n in (suc l + rest.0, omega (arith, rest.1), LeadTogether-join rule refl loop rest.2)
 
 -- two nodes that go on together for as many letters as there are pairs do for all
-pub Together-endless : (side : Side) {r : LocalRule} → IsRule r → (u v m : ℕ) → pair_count r ≤ m → Together side r u v m → IsEndless (Together side r u v)
+pub Together-endless : (side : Side) {r : LocalRule} → IsRule r → (u v m : ℕ) → pair_count r ≤ m → Together side r u v m
+    → IsEndless (Together side r u v)
 Together-endless Right rule u v m many h n =
     let w = Loops-long rule many (BeginTogether-walk h).2 in
     let rounds = around rule w.loop n in
@@ -62,7 +63,8 @@ pub IsRank-below : (side : Side) {r : LocalRule} → IsRule r → (u v n : ℕ) 
 IsRank-below side {r} rule u v n rank = ⊎_elim (λ l. l) (λ many. absurd (rank.no_more (Together-endless side rule u v n many rank.holds (n + 1)))) (cases_lt n (pair_count r))
 
 -- pairs of which each leads on to one of them are endless
-pub PairGoes-closed : (side : Side) {r : LocalRule} → IsRule r → (Q : ℕ → Type 0) → ((p : ℕ) → Q p → (q : ℕ) × LeadsOn side r p q × Q q) → (n p : ℕ) → Q p → PairGoes side r p n
+pub PairGoes-closed : (side : Side) {r : LocalRule} → IsRule r → (Q : ℕ → Type 0) → ((p : ℕ) → Q p → (q : ℕ) × LeadsOn side r p q × Q q) → (n p : ℕ)
+    → Q p → PairGoes side r p n
 PairGoes-closed side {r} rule Q closed zero p h =
     let (q, step, rest) = closed p h in
     Together-zero side r _ _ (first_of-below rule p (LeadsOn-from side rule p q step)) (second_of-below rule p)
@@ -71,5 +73,6 @@ PairGoes-closed side rule Q closed (suc n) p h =
     PairGoes-push side rule p q n (suc n) (omega arith) step (PairGoes-closed side rule Q closed n q rest)
 
 -- where all pairs that go on for n do for n + 1, they are endless
-pub PairGoes-stable : (side : Side) {r : LocalRule} → IsRule r → (n : ℕ) → ((p : ℕ) → PairGoes side r p n → PairGoes side r p (n + 1)) → (p : ℕ) → PairGoes side r p n → IsEndless (PairGoes side r p)
+pub PairGoes-stable : (side : Side) {r : LocalRule} → IsRule r → (n : ℕ) → ((p : ℕ) → PairGoes side r p n → PairGoes side r p (n + 1)) → (p : ℕ)
+    → PairGoes side r p n → IsEndless (PairGoes side r p)
 PairGoes-stable side {r} rule n stable p h j = PairGoes-closed side rule (λ q. PairGoes side r q n) (λ q g. PairGoes-step side rule q n (n + 1) refl (stable q g)) j p h

@@ -1,9 +1,8 @@
 -- What claims that fall say of windows and look-aheads, and that the exact ranks say it wherever it is true.
-use Rattle.std.proofs.Common.{◌≡◌, ℕ, ◌+◌, ◌-◌, ◌<◌, ◌≤◌, ◌⊎◌, inl, inr, min, Option, sym, subst, ⊎_elim}
-use Rattle.word_image.proofs.Common.{cases_eq, LocalRule, IsRule, IsDetermined, IsRightAhead, first_of, second_of, pair_count, node_letter, IsFirstOfRight, IsFirstOf, seen_from, next-below}
+use Rattle.std.proofs.Common.{◌≡◌, ℕ, ◌+◌, ◌-◌, ◌<◌, ◌≤◌, ◌⊎◌, inl, inr, min, Option, ⊎_elim, arith}
+use Rattle.word_image.proofs.Common.{cases_eq, LocalRule, IsRule, IsDetermined, IsRightAhead, first_of, second_of, pair_count, node_letter, IsFirstOfRight, IsFirstOf, seen_from}
 use Rattle.word_image.specs.declared.side.Side.{Side}
 use Rattle.word_image.specs.declared.side.Side.TheVariants.{Right, Left}
-use Rattle.pair_laws.proofs.Pairs.{pair_of-below}
 use Rattle.pair_laws.proofs.Claims.{ClaimsBelow, FallsOn, ClaimsRanks, PairGoes-claims_below, PairGoes-ranks}
 use Rattle.pair_laws.proofs.Windows.{IsDetermined-pairs}
 use Rattle.pair_laws.proofs.Aheads.{ahead_pairs}
@@ -37,8 +36,7 @@ IsClaimedApart-ranks {r} rule forward backward ranks back n c h p l =
 
 -- a first pair of the right is a pair
 pub IsFirstOfRight-below : {r : LocalRule} {p : ℕ} → IsRule r → IsFirstOfRight r p → p < pair_count r
-IsFirstOfRight-below {r} rule f =
-    subst (λ q. q < pair_count r) (sym f.pair) (pair_of-below r _ _ (next-below rule f.node f.a) (next-below rule f.node f.b))
+IsFirstOfRight-below rule f = grind arith
 
 -- a first pair of a side is a pair
 pub IsFirstOf-below : (side : Side) {r : LocalRule} {p : ℕ} → IsRule r → IsFirstOf side r p → p < pair_count r
@@ -52,7 +50,8 @@ ahead-claims side rule falls n some claimed =
     (ahead_pairs side rule n).1 (some, (λ p f. PairGoes-claims_below side rule falls p (n - 1) (claimed p (IsFirstOf-below side rule f) f)))
 
 -- where a rule looks ahead to a side for n, the exact ranks of the first pairs of this side are less than n
-pub ahead-ranks : (side : Side) {r : LocalRule} → IsRule r → (claim : ℕ → Option ℕ) → ClaimsRanks side r claim → (n : ℕ) → IsRightAhead (seen_from side r) n
+pub ahead-ranks : (side : Side) {r : LocalRule} → IsRule r → (claim : ℕ → Option ℕ) → ClaimsRanks side r claim → (n : ℕ)
+    → IsRightAhead (seen_from side r) n
     → (p : ℕ) → IsFirstOf side r p → ClaimsBelow claim p (n - 1)
 ahead-ranks side rule claim ranks n h p f =
     ⊎_elim (λ goes. absurd (((ahead_pairs side rule n).0 h).1 p f goes)) (λ below. below) (PairGoes-ranks side rule claim ranks p (n - 1) (IsFirstOf-below side rule f))

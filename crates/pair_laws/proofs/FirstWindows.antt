@@ -1,5 +1,5 @@
 -- The first pairs of a side are the ends of two windows that differ in their last letter on that side alone and have one label.
-use Rattle.std.proofs.Common.{◌≡◌, ℕ, ◌+◌, ◌*◌, ◌/◌, ◌%◌, ◌^◌, ◌<◌, slice_index, sym, ap, ap₂, ◌∙◌, subst, mul_comm, mod-lt, div-add-mod'}
+use Rattle.std.proofs.Common.{◌≡◌, ℕ, ◌+◌, ◌*◌, ◌/◌, ◌%◌, ◌^◌, ◌<◌, slice_index, sym, ap, ap₂, ◌∙◌, subst, mod-lt, div-add-mod', arith}
 use Rattle.word_image.proofs.Common.{div_below, div-mul-add, mod-mul-add, LocalRule, IsRule, node_count, pair_of, IsFirstOf, node_count_pos, some_letter, windows-nodes, window_with, window_with-within, end_node, end_node-below, other}
 use Rattle.word_image.specs.Ends.{end_letter}
 use Rattle.pair_laws.proofs.Walks.{LeadTogether, LeadTogether-first, LeadTogether-one}
@@ -34,7 +34,8 @@ IsFirst-ends Left {r} rule w a h =
     IsFirstOf-fork Left rule _ _ _ (subst (LeadTogether r (w / r.states) (z / r.states) 1 (w % node_count r)) last edges) (λ first. h.different (same_ends rule w z first (sym last)))
 
 -- a fork of a side consists of two windows with one label, which end with its nodes on this side and with one node on the other
-fork_windows : (side : Side) {r : LocalRule} → IsRule r → (s u v : ℕ) → Fork side r s u v → (w : ℕ) × (z : ℕ) × (w < r.states ^ r.width) × (z < r.states ^ r.width)
+fork_windows : (side : Side) {r : LocalRule} → IsRule r → (s u v : ℕ) → Fork side r s u v
+    → (w : ℕ) × (z : ℕ) × (w < r.states ^ r.width) × (z < r.states ^ r.width)
     × (slice_index r.table w ≡ slice_index r.table z) × (end_node side r w ≡ u) × (end_node side r z ≡ v) × (end_node (other side) r w ≡ end_node (other side) r z)
 fork_windows Right {r} rule s u v fork =
     let (a, b, in_a, in_b, one_label, to_u, to_v) = LeadTogether-one rule fork in
@@ -46,13 +47,14 @@ fork_windows Left {r} rule s u v fork =
     (u * r.states + a, v * r.states + b, window_with-within Right rule u a hu in_a, window_with-within Right rule v b hv in_b, one_label, div-mul-add u r.states a in_a, div-mul-add v r.states b in_b, to_s ∙ sym also)
 
 -- a window consists of its node on the other side and its end letter
-window-end : (side : Side) {r : LocalRule} → IsRule r → (z : ℕ) → z < r.states ^ r.width → (end_letter side r z < r.states) × (window_with side r (end_node (other side) r z) (end_letter side r z) ≡ z)
+window-end : (side : Side) {r : LocalRule} → IsRule r → (z : ℕ) → z < r.states ^ r.width
+    → (end_letter side r z < r.states) × (window_with side r (end_node (other side) r z) (end_letter side r z) ≡ z)
 window-end Right {r} rule z below = (mod-lt z (some_letter rule), div-add-mod' z r.states)
-window-end Left {r} rule z below =
-    (div_below z (node_count r) r.states (node_count_pos rule) (subst (λ n. z < n) (windows-nodes rule ∙ mul_comm (node_count r) r.states) below), div-add-mod' z (node_count r))
+window-end Left {r} rule z below = grind (arith, div_below, windows-nodes)
 
 -- each first pair of a side has the ends of two windows that differ in one letter at the other side
-pub first_ends : (side : Side) {r : LocalRule} {p : ℕ} → IsRule r → IsFirstOf side r p → (w : ℕ) × (a : ℕ) × AreFirst side r w a × (p ≡ end_pair side r w a)
+pub first_ends : (side : Side) {r : LocalRule} {p : ℕ} → IsRule r → IsFirstOf side r p
+    → (w : ℕ) × (a : ℕ) × AreFirst side r w a × (p ≡ end_pair side r w a)
 first_ends side {r} {p} rule f =
     let (s, fork, different) = fork_of side rule p f in
     let (w, z, below_w, below_z, one_label, first, second, seam) = fork_windows side rule s _ _ fork in

@@ -1,35 +1,23 @@
 -- The mirrored rule: words with one image read backwards, and mirrored nodes.
 use Rattle.std.proofs.Common.{◌≡◌, ℕ, ◌+◌, ◌-◌, ◌<◌, List, length, take, drop, reverse, sym, ap, subst, subst₂, ◌∙◌, arith, length-drop, length-take-le}
-use Rattle.word_image.proofs.Common.{length-reverse, reverse-reverse, All-take, All-drop, LocalRule, IsRule, IsWord, value, word_of, node_count, mirrored, HaveOneImage, EndTogether, Together, length-word_of, IsWord-word_of, value-word_of, word_of-value, IsWord-reverse, image-mirrored, IsRule-mirrored, mirrored-mirrored, value-node, reverse-cut}
+use Rattle.word_image.proofs.Common.{length-reverse, reverse-reverse, All-take, All-drop, LocalRule, IsRule, IsWord, value, word_of, node_count, mirrored, EndTogether, Together, length-word_of, IsWord-word_of, value-word_of, word_of-value, IsWord-reverse, image-mirrored, IsRule-mirrored, mirrored-mirrored, value-node, reverse-cut}
 use Rattle.word_image.specs.declared.side.Side.{Side}
 use Rattle.word_image.specs.declared.side.Side.TheVariants.{Right, Left}
 use Rattle.pair_laws.proofs.Walks.{LeadTogether}
 use Rattle.pair_laws.proofs.Ranks.{LeadTogether-end, BeginTogether-walk, BeginTogether-same}
-
--- words with one image, read backwards, have one under the mirrored rule
-pub HaveOneImage-reverse : {r : LocalRule} {n : ℕ} {x y : List ℕ} → IsRule r → HaveOneImage r n x y → HaveOneImage (mirrored r) n (reverse x) (reverse y)
-HaveOneImage-reverse {r} {n} {x} {y} rule h =
-    record {
-      first = IsWord-reverse r.states x h.first;
-      second = IsWord-reverse r.states y h.second;
-      first_long = length-reverse x ∙ h.first_long;
-      second_long = length-reverse y ∙ h.second_long;
-      one_image = image-mirrored rule x h.first ∙ ap reverse h.one_image ∙ sym (image-mirrored rule y h.second);
-    }
 
 -- the node of a node's word read backwards
 abbrev pub mirror_node : LocalRule → ℕ → ℕ
 mirror_node r u = value r.states (reverse (word_of r.states (r.width - 1) u))
 
 -- the value of m - 1 letters read backwards
-pub value-reverse : (r : LocalRule) (z : List ℕ) → IsWord r.states z → length z ≡ r.width - 1 → value r.states (reverse z) ≡ mirror_node r (value r.states z)
+pub value-reverse : (r : LocalRule) (z : List ℕ) → IsWord r.states z → length z ≡ r.width - 1
+    → value r.states (reverse z) ≡ mirror_node r (value r.states z)
 value-reverse r z h e = ap (λ y. value r.states (reverse y)) (sym (word_of-value r.states z h) ∙ ap (λ d. word_of r.states d (value r.states z)) e)
 
 -- a mirrored node is a node
 pub mirror_node-below : (r : LocalRule) (u : ℕ) → u < node_count r → mirror_node r u < node_count r
-mirror_node-below r u h =
-    let z = word_of r.states (r.width - 1) u in
-    value-node r (reverse z) (IsWord-reverse r.states z (IsWord-word_of r.states (r.width - 1) u h)) (length-reverse z ∙ length-word_of r.states (r.width - 1) u)
+mirror_node-below r u h = grind (arith, value-node, length-reverse, length-word_of, IsWord-reverse, IsWord-word_of)
 
 -- mirrored twice, a node is itself
 pub mirror_node-mirror_node : (r : LocalRule) (u : ℕ) → u < node_count r → mirror_node r (mirror_node r u) ≡ u
@@ -53,20 +41,13 @@ value-drop_reverse r n x h e =
     ∙ value-reverse r (take (r.width - 1) x) (All-take (λ a. a < r.states) (r.width - 1) x h) (length-take-le (r.width - 1) x (omega arith))
 
 -- a walk read backwards leads back under the mirrored rule, from the mirrored nodes to the mirrored nodes
-pub LeadTogether-mirrored : {r : LocalRule} {u v s t n : ℕ} → IsRule r → LeadTogether r u v n s t → LeadTogether (mirrored r) (mirror_node r s) (mirror_node r t) n (mirror_node r u) (mirror_node r v)
-LeadTogether-mirrored {r} {n = n} rule h =
-    record {
-      x = reverse h.x;
-      y = reverse h.y;
-      one_image = HaveOneImage-reverse rule h.one_image;
-      first = value-take_reverse r n h.x h.one_image.first h.one_image.first_long ∙ ap (mirror_node r) h.first_last;
-      second = value-take_reverse r n h.y h.one_image.second h.one_image.second_long ∙ ap (mirror_node r) h.second_last;
-      first_last = value-drop_reverse r n h.x h.one_image.first h.one_image.first_long ∙ ap (mirror_node r) h.first;
-      second_last = value-drop_reverse r n h.y h.one_image.second h.one_image.second_long ∙ ap (mirror_node r) h.second;
-    }
+pub LeadTogether-mirrored : {r : LocalRule} {u v s t n : ℕ} → IsRule r → LeadTogether r u v n s t
+    → LeadTogether (mirrored r) (mirror_node r s) (mirror_node r t) n (mirror_node r u) (mirror_node r v)
+LeadTogether-mirrored {n = n} rule h = grind (arith, value-take_reverse, value-drop_reverse, length-reverse, image-mirrored, IsWord-reverse)
 
 -- a walk under the mirrored rule, read backwards, is one under the rule
-pub LeadTogether-unmirrored : {r : LocalRule} {u v s t n : ℕ} → IsRule r → LeadTogether (mirrored r) u v n s t → LeadTogether r (mirror_node r s) (mirror_node r t) n (mirror_node r u) (mirror_node r v)
+pub LeadTogether-unmirrored : {r : LocalRule} {u v s t n : ℕ} → IsRule r → LeadTogether (mirrored r) u v n s t
+    → LeadTogether r (mirror_node r s) (mirror_node r t) n (mirror_node r u) (mirror_node r v)
 LeadTogether-unmirrored {r} {u} {v} {s} {t} {n} rule h =
     subst (λ (q : LocalRule). LeadTogether q (mirror_node r s) (mirror_node r t) n (mirror_node r u) (mirror_node r v)) (mirrored-mirrored rule) (LeadTogether-mirrored (IsRule-mirrored rule) h)
 

@@ -1,6 +1,6 @@
 -- Pairs of nodes by their numbers: how walks, and so the lengths for which a pair begins and ends together, go along `follow`.
-use Rattle.std.proofs.Common.{◌≡◌, ℕ, ◌+◌, ◌<◌, ◌≤◌, ◌↔◌, Some, None, sym, ap, ap₂, subst, subst₂, ◌∙◌, ⊎_elim, arith, mod-lt, ◌*◌, ◌%◌, ◌==◌, if◌then◌else◌, ◌||◌, not, nat_le, eq-eqb, ne_eqb, div-add-mod'}
-use Rattle.word_image.proofs.Common.{cases_eq, cond-true, cond-false, nat_tests, mul-add-lt, div_below, div-mul-add, mod-mul-add, LocalRule, IsRule, node_count, next, label, follow, pair_of, first_of, second_of, pair_count, LeadsOn, PairStep, marked, Together, PairGoes, node_count_pos, next-below}
+use Rattle.std.proofs.Common.{◌≡◌, ℕ, ◌+◌, ◌<◌, ◌≤◌, ◌↔◌, Some, None, ap₂, subst, ◌∙◌, arith, mod-lt, ◌*◌, ◌%◌, ◌==◌, if◌then◌else◌, ◌||◌, not, nat_le, eq-eqb, div-add-mod'}
+use Rattle.word_image.proofs.Common.{cond-true, nat_tests, mul-add-lt, div_below, div-mul-add, mod-mul-add, LocalRule, IsRule, node_count, next, label, follow, pair_of, first_of, second_of, pair_count, LeadsOn, PairStep, marked, Together, PairGoes, node_count_pos, next-below}
 use Rattle.word_image.specs.declared.side.Side.{Side}
 use Rattle.word_image.specs.declared.side.Side.TheVariants.{Right, Left}
 use Rattle.pair_laws.proofs.Walks.{LeadTogether, LeadTogether-join, LeadTogether-cut, LeadTogether-first, LeadTogether-last, LeadTogether-edges, LeadTogether-one}
@@ -36,10 +36,7 @@ second_of-below {r} rule p = mod-lt p (node_count_pos rule)
 
 -- where something is given only if two numbers are equal, and it is given, they are, and it is this
 pub some_if_equal : (m n s q : ℕ) → (if m == n then Some s else None) ≡ Some q → (m ≡ n) × (s ≡ q)
-some_if_equal m n s q e =
-    ⊎_elim (λ same. let some : (if m == n then Some s else None) ≡ Some s = cond-true (m == n) (Some s) None (eq-eqb m n same) in (same, cc))
-    (λ other. let none : (if m == n then Some s else None) ≡ None = cond-false (m == n) (Some s) None (ne_eqb m n other) in absurd cc)
-    (cases_eq m n)
+some_if_equal m n s q e = grind arith
 
 -- a pair leads on along two edges with one label
 pub follow-edges : (r : LocalRule) (p a b : ℕ) → label r (first_of r p) a ≡ label r (second_of r p) b
@@ -52,13 +49,13 @@ pub follow-some : (r : LocalRule) (p a b q : ℕ) → follow r p a b ≡ Some q
 follow-some r p a b q e = some_if_equal (label r (first_of r p) a) (label r (second_of r p) b) _ q e
 
 -- where the pair of two nodes leads
-pub follow-pair_of : (r : LocalRule) (u v a b : ℕ) → v < node_count r → label r u a ≡ label r v b → follow r (pair_of r u v) a b ≡ Some (pair_of r (next r u a) (next r v b))
+pub follow-pair_of : (r : LocalRule) (u v a b : ℕ) → v < node_count r → label r u a ≡ label r v b
+    → follow r (pair_of r u v) a b ≡ Some (pair_of r (next r u a) (next r v b))
 follow-pair_of r u v a b h e = grind (arith, first_of-pair_of, second_of-pair_of, follow-edges)
 
 -- where a pair of nodes leads is a pair of nodes
 pub follow-below : {r : LocalRule} → IsRule r → (p a b q : ℕ) → follow r p a b ≡ Some q → q < pair_count r
-follow-below {r} rule p a b q e =
-    subst (λ s. s < pair_count r) (follow-some r p a b q e).1 (pair_of-below r _ _ (next-below rule (first_of r p) a) (next-below rule (second_of r p) b))
+follow-below rule p a b q e = grind (arith, next-below)
 
 -- the mark adds at most once as many states as there are pairs
 pub mark-below : (p t a b : ℕ) → (if nat_le p t || not (a == b) then p else 0) ≤ p
@@ -84,10 +81,7 @@ LeadsOn-below Left rule p q s = s.in_pairs
 
 -- two nodes go on together exactly where their pair does
 pub PairGoes-pair_of : (side : Side) (r : LocalRule) (u v n : ℕ) → v < node_count r → PairGoes side r (pair_of r u v) n ↔ Together side r u v n
-PairGoes-pair_of side r u v n h =
-    let first = first_of-pair_of r u v h in
-    let second = second_of-pair_of r u v h in
-    ((λ b. subst₂ (λ (s t : ℕ). Together side r s t n) first second b), (λ b. subst₂ (λ (s t : ℕ). Together side r s t n) (sym first) (sym second) b))
+PairGoes-pair_of side r u v n h = grind arith
 
 -- a pair that goes on does for less
 pub PairGoes-less : (side : Side) {r : LocalRule} → IsRule r → (p i n : ℕ) → i ≤ n → PairGoes side r p n → PairGoes side r p i
@@ -108,15 +102,13 @@ LeadTogether-pairs {r} {u} {v} rule h =
     }
 
 -- a step from pair to pair is two edges with one label
-pub PairStep-walk : {r : LocalRule} {p q : ℕ} → IsRule r → PairStep r p q → LeadTogether r (first_of r p) (second_of r p) 1 (first_of r q) (second_of r q)
-PairStep-walk {r} {p} {q} rule s =
-    let (one_label, pair) = follow-some r p s.a s.b q s.follows in
-    let inside = next-below rule (second_of r p) s.b in
-    let edges = LeadTogether-edges rule (first_of r p) (second_of r p) s.a s.b (first_of-below rule p s.in_pairs) (second_of-below rule p) s.a_letter s.b_letter one_label in
-    subst₂ (LeadTogether r (first_of r p) (second_of r p) 1) (sym (first_of-pair_of r _ _ inside) ∙ ap (first_of r) pair) (sym (second_of-pair_of r _ _ inside) ∙ ap (second_of r) pair) edges
+pub PairStep-walk : {r : LocalRule} {p q : ℕ} → IsRule r → PairStep r p q
+    → LeadTogether r (first_of r p) (second_of r p) 1 (first_of r q) (second_of r q)
+PairStep-walk rule s = grind (arith, first_of-below, first_of-pair_of, second_of-pair_of, LeadTogether-edges)
 
 -- a pair that goes on for one more leads on to one that goes on
-pub PairGoes-step : (side : Side) {r : LocalRule} → IsRule r → (p j n : ℕ) → j + 1 ≡ n → PairGoes side r p n → (q : ℕ) × LeadsOn side r p q × PairGoes side r q j
+pub PairGoes-step : (side : Side) {r : LocalRule} → IsRule r → (p j n : ℕ) → j + 1 ≡ n → PairGoes side r p n
+    → (q : ℕ) × LeadsOn side r p q × PairGoes side r q j
 PairGoes-step Right {r} rule p j n e h =
     let (s, t, step, rest) = LeadTogether-cut rule 1 j (omega arith) (BeginTogether-walk h).2 in (
       pair_of r s t,
@@ -131,6 +123,7 @@ PairGoes-step Left {r} rule p j n e h =
     )
 
 -- a pair that leads on to one that goes on does for one more
-pub PairGoes-push : (side : Side) {r : LocalRule} → IsRule r → (p q j n : ℕ) → j + 1 ≡ n → LeadsOn side r p q → PairGoes side r q j → PairGoes side r p n
+pub PairGoes-push : (side : Side) {r : LocalRule} → IsRule r → (p q j n : ℕ) → j + 1 ≡ n → LeadsOn side r p q → PairGoes side r q j
+    → PairGoes side r p n
 PairGoes-push Right rule p q j n e s h = LeadTogether-begin (LeadTogether-join {i = 1} {j = j} {n = n} rule (omega arith) (PairStep-walk rule s) (BeginTogether-walk h).2)
 PairGoes-push Left rule p q j n e s h = LeadTogether-end (LeadTogether-join {i = j} {j = 1} {n = n} rule e (EndTogether-walk h).2 (PairStep-walk rule s))

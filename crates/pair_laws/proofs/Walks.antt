@@ -1,7 +1,8 @@
 -- Walks of pairs of nodes: two words with one image lead from the pair that they begin with to the pair that they end with.
-use Rattle.std.proofs.Common.{◌≡◌, ℕ, ◌+◌, ◌-◌, ◌<◌, List, [], ◌∷◌, ◌++◌, length, take, drop, get_or, refl, sym, ap, subst₂, ◌∙◌, arith, length-drop, length-take-le, take-take, take_all, drop-drop}
-use Rattle.word_image.proofs.Common.{take-append-le, drop-take, All-take, All-drop, LocalRule, IsRule, IsWord, value, word_of, node_count, image, HaveOneImage, next, label, length-word_of, IsWord-word_of, value-word_of, value-node, value-next}
-use Rattle.pair_laws.proofs.Edges.{image-one, value-one, HaveOneImage-none, HaveOneImage-push}
+use Rattle.std.proofs.lemmas.Grind.{common_steps}
+use Rattle.std.proofs.Common.{◌≡◌, ℕ, ◌+◌, ◌-◌, ◌<◌, List, [], ◌∷◌, ◌++◌, length, take, drop, refl, sym, ap, subst₂, ◌∙◌, arith, length-drop, take-take, take_all, drop-drop}
+use Rattle.word_image.proofs.Common.{take-append-le, drop-take, LocalRule, IsRule, IsWord, value, node_count, HaveOneImage, next, label, length-word_of, IsWord-word_of, value-word_of, value-node, value-next}
+use Rattle.pair_laws.proofs.Edges.{image-one, value-one, HaveOneImage-push}
 use Rattle.pair_laws.proofs.Joins.{drop-join_more, same_node, HaveOneImage-take, HaveOneImage-drop, HaveOneImage-join}
 
 -- two words of n + m - 1 letters with one image begin with the nodes u and v, and end with s and t
@@ -15,13 +16,14 @@ pub record LeadTogether (r : LocalRule) (u v n s t : ℕ) : Type 0 where
   pub second_last : value r.states (drop n y) ≡ t
 
 -- where a joined word ends
-value-join : (k d i j n : ℕ) (x y : List ℕ) → i + j ≡ n → IsWord k x → IsWord k y → length x ≡ i + d → length y ≡ j + d → value k (drop i x) ≡ value k (take d y)
+value-join : (k d i j n : ℕ) (x y : List ℕ) → i + j ≡ n → IsWord k x → IsWord k y → length x ≡ i + d → length y ≡ j + d
+    → value k (drop i x) ≡ value k (take d y)
     → value k (drop n (x ++ drop d y)) ≡ value k (drop j y)
-value-join k d i j n x y e hx hy long_x long_y seam =
-    ap (λ l. value k (drop l (x ++ drop d y))) (sym e) ∙ ap (value k) (drop-join_more i j d x y long_x (same_node k i d x y hx hy long_x (omega arith) seam))
+value-join k d i j n x y e hx hy long_x long_y seam = grind (arith, drop-join_more, same_node)
 
 -- a walk that ends where another one begins goes on as that one
-pub LeadTogether-join : {r : LocalRule} {u v p q s t i j n : ℕ} → IsRule r → i + j ≡ n → LeadTogether r u v i p q → LeadTogether r p q j s t → LeadTogether r u v n s t
+pub LeadTogether-join : {r : LocalRule} {u v p q s t i j n : ℕ} → IsRule r → i + j ≡ n → LeadTogether r u v i p q → LeadTogether r p q j s t
+    → LeadTogether r u v n s t
 LeadTogether-join {r} {i = i} {j = j} {n = n} rule e h g =
     record {
       x = h.x ++ drop (r.width - 1) g.x;
@@ -52,15 +54,16 @@ HaveOneImage-between {r} {x} {y} rule i l j k n e f h =
     }
 
 -- a walk of i + j steps is at the nodes at place i after i of them
-pub LeadTogether-front : {r : LocalRule} {u v s t n : ℕ} → IsRule r → (i j : ℕ) → i + j ≡ n → (h : LeadTogether r u v n s t) → LeadTogether r u v i (place_node r h.x i) (place_node r h.y i)
+pub LeadTogether-front : {r : LocalRule} {u v s t n : ℕ} → IsRule r → (i j : ℕ) → i + j ≡ n → (h : LeadTogether r u v n s t)
+    → LeadTogether r u v i (place_node r h.x i) (place_node r h.y i)
 LeadTogether-front {r} {n = n} rule i j e h =
     subst₂ (λ (a b : ℕ). LeadTogether r a b i (place_node r h.x i) (place_node r h.y i)) h.first h.second (HaveOneImage-between rule 0 i i j n (omega arith) e h.one_image)
 
 -- a walk of i + j steps goes on for j from the nodes at place i
-pub LeadTogether-rest : {r : LocalRule} {u v s t n : ℕ} → IsRule r → (i j : ℕ) → i + j ≡ n → (h : LeadTogether r u v n s t) → LeadTogether r (place_node r h.x i) (place_node r h.y i) j s t
+pub LeadTogether-rest : {r : LocalRule} {u v s t n : ℕ} → IsRule r → (i j : ℕ) → i + j ≡ n → (h : LeadTogether r u v n s t)
+    → LeadTogether r (place_node r h.x i) (place_node r h.y i) j s t
 LeadTogether-rest {r} {n = n} rule i j e h =
-    let last : (z : List ℕ) → length z ≡ n + (r.width - 1) → place_node r z n ≡ value r.states (drop n z) = λ z long.
-    ap (value r.states) (take_all (r.width - 1) (drop n z) (omega (arith, length-drop n z))) in
+    let last : (z : List ℕ) → length z ≡ n + (r.width - 1) → place_node r z n ≡ value r.states (drop n z) = grind (arith, take_all, length-drop) in
     subst₂ (LeadTogether r (place_node r h.x i) (place_node r h.y i) j) (last h.x h.one_image.first_long ∙ h.first_last) (last h.y h.one_image.second_long ∙ h.second_last)
     (HaveOneImage-between rule i j n 0 n e (omega arith) h.one_image)
 
@@ -71,36 +74,18 @@ LeadTogether-cut {r} rule i j e h = (place_node r h.x i, place_node r h.y i, Lea
 
 -- a walk leads from two nodes
 pub LeadTogether-first : {r : LocalRule} {u v s t n : ℕ} → LeadTogether r u v n s t → (u < node_count r) × (v < node_count r)
-LeadTogether-first {r} h = (
-  rw (← h.first) (value-node r (take (r.width - 1) h.x) (All-take (λ a. a < r.states) (r.width - 1) h.x h.one_image.first) (length-take-le (r.width - 1) h.x (omega arith))),
-  rw (← h.second) (value-node r (take (r.width - 1) h.y) (All-take (λ a. a < r.states) (r.width - 1) h.y h.one_image.second) (length-take-le (r.width - 1) h.y (omega arith))),
-)
+LeadTogether-first h = grind (arith, common_steps, value-node)
 
 -- a walk leads to two nodes
 pub LeadTogether-last : {r : LocalRule} {u v s t n : ℕ} → LeadTogether r u v n s t → (s < node_count r) × (t < node_count r)
-LeadTogether-last {r} {n = n} h = (
-  rw (← h.first_last) (value-node r (drop n h.x) (All-drop (λ a. a < r.states) n h.x h.one_image.first) (omega (arith, length-drop n h.x))),
-  rw (← h.second_last) (value-node r (drop n h.y) (All-drop (λ a. a < r.states) n h.y h.one_image.second) (omega (arith, length-drop n h.y))),
-)
+LeadTogether-last {n = n} h = grind (arith, common_steps, value-node)
 
 -- from two nodes a walk of no step leads to them
 pub LeadTogether-none : (r : LocalRule) (u v : ℕ) → u < node_count r → v < node_count r → LeadTogether r u v 0 u v
 LeadTogether-none r u v hu hv =
-    let z = word_of r.states (r.width - 1) u in
-    let w = word_of r.states (r.width - 1) v in
     let z_long = length-word_of r.states (r.width - 1) u in
     let w_long = length-word_of r.states (r.width - 1) v in
-    let z_value = value-word_of r.states (r.width - 1) u hu in
-    let w_value = value-word_of r.states (r.width - 1) v hv in
-    record {
-      x = z;
-      y = w;
-      one_image = HaveOneImage-none r z w (IsWord-word_of r.states (r.width - 1) u hu) (IsWord-word_of r.states (r.width - 1) v hv) z_long w_long;
-      first = ap (value r.states) (take_all (r.width - 1) z (omega arith)) ∙ z_value;
-      second = ap (value r.states) (take_all (r.width - 1) w (omega arith)) ∙ w_value;
-      first_last = z_value;
-      second_last = w_value;
-    }
+    grind (arith, value-word_of, IsWord-word_of, take_all)
 
 -- a walk goes on along two edges with one label
 pub LeadTogether-push : {r : LocalRule} {u v s t j n : ℕ} → IsRule r → j + 1 ≡ n → LeadTogether r u v j s t → (a b : ℕ) → a < r.states → b < r.states
@@ -124,16 +109,4 @@ LeadTogether-edges {r} rule u v a b hu hv ha hb l = LeadTogether-push rule (omeg
 -- a walk of one step is two edges with one label
 pub LeadTogether-one : {r : LocalRule} {u v s t : ℕ} → IsRule r → LeadTogether r u v 1 s t
     → (a : ℕ) × (b : ℕ) × (a < r.states) × (b < r.states) × (label r u a ≡ label r v b) × (next r u a ≡ s) × (next r v b ≡ t)
-LeadTogether-one {r} {u} {v} {s} {t} rule h =
-    let a : ℕ = get_or h.x (r.width - 1) 0 in
-    let b : ℕ = get_or h.y (r.width - 1) 0 in
-    let first = image-one rule h.x h.one_image.first_long ∙ ap (λ n. label r n a ∷ []) h.first in
-    let second : image r h.y ≡ label r v b ∷ [] = image-one rule h.y h.one_image.second_long ∙ ap (λ n. label r n b ∷ []) h.second in (
-      a,
-      b,
-      h.one_image.first (r.width - 1) 0 (omega arith),
-      h.one_image.second (r.width - 1) 0 (omega arith),
-      cc,
-      ap (λ n. next r n a) (sym h.first) ∙ sym (value-one rule h.x h.one_image.first h.one_image.first_long) ∙ h.first_last,
-      ap (λ n. next r n b) (sym h.second) ∙ sym (value-one rule h.y h.one_image.second h.one_image.second_long) ∙ h.second_last,
-    )
+LeadTogether-one rule h = grind (arith, image-one, value-one)

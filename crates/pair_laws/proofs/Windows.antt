@@ -8,7 +8,8 @@ use Rattle.pair_laws.proofs.Ranks.{LeadTogether-end, Together-below}
 use Rattle.pair_laws.proofs.Pairs.{first_of-pair_of, second_of-pair_of, pair_of-below}
 
 -- the letters of the node at place j of a word are the word's letters from there on
-pub node_letter-at : (r : LocalRule) (u j i : ℕ) (x : List ℕ) → IsWord r.states x → j + (r.width - 1) ≤ length x → value r.states (take (r.width - 1) (drop j x)) ≡ u
+pub node_letter-at : (r : LocalRule) (u j i : ℕ) (x : List ℕ) → IsWord r.states x → j + (r.width - 1) ≤ length x
+    → value r.states (take (r.width - 1) (drop j x)) ≡ u
     → i < r.width - 1 → node_letter r u i ≡ slice_index x (j + i)
 node_letter-at r u j i x h long at l =
     let z : List ℕ = take (r.width - 1) (drop j x) in
@@ -59,9 +60,7 @@ pub IsApart-determined : {r : LocalRule} {n c : ℕ} → IsRule r → IsDetermin
 IsApart-determined {r} {n} {c} rule h u v different ends begins =
     let m : Meet r u v (min c n) n = Meet-together rule (omega arith) ends begins in
     let place : min c n + (c - min c n) ≡ c = omega arith in
-    let first : node_letter r u (c - min c n) ≡ slice_index m.x (min c n + (c - min c n)) = node_letter-at r u (min c n) (c - min c n) m.x m.one_image.first (omega arith) m.first (omega arith) in
-    let second : node_letter r v (c - min c n) ≡ slice_index m.y (min c n + (c - min c n)) = node_letter-at r v (min c n) (c - min c n) m.y m.one_image.second (omega arith) m.second (omega arith) in
-    different (first ∙ ap (slice_index m.x) place ∙ h.letter m.x m.y m.one_image ∙ sym (second ∙ ap (slice_index m.y) place))
+    grind (arith, node_letter-at)
 
 -- a window is determined exactly where no pair does
 pub IsDetermined-pairs : {r : LocalRule} → IsRule r → (n c : ℕ)

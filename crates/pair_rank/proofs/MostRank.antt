@@ -1,19 +1,18 @@
 -- A finite rank is less than the number of pairs of two different nodes, taken without order: each lesser number is a rank too, two nodes have one rank in either order, and a node is endless with itself.
-use Rattle.std.proofs.Common.{◌≡◌, ℕ, zero, suc, ◌+◌, ◌-◌, ◌*◌, ◌<◌, ◌≤◌, ◌⊎◌, inl, inr, Option, Some, None, List, refl, sym, ap, subst, subst₂, arith, ⊎_elim, MatchOption, IfSome, mul-le-mul_right}
+use Rattle.std.proofs.Common.{◌≡◌, ℕ, zero, suc, ◌+◌, ◌-◌, ◌*◌, ◌<◌, ◌≤◌, ◌⊎◌, inl, inr, Option, Some, None, List, refl, sym, arith, ⊎_elim, MatchOption, IfSome, mul-le-mul_right}
 use Rattle.word_image.proofs.Common.{cases_eq, cases_lt, same_from_place, LocalRule, IsRule, node_count, first_of, second_of, pair_of, pair_count, PairGoes, IsRank, IsEndless, twice_below, Together, HaveOneImage}
-use Rattle.pair_laws.proofs.Common.{pair_of-below, IsRank-one, PairGoes-pair_of, PairGoes-push, PairGoes-step, Together-below, Together-less}
+use Rattle.pair_laws.proofs.Common.{first_of-pair_of, second_of-pair_of, pair_of-below, IsRank-one, PairGoes-push, PairGoes-step, Together-below, Together-less}
 use Rattle.word_image.specs.declared.side.Side.{Side}
 use Rattle.word_image.specs.declared.side.Side.TheVariants.{Right, Left}
 use Rattle.pair_laws.proofs.Mirrors.{Together-same}
 use Rattle.pair_rank.specs.Sides.{AreRanks, rank_at, most_rank}
 
 -- there is a pair of each rank up to that of any pair
-lesser_rank : (side : Side) {r : LocalRule} → IsRule r → (n p : ℕ) → IsRank (PairGoes side r p) n → (i : ℕ) → i ≤ n → (q : ℕ) × IsRank (PairGoes side r q) i
-lesser_rank side {r} rule zero p rank i l = (p, let same : 0 ≡ i = omega arith in subst (IsRank (PairGoes side r p)) same rank)
+lesser_rank : (side : Side) {r : LocalRule} → IsRule r → (n p : ℕ) → IsRank (PairGoes side r p) n → (i : ℕ) → i ≤ n
+    → (q : ℕ) × IsRank (PairGoes side r q) i
+lesser_rank side rule zero p rank i l = let none : i ≡ 0 = omega arith in (p, rw none rank)
 lesser_rank side {r} rule (suc n) p rank i l =
-    ⊎_elim
-    (λ same. (p, subst (IsRank (PairGoes side r p)) (sym same) rank))
-    (λ other.
+    ⊎_elim (λ same. (p, rw same rank)) (λ other.
     let (q, step, goes) = PairGoes-step side rule p n (suc n) (omega arith) rank.holds in
     lesser_rank side rule n q (record { holds = goes; no_more = λ more. rank.no_more (PairGoes-push side rule p q (n + 1) (suc n + 1) (omega arith) step more) }) i (omega (arith, other)))
     (cases_eq i (suc n))
@@ -32,20 +31,15 @@ IsRank-turned : (side : Side) (r : LocalRule) (u v n : ℕ) → IsRank (Together
 IsRank-turned side r u v n rank = record { holds = Together-turned side r u v n rank.holds; no_more = λ more. rank.no_more (Together-turned side r v u (n + 1) more) }
 
 -- two nodes of one rank, the lesser first
-record Ordered (side : Side) (r : LocalRule) (i : ℕ) : Type 0 where
-  u : ℕ
-  v : ℕ
-  less : u < v
-  rank : IsRank (Together side r u v) i
+abbrev Ordered : Side → LocalRule → ℕ → Type 0
+Ordered side r i = (u : ℕ) × (v : ℕ) × (u < v) × IsRank (Together side r u v) i
 
 -- two nodes that have a rank differ, so one of them is the lesser
 ordered : (side : Side) {r : LocalRule} → IsRule r → (u v i : ℕ) → IsRank (Together side r u v) i → Ordered side r i
 ordered side {r} rule u v i rank =
-    ⊎_elim
-    (λ less. record { u = u; v = v; less = less; rank = rank })
-    (λ other. ⊎_elim
-    (λ same. absurd (rank.no_more (subst (λ w. Together side r u w (i + 1)) same (Together-same side rule (i + 1) u (Together-below side r u v i rank.holds).0))))
-    (λ apart. record { u = v; v = u; less = omega (arith, other, apart); rank = IsRank-turned side r u v i rank })
+    ⊎_elim (λ less. (u, v, less, rank)) (λ other. ⊎_elim
+    (λ same. absurd (rank.no_more (rw (← same) (Together-same side rule (i + 1) u (Together-below side r u v i rank.holds).0))))
+    (λ apart. (v, u, omega (arith, other, apart), IsRank-turned side r u v i rank))
     (cases_eq u v))
     (cases_lt u v)
 
@@ -62,21 +56,20 @@ record Listed (side : Side) (r : LocalRule) (n i : ℕ) : Type 0 where
 
 listed : (side : Side) {r : LocalRule} → IsRule r → (n u v : ℕ) → IsRank (Together side r u v) n → (i : ℕ) → Listed side r n i
 listed side {r} rule n u v rank i =
-    let same = λ (m : ℕ). PairGoes-pair_of side r u v m (Together-below side r u v n rank.holds).1 in
-    let pair : IsRank (PairGoes side r (pair_of r u v)) n = record { holds = (same n).1 rank.holds; no_more = λ more. rank.no_more ((same (n + 1)).0 more) } in
+    let second = (Together-below side r u v n rank.holds).1 in
+    let pair : IsRank (PairGoes side r (pair_of r u v)) n = rw (first_of-pair_of r u v second, second_of-pair_of r u v second) rank in
     let at : (j : ℕ) → j ≤ n → Ordered side r j = λ j l. let (q, of_rank) = lesser_rank side rule n (pair_of r u v) pair j l in ordered side rule (first_of r q) (second_of r q) j of_rank in
     ⊎_elim
     (λ later. ⊎_elim
     (λ last. record { u = i - (suc n + suc n); v = i - (suc n + suc n); kind = inr (inr (last, refl, refl)) })
-    (λ within.
-    let found = at (i - suc n) (omega (arith, within)) in
-    record { u = found.v; v = found.u; kind = inr (inl (later, found.less, IsRank-turned side r found.u found.v (i - suc n) found.rank)) })
+    (λ within. let (s, t, less, its) = at (i - suc n) (omega (arith, within)) in record { u = t; v = s; kind = inr (inl (later, less, IsRank-turned side r s t (i - suc n) its)) })
     (cases_lt (n + suc n) i))
-    (λ within. let found = at i within in record { u = found.u; v = found.v; kind = inl (within, found.less, found.rank) })
+    (λ within. let (s, t, less, its) = at i within in record { u = s; v = t; kind = inl (within, less, its) })
     (cases_lt n i)
 
 -- what is listed are nodes
-listed-below : (side : Side) {r : LocalRule} {n i : ℕ} → i < suc n + suc n + node_count r → (l : Listed side r n i) → (l.u < node_count r) × (l.v < node_count r)
+listed-below : (side : Side) {r : LocalRule} {n i : ℕ} → i < suc n + suc n + node_count r → (l : Listed side r n i)
+    → (l.u < node_count r) × (l.v < node_count r)
 listed-below side {r} {n} {i} within l =
     ⊎_elim (λ k. Together-below side r l.u l.v i k.2.holds)
     (λ more. ⊎_elim (λ k. Together-below side r l.u l.v (i - suc n) k.2.holds) (λ k. (omega (arith, within, k.0, k.1), omega (arith, within, k.0, k.1, k.2))) more)
@@ -85,14 +78,11 @@ listed-below side {r} {n} {i} within l =
 -- two nodes have one number
 kind_once : (side : Side) {r : LocalRule} → IsRule r → (n u v i j : ℕ) → Kind side r n u v i → Kind side r n u v j → i ≡ j
 kind_once side {r} rule n u v i j (inl k) (inl m) = IsRank-one (Together side r u v) (Together-less side rule u v) i j k.2 m.2
-kind_once side rule n u v i j (inl k) (inr (inl m)) = omega arith
-kind_once side rule n u v i j (inl k) (inr (inr m)) = omega arith
-kind_once side rule n u v i j (inr (inl k)) (inl m) = omega arith
+kind_once side rule n u v i j (inl k) (inr m) = ⊎_elim (λ other. omega arith) (λ other. omega arith) m
+kind_once side rule n u v i j (inr k) (inl m) = ⊎_elim (λ other. omega arith) (λ other. omega arith) k
 kind_once side {r} rule n u v i j (inr (inl k)) (inr (inl m)) = omega (arith, IsRank-one (Together side r u v) (Together-less side rule u v) (i - suc n) (j - suc n) k.2 m.2)
 kind_once side rule n u v i j (inr (inl k)) (inr (inr m)) = omega arith
-kind_once side rule n u v i j (inr (inr k)) (inl m) = omega arith
-kind_once side rule n u v i j (inr (inr k)) (inr (inl m)) = omega arith
-kind_once side rule n u v i j (inr (inr k)) (inr (inr m)) = omega arith
+kind_once side rule n u v i j (inr (inr k)) (inr m) = ⊎_elim (λ other. omega arith) (λ other. omega arith) m
 
 -- there are more ordered pairs of different nodes than twice as many as a rank says
 pub IsRank-apart : (side : Side) {r : LocalRule} → IsRule r → (u v n : ℕ) → IsRank (Together side r u v) n → 2 * (n + 1) + node_count r ≤ pair_count r
@@ -100,26 +90,16 @@ IsRank-apart side {r} rule u v n rank =
     ⊎_elim
     (λ many.
     let at : (i : ℕ) → Listed side r n i = listed side rule n u v rank in
-    let f : ℕ → ℕ = λ i. pair_of r (at i).u (at i).v in
     let nodes : (i : ℕ) → i ≤ pair_count r → ((at i).u < node_count r) × ((at i).v < node_count r) = λ i l. listed-below side (omega (arith, many, l)) (at i) in
-    let twice = twice_below (pair_count r) f (λ i l. pair_of-below r (at i).u (at i).v (nodes i l).0 (nodes i l).1) in
-    let i : ℕ = twice.0 in
-    let j : ℕ = twice.1 in
-    let less : i < j = twice.2 in
-    let within : j ≤ pair_count r = twice.3 in
-    let same = same_from_place (at i).u (at i).v (at j).u (at j).v (node_count r) (nodes i (omega (arith, less, within))).1 (nodes j within).1 twice.4 in
-    let one = kind_once side rule n (at i).u (at i).v i j (at i).kind (subst₂ (λ (x y : ℕ). Kind side r n x y j) (sym same.0) (sym same.1) (at j).kind) in
-    absurd (omega (arith, one, less)))
+    let (i, j, less, within, one) = twice_below (pair_count r) (λ i. pair_of r (at i).u (at i).v) (λ i l. pair_of-below r (at i).u (at i).v (nodes i l).0 (nodes i l).1) in
+    let (first, second) = same_from_place (at i).u (at i).v (at j).u (at j).v (node_count r) (nodes i (omega (arith, less, within))).1 (nodes j within).1 one in
+    absurd (omega (arith, less, kind_once side rule n (at i).u (at i).v i j (at i).kind (rw (first, second) (at j).kind))))
     (λ few. omega (arith, few))
     (cases_lt (pair_count r) (2 * (n + 1) + node_count r))
 
 -- a rank of two nodes is at most 119
 pub IsRank-most : (side : Side) {r : LocalRule} → IsRule r → (u v n : ℕ) → IsRank (Together side r u v) n → n ≤ most_rank
-IsRank-most side {r} rule u v n rank =
-    let few : node_count r ≤ 16 = rule.shape.most_nodes in
-    let apart : 2 * (n + 1) + node_count r ≤ node_count r * node_count r = IsRank-apart side rule u v n rank in
-    let most : node_count r * node_count r ≤ 16 * node_count r = mul-le-mul_right (node_count r) few in
-    omega (arith, apart, most)
+IsRank-most side {r} rule u v n rank = omega (arith, rule.shape.most_nodes, IsRank-apart side rule u v n rank, mul-le-mul_right (node_count r) rule.shape.most_nodes)
 
 -- each rank that is given is at most 119
 rank-most : (side : Side) {r : LocalRule} → IsRule r → (u v : ℕ) (rank : Option ℕ)
@@ -128,6 +108,7 @@ rank-most side rule u v None endless = tt
 rank-most side rule u v (Some n) exact = IsRank-most side rule u v n exact
 
 -- each rank of a table is at most 119
-pub AreRanks-most : (side : Side) {q r : LocalRule} (ranks : List (Option ℕ)) → IsRule q → q ≡ r → AreRanks side q ranks → (u v : ℕ) → u < node_count r → v < node_count r → IfSome (rank_at ranks u v) (λ n. n ≤ most_rank)
+pub AreRanks-most : (side : Side) {q r : LocalRule} (ranks : List (Option ℕ)) → IsRule q → q ≡ r → AreRanks side q ranks → (u v : ℕ)
+    → u < node_count r → v < node_count r → IfSome (rank_at ranks u v) (λ n. n ≤ most_rank)
 AreRanks-most side ranks rule same exact u v first second =
-    let nodes = ap node_count same in rank-most side rule u v (rank_at ranks u v) (exact u v (omega arith) (omega arith))
+    rank-most side (rw same at rule) u v (rank_at ranks u v) ((rw same at exact) u v first second)

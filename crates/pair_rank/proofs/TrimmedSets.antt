@@ -1,5 +1,6 @@
 -- What a round leaves of a set of pairs.
-use Rattle.std.proofs.Common.{◌≡◌, ℕ, ◌+◌, ◌*◌, ◌<◌, ◌≤◌, ◌↔◌, List, Bool, true, false, IsTrue, IsBitSet, length, replicate, sym, subst, ◌∙◌, arith, ⊎_elim}
+use Rattle.std.proofs.Common.{◌≡◌, ℕ, ◌+◌, ◌*◌, ◌<◌, ◌≤◌, ◌↔◌, List, Bool, true, false, IsTrue, IsBitSet, length, replicate, sym, ◌∙◌, arith, ⊎_elim}
+use mathlib.Core.Logic.Iff.{trans as iff_then}
 use Rattle.word_image.proofs.Common.{cases_lt, false≢true, get_or-replicate, get_or_past, length-replicate, LocalRule, IsRule, node_count, first_of, second_of, pair_of, pair_count, IsEndless, Together, PairGoes}
 use Rattle.pair_laws.proofs.Common.{first_of-below, second_of-below, pair_of-below, pair-below, PairGoes-pair_of, Together-zero, Together-below, Together-less, Together-rank, PairGoes-stable}
 use Rattle.pair_graph.specs.PairSets.{holds, IsTrimmedSet}
@@ -32,7 +33,8 @@ AreTogether-all side {r} rule = record {
 }
 
 -- after a round the set has the pairs that go on for one more
-pub AreTogether-next : {side : Side} {r : LocalRule} → IsRule r → {n : ℕ} {set after : List Bool} → AreTogether side r n set → IsTrimmedSet side r set after → AreTogether side r (n + 1) after
+pub AreTogether-next : {side : Side} {r : LocalRule} → IsRule r → {n : ℕ} {set after : List Bool} → AreTogether side r n set
+    → IsTrimmedSet side r set after → AreTogether side r (n + 1) after
 AreTogether-next {side} {r} rule {n} {set} {after} h trimmed = record {
   count = trimmed.count;
   pairs = λ p inside.
@@ -51,7 +53,8 @@ AreTogether-next {side} {r} rule {n} {set} {after} h trimmed = record {
 }
 
 -- where a round leaves all, what is left is endless
-pub AreEndless-stable : {side : Side} {r : LocalRule} → IsRule r → {n : ℕ} {set : List Bool} → AreTogether side r n set → IsTrimmedSet side r set set → AreEndless side r set
+pub AreEndless-stable : {side : Side} {r : LocalRule} → IsRule r → {n : ℕ} {set : List Bool} → AreTogether side r n set → IsTrimmedSet side r set set
+    → AreEndless side r set
 AreEndless-stable {side} {r} rule {n} {set} h trimmed =
     let next = AreTogether-next rule h trimmed in
     record {
@@ -78,18 +81,17 @@ AreEndless-all {side} {r} rule {n} {set} many h = record {
 }
 
 -- the pair of two nodes is in the set exactly where they go on together for n
-pub AreTogether-nodes : {side : Side} {r : LocalRule} {n : ℕ} {set : List Bool} → AreTogether side r n set → (u v : ℕ) → u < node_count r → v < node_count r
+pub AreTogether-nodes : {side : Side} {r : LocalRule} {n : ℕ} {set : List Bool} → AreTogether side r n set → (u v : ℕ) → u < node_count r
+    → v < node_count r
     → IsTrue (holds set (pair_of r u v)) ↔ Together side r u v n
-AreTogether-nodes {side} {r} {n} {set} h u v first second =
-    let exact = h.pairs (pair_of r u v) (pair_of-below r u v first second) in
-    let nodes = PairGoes-pair_of side r u v n second in
-    ((λ t. nodes.0 (exact.0 t)), (λ goes. exact.1 (nodes.1 goes)))
+AreTogether-nodes {side} {r} {n} h u v first second = iff_then (h.pairs (pair_of r u v) (pair_of-below r u v first second)) (PairGoes-pair_of side r u v n second)
 
 -- a row of the set has exactly the nodes with which a node is endless
 pub AreEndless-row : {side : Side} {q r : LocalRule} {set : List Bool} → AreEndless side q set → q ≡ r → (u row : ℕ) → u < node_count r
-    → ((n v : ℕ) → length set ≡ n * n → u < n → v < 16 → (IsBitSet row v ↔ ((v < n) × IsTrue (holds set (u * n + v))))) → (v : ℕ) → v < 16 → (IsBitSet row v ↔ IsEndless (Together side r u v))
+    → ((n v : ℕ) → length set ≡ n * n → u < n → v < 16 → (IsBitSet row v ↔ ((v < n) × IsTrue (holds set (u * n + v))))) → (v : ℕ) → v < 16
+    → (IsBitSet row v ↔ IsEndless (Together side r u v))
 AreEndless-row {side} {q} {r} {set} of_rule same u row first at v small =
-    let h = subst (λ s. AreEndless side s set) same of_rule in
+    let h = rw same at of_rule in
     let exact = at (node_count r) v h.count first small in (
       (λ some j.
           let (second, there) = exact.0 some in

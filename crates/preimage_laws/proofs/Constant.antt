@@ -47,7 +47,8 @@ IsSeparated-period {r} {y} {p} rule every again i x z hx hz mx mz node =
     period {v} hv mv = let (l, some, few, h) = HasPeriod-preimage rule every hv (subst (HasPeriod p) (sym mv) again) in (l * p, h)
 
 -- if w and y have n preimages each, those of w are separated at place i, and there is one of y with each of their nodes, then those of y are separated there
-IsSeparated-nodes : {r : LocalRule} {w y : Config} {n : ℕ} {ws ys : ℕ → Config} → ArePreimages r w n ws → ArePreimages r y n ys → (i : ℤ) → IsSeparated r w i
+IsSeparated-nodes : {r : LocalRule} {w y : Config} {n : ℕ} {ws ys : ℕ → Config} → ArePreimages r w n ws → ArePreimages r y n ys → (i : ℤ)
+    → IsSeparated r w i
     → ((a : ℕ) → a < n → Through r y i (node_under r (ws a) i)) → IsSeparated r y i
 IsSeparated-nodes {r} {w} {y} {n} {ws} {ys} first second i apart through x z hx hz mx mz node =
     let (a, la, is_x) = at x hx mx in
@@ -115,7 +116,8 @@ IsOpen-constant {r} rule (n, each) = (
       equal s t hs ht share i (λ a l. right (i +ℤ r.offset +ℤ pos a) (omega (arith, ints))),
 )
   where
-    equal : (s t : TailConfig) → IsTail r.states s → IsTail r.states t → ShareImage r s t → (i : ℤ) → ((a : ℕ) → a < r.width - 1 → cell s (i +ℤ r.offset +ℤ pos a) ≡ cell t (i +ℤ r.offset +ℤ pos a)) → Same s t
+    equal : (s t : TailConfig) → IsTail r.states s → IsTail r.states t → ShareImage r s t → (i : ℤ)
+        → ((a : ℕ) → a < r.width - 1 → cell s (i +ℤ r.offset +ℤ pos a) ≡ cell t (i +ℤ r.offset +ℤ pos a)) → Same s t
     equal s t hs ht share i node j =
         let x : Config = cell s in
         let z : Config = cell t in

@@ -18,7 +18,8 @@ Differ-run x y i n other =
     (i +ℤ pos d.place, λ e. d.other (get_or-run x i _ n d.place within refl ∙ e ∙ sym (get_or-run y i _ n d.place within refl)))
 
 -- if some places around 0 are enough, the preimages can be numbered, by the nodes that they have there
-preimages_of : {r : LocalRule} {y : Config} → IsRule r → HasSeparatedPreimages r → (n : ℕ) → IsFollowed r y (pos 0) n → (d : ℕ) × (xs : ℕ → Config) × ArePreimages r y d xs
+preimages_of : {r : LocalRule} {y : Config} → IsRule r → HasSeparatedPreimages r → (n : ℕ) → IsFollowed r y (pos 0) n
+    → (d : ℕ) × (xs : ℕ → Config) × ArePreimages r y d xs
 preimages_of {r} {y} rule apart n followed = (
   h.count,
   found.0,
@@ -74,7 +75,8 @@ same_number {r} {y} {n} {xs} are i apart a b first second e =
         at.1 (ap (λ (x : Config). x at.0) (apart (xs c) (xs d) (are.configs c (omega arith)) (are.configs d most) (are.maps c (omega arith)) (are.maps d most) e))
 
 -- what agrees around a place with y has as many preimages at least
-no_fewer : {r : LocalRule} {y z : Config} {d e : ℕ} {xs zs : ℕ → Config} → HasSeparatedPreimages r → (i : ℤ) (n : ℕ) → IsFollowed r z i n → AgreeAround i n y z → ArePreimages r y d xs → ArePreimages r z e zs → d ≤ e
+no_fewer : {r : LocalRule} {y z : Config} {d e : ℕ} {xs zs : ℕ → Config} → HasSeparatedPreimages r → (i : ℤ) (n : ℕ) → IsFollowed r z i n
+    → AgreeAround i n y z → ArePreimages r y d xs → ArePreimages r z e zs → d ≤ e
 no_fewer {r} {y} {z} {d} {e} {xs} {zs} apart i n followed agree first second =
     ⊎_elim (λ less.
     let (a, b, c, order, most, one, two) = twice_marked e (λ a c. node_under r (xs a) i ≡ node_under r (zs c) i) (λ a l. mark a (omega arith)) in

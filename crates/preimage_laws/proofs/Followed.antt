@@ -50,7 +50,8 @@ IsFollowed-tails {r} {y} rule (first, last) i =
     )
 
 -- if some places around i are enough, it can be decided whether there is a preimage with a node under place i
-pub through_or_not : {r : LocalRule} {y : Config} → IsRule r → (i : ℤ) (n : ℕ) → IsFollowed r y i n → (w : List ℕ) → Through r y i w ⊎ ¬ Through r y i w
+pub through_or_not : {r : LocalRule} {y : Config} → IsRule r → (i : ℤ) (n : ℕ) → IsFollowed r y i n → (w : List ℕ)
+    → Through r y i w ⊎ ¬ Through r y i w
 through_or_not {r} {y} rule i n followed w =
     let s : ℤ = i -ℤ pos n in
     let l : ℕ = n + n + 1 in

@@ -7,7 +7,8 @@ use Rattle.config_laws.proofs.Everywhere.{IsRightClosing-everywhere, IsLeftClosi
 use Rattle.preimage_laws.specs.PreimageCounts.{HasSeparatedPreimages}
 
 -- the left part of one preimage and the right part of another make a third, if they have the same m - 1 letters where they meet
-pub image_of-run_meeting : (r : LocalRule) (x z : Config) {y : Config} (s : ℤ) → run x s (r.width - 1) ≡ run z s (r.width - 1) → image_of r x ≡ y → image_of r z ≡ y → image_of r (meeting x z s) ≡ y
+pub image_of-run_meeting : (r : LocalRule) (x z : Config) {y : Config} (s : ℤ) → run x s (r.width - 1) ≡ run z s (r.width - 1) → image_of r x ≡ y
+    → image_of r z ≡ y → image_of r (meeting x z s) ≡ y
 image_of-run_meeting r x z {y} s node first second =
     let i : ℤ = s -ℤ r.offset in
     let here : i +ℤ r.offset ≡ s = omega (arith, ints) in

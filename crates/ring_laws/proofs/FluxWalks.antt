@@ -40,7 +40,8 @@ walk_gain-flux {weight} {r} {phi} rule flux v l =
     omega (arith, ints)
 
 -- where a flux exists, the walks' gains have 0 at node 0
-pub walk_gains-zero : {weight : ℕ → ℕ} {r : LocalRule} {phi : List ℤ} → IsRule r → IsFlux weight r phi → slice_get (walk_gains weight r) 0 ≡ Some (pos 0)
+pub walk_gains-zero : {weight : ℕ → ℕ} {r : LocalRule} {phi : List ℤ} → IsRule r → IsFlux weight r phi
+    → slice_get (walk_gains weight r) 0 ≡ Some (pos 0)
 walk_gains-zero {weight} {r} {phi} rule flux =
     let some : 0 < node_count r = node_count_pos rule in
     let none : walk_gain weight r 0 ≡ pos 0 = let e = walk_gain-flux rule flux 0 some in omega (arith, ints) in
@@ -48,7 +49,8 @@ walk_gains-zero {weight} {r} {phi} rule flux =
     ∙ ap Some (get_or-map-range_with_len (walk_gain weight r) 0 (node_count r) 0 0 (pos 0) some (omega arith) ∙ none)
 
 -- the walks' gains are the only flux with 0 at node 0
-pub IsFlux-unique : {weight : ℕ → ℕ} {r : LocalRule} {phi : List ℤ} → IsRule r → IsFlux weight r phi → slice_get phi 0 ≡ Some (pos 0) → phi ≡ walk_gains weight r
+pub IsFlux-unique : {weight : ℕ → ℕ} {r : LocalRule} {phi : List ℤ} → IsRule r → IsFlux weight r phi → slice_get phi 0 ≡ Some (pos 0)
+    → phi ≡ walk_gains weight r
 IsFlux-unique {weight} {r} {phi} rule flux zeroth =
     let none : get_or phi 0 (pos 0) ≡ pos 0 = get_or_from_slice_get phi 0 (pos 0) (pos 0) zeroth in
     fill_by_all (walk_gain weight r) phi (node_count r) (pos 0) flux.entries (λ v l. let e = walk_gain-flux rule flux v l in omega (arith, ints))

@@ -23,11 +23,13 @@ window_gain-value {r} rule weight w word e =
     ap (λ a. pos (weight (local_map r w)) -ℤ pos (weight a)) begins
 
 -- the first node of a window, by the window's value
-pub value-first_node : {r : LocalRule} → IsRule r → (w : List ℕ) → IsWord r.states w → length w ≡ r.width → value r.states (take (r.width - 1) w) ≡ value r.states w / r.states
+pub value-first_node : {r : LocalRule} → IsRule r → (w : List ℕ) → IsWord r.states w → length w ≡ r.width
+    → value r.states (take (r.width - 1) w) ≡ value r.states w / r.states
 value-first_node {r} rule w word e = let wide = rule.shape.least_width in value-front r.states (r.width - 1) w word (omega arith)
 
 -- a window's last node, by its value
-pub value-last : {r : LocalRule} → IsRule r → (w : List ℕ) → IsWord r.states w → length w ≡ r.width → value r.states (drop 1 w) ≡ value r.states w % node_count r
+pub value-last : {r : LocalRule} → IsRule r → (w : List ℕ) → IsWord r.states w → length w ≡ r.width
+    → value r.states (drop 1 w) ≡ value r.states w % node_count r
 value-last {r} rule w word e = let wide = rule.shape.least_width in value-tail r.states (r.width - 1) w word (omega arith)
 
 -- the walk from a word of m - 1 letters that reads n letters 0
@@ -54,10 +56,9 @@ gain-walk_sum {r} rule weight (suc n) z word e =
     both ∙ ap₂ (λ (i j : ℤ). i +ℤ j) one rest
 
 -- the walk's gain of a node is what m - 1 windows gain
-pub walk_gain-sum : {r : LocalRule} → IsRule r → (weight : ℕ → ℕ) (u : ℕ) → u < node_count r → walk_gain weight r u ≡ walk_sum weight r u (r.width - 1)
-walk_gain-sum {r} rule weight u l =
-    gain-walk_sum rule weight (r.width - 1) (word_of r.states (r.width - 1) u) (IsWord-word_of r.states (r.width - 1) u l) (length-word_of r.states (r.width - 1) u)
-    ∙ ap (λ v. walk_sum weight r v (r.width - 1)) (value-word_of r.states (r.width - 1) u l)
+pub walk_gain-sum : {r : LocalRule} → IsRule r → (weight : ℕ → ℕ) (u : ℕ) → u < node_count r
+    → walk_gain weight r u ≡ walk_sum weight r u (r.width - 1)
+walk_gain-sum rule weight u l = grind (arith, gain-walk_sum, length-word_of, value-word_of, IsWord-word_of)
 
 -- the window of this value gains the difference of a list at its two nodes
 abbrev pub FlowsAt : (ℕ → ℕ) → LocalRule → List ℤ → ℕ → Type 0
@@ -66,13 +67,11 @@ FlowsAt weight r phi v = window_gain weight r v ≡ get_or phi (v / r.states) (p
 -- the window of this value gains what its letters say
 window_gain-word_of : {r : LocalRule} → IsRule r → (weight : ℕ → ℕ) (v : ℕ) → v < r.states ^ (r.width - 1 + 1)
     → gain_of weight r (word_of r.states (r.width - 1 + 1) v) ≡ window_gain weight r v
-window_gain-word_of {r} rule weight v l =
-    let n : ℕ = r.width - 1 + 1 in
-    window_gain-value rule weight (word_of r.states n v) (IsWord-word_of r.states n v l) (omega (arith, length-word_of r.states n v, rule.shape.least_width))
-    ∙ ap (window_gain weight r) (value-word_of r.states n v l)
+window_gain-word_of rule weight v l = grind (arith, value-word_of)
 
 -- a list is a flux if each window does
-pub IsFlux-windows : {weight : ℕ → ℕ} {r : LocalRule} {phi : List ℤ} → IsRule r → length phi ≡ node_count r → ((v : ℕ) → v < r.states ^ r.width → FlowsAt weight r phi v)
+pub IsFlux-windows : {weight : ℕ → ℕ} {r : LocalRule} {phi : List ℤ} → IsRule r → length phi ≡ node_count r
+    → ((v : ℕ) → v < r.states ^ r.width → FlowsAt weight r phi v)
     → IsFlux weight r phi
 IsFlux-windows {weight} {r} {phi} rule entries each = record {
   entries = entries;
@@ -84,7 +83,8 @@ IsFlux-windows {weight} {r} {phi} rule entries each = record {
 }
 
 -- under a flux the flow of each window is right
-pub FlowsAt-flux : {weight : ℕ → ℕ} {r : LocalRule} {phi : List ℤ} → IsRule r → IsFlux weight r phi → (v : ℕ) → v < r.states ^ r.width → FlowsAt weight r phi v
+pub FlowsAt-flux : {weight : ℕ → ℕ} {r : LocalRule} {phi : List ℤ} → IsRule r → IsFlux weight r phi → (v : ℕ) → v < r.states ^ r.width
+    → FlowsAt weight r phi v
 FlowsAt-flux {weight} {r} {phi} rule flux v l =
     let wide : r.width ≡ r.width - 1 + 1 = omega (arith, rule.shape.least_width) in
     let below : v < r.states ^ (r.width - 1 + 1) = subst (λ n. v < r.states ^ n) wide l in

@@ -1,6 +1,6 @@
 -- What the image of a word weighs more than the letters at which its windows begin: window by window, in two parts, and round a ring.
 use Rattle.std.proofs.Common.{◌≡◌, ℕ, ◌+◌, ◌-◌, ◌<◌, ◌≤◌, List, [], ◌∷◌, length, take, drop, slice_index, sum_by, ℤ, pos, ◌-ℤ◌, sym, ap, ap₂, ◌∙◌, arith, length-drop, length-take-le, get_or-take}
-use Rattle.word_image.proofs.Common.{ints, drop-take, sum_by-cons, LocalRule, IsRule, local_map, image, ring_letters, ring_image, get_or-image, image-short, image-drop, length-image, sum_by-ring_letters}
+use Rattle.word_image.proofs.Common.{ints, drop-take, sum_by-cons, LocalRule, IsRule, local_map, image, ring_letters, ring_image, get_or-image, image-drop, length-image, sum_by-ring_letters}
 use Rattle.ring_laws.proofs.Rings.{sum_by-ring_image, length-ring_letters, take-ring_letters}
 use Rattle.ring_laws.proofs.Walks.{IsWindowSum}
 
@@ -14,25 +14,13 @@ gain_of weight r w = pos (weight (local_map r w)) -ℤ pos (weight (slice_index 
 
 -- a word with no window gains nothing
 pub gain-short : (weight : ℕ → ℕ) (r : LocalRule) (x : List ℕ) → length x ≤ r.width - 1 → gain weight r x ≡ pos 0
-gain-short weight r x h =
-    let none : length x - (r.width - 1) ≡ 0 = omega arith in
-    let values : sum_by weight (image r x) ≡ 0 = ap (sum_by weight) (image-short r x h) in
-    let letters : sum_by weight (take (length x - (r.width - 1)) x) ≡ 0 = ap (λ i. sum_by weight (take i x)) none in
-    omega (arith, ints)
+gain-short weight r x h = grind arith
 
 -- a ring gains what a full turn gains, wherever it begins
 pub gain-ring : {r : LocalRule} → IsRule r → (weight : ℕ → ℕ) (p : List ℕ) (o : ℤ) → 0 < length p
     → gain weight r (ring_letters p o (length p + (r.width - 1))) ≡ pos (sum_by weight (ring_image r p)) -ℤ pos (sum_by weight p)
-gain-ring {r} rule weight p o some =
-    let n : ℕ = length p in
-    let x : List ℕ = ring_letters p o (n + (r.width - 1)) in
-    let place : length x - (r.width - 1) ≡ n = omega (arith, length-ring_letters p o (n + (r.width - 1))) in
-    let letters : sum_by weight (take (length x - (r.width - 1)) x) ≡ sum_by weight p =
-    ap (λ i. sum_by weight (take i x)) place
-    ∙ ap (sum_by weight) (take-ring_letters p o (n + (r.width - 1)) n (omega arith))
-    ∙ sum_by-ring_letters weight p o some in
-    let values = sum_by-ring_image rule weight p o some in
-    omega (arith, ints)
+gain-ring rule weight p o some =
+    grind (arith, length-ring_letters, take-ring_letters, sum_by-ring_letters, sum_by-ring_image)
 
 -- a list weighs what its first element and the others do
 sum_by-first : (f : ℕ → ℕ) (xs : List ℕ) → 0 < length xs → sum_by f xs ≡ f (slice_index xs 0) + sum_by f (drop 1 xs)

@@ -1,6 +1,6 @@
 -- Weights that agree on the letters of a rule say the same of its rings, so own weights say what the letters themselves say.
-use Rattle.std.proofs.Common.{◌≡◌, ℕ, ◌+◌, ◌<◌, List, [], ◌∷◌, slice_index, sum_by, ℤ, pos, ◌-ℤ◌, refl, sym, ap₂, ◌∙◌, arith, ◌↔◌}
-use Rattle.word_image.proofs.Common.{sum_by-cons, All-tail, LocalRule, IsRule, IsWord, local_map, ring_image, KeepsSum, IsConserving, IsFlux, IsLossyRing, IsLeastLossyRing, own_weights, entry-below}
+use Rattle.std.proofs.Common.{◌≡◌, ℕ, ◌+◌, ◌<◌, List, [], ◌∷◌, slice_index, sum_by, ℤ, refl, sym, ap₂, ◌∙◌, arith, ◌↔◌}
+use Rattle.word_image.proofs.Common.{sum_by-cons, All-tail, LocalRule, IsRule, IsWord, ring_image, KeepsSum, IsConserving, IsFlux, IsLossyRing, IsLeastLossyRing, own_weights, entry-below}
 use Rattle.word_image.proofs.laws.Weights.{own_weights-letter}
 use Rattle.ring_laws.proofs.Rings.{IsWord-ring_image}
 
@@ -21,35 +21,32 @@ sum_by-agree {k} {weight} {other} agree (a ∷ w) word =
     ∙ sym (sum_by-cons other a w)
 
 -- where two weights agree on the letters, a ring that keeps its sum by the one keeps it by the other
-pub KeepsSum-agree : {weight other : ℕ → ℕ} {r : LocalRule} → IsRule r → AgreeOn r.states weight other → (p : List ℕ) → IsWord r.states p → KeepsSum weight r p → KeepsSum other r p
+pub KeepsSum-agree : {weight other : ℕ → ℕ} {r : LocalRule} → IsRule r → AgreeOn r.states weight other → (p : List ℕ) → IsWord r.states p
+    → KeepsSum weight r p → KeepsSum other r p
 KeepsSum-agree {r = r} rule agree p word keeps = sym (sum_by-agree agree p word) ∙ keeps ∙ sum_by-agree agree (ring_image r p) (IsWord-ring_image rule p)
 
 -- where two weights agree on the letters, a rule that is conserving by the one is so by the other
 IsConserving-agreed : {weight other : ℕ → ℕ} {r : LocalRule} → IsRule r → AgreeOn r.states weight other → IsConserving weight r → IsConserving other r
 IsConserving-agreed rule agree keep p ring = KeepsSum-agree rule agree p ring.word (keep p ring)
 
-pub IsConserving-agree : {weight other : ℕ → ℕ} {r : LocalRule} → IsRule r → AgreeOn r.states weight other → IsConserving weight r ↔ IsConserving other r
+pub IsConserving-agree : {weight other : ℕ → ℕ} {r : LocalRule} → IsRule r → AgreeOn r.states weight other
+    → IsConserving weight r ↔ IsConserving other r
 IsConserving-agree rule agree = (IsConserving-agreed rule agree, IsConserving-agreed rule (AgreeOn-sym agree))
 
 -- where two weights agree on the letters, a flux by the one is a flux by the other
-pub IsFlux-agree : {weight other : ℕ → ℕ} {r : LocalRule} {phi : List ℤ} → IsRule r → AgreeOn r.states weight other → IsFlux weight r phi → IsFlux other r phi
-IsFlux-agree {r = r} rule agree flux = record {
-  entries = flux.entries;
-  flows = λ w first last word long at_first at_last.
-      ap₂ (λ (m n : ℕ). pos m -ℤ pos n) (sym (agree (local_map r w) (entry-below rule _))) (sym (agree (slice_index w 0) (word 0 0 (omega arith))))
-      ∙ flux.flows w first last word long at_first at_last;
-}
+pub IsFlux-agree : {weight other : ℕ → ℕ} {r : LocalRule} {phi : List ℤ} → IsRule r → AgreeOn r.states weight other → IsFlux weight r phi
+    → IsFlux other r phi
+IsFlux-agree {r = r} rule agree flux = grind (arith, entry-below)
 
 -- where two weights agree on the letters, a ring that is lossy by the one is lossy by the other
-pub IsLossyRing-agree : {weight other : ℕ → ℕ} {r : LocalRule} {p : List ℕ} → IsRule r → AgreeOn r.states weight other → IsLossyRing weight r p → IsLossyRing other r p
+pub IsLossyRing-agree : {weight other : ℕ → ℕ} {r : LocalRule} {p : List ℕ} → IsRule r → AgreeOn r.states weight other → IsLossyRing weight r p
+    → IsLossyRing other r p
 IsLossyRing-agree {p = p} rule agree lossy = record { ring = lossy.ring; loses = λ keeps. lossy.loses (KeepsSum-agree rule (AgreeOn-sym agree) p lossy.ring.word keeps) }
 
 -- the first lossy ring by some weights is the first by others that agree on the letters
-pub IsLeastLossyRing-agree : {weight other : ℕ → ℕ} {r : LocalRule} {p : List ℕ} → IsRule r → AgreeOn r.states weight other → IsLeastLossyRing weight r p → IsLeastLossyRing other r p
-IsLeastLossyRing-agree rule agree least = record {
-  lossy = IsLossyRing-agree rule agree least.lossy;
-  least = λ q lossy. least.least q (IsLossyRing-agree rule (AgreeOn-sym agree) lossy);
-}
+pub IsLeastLossyRing-agree : {weight other : ℕ → ℕ} {r : LocalRule} {p : List ℕ} → IsRule r → AgreeOn r.states weight other
+    → IsLeastLossyRing weight r p → IsLeastLossyRing other r p
+IsLeastLossyRing-agree rule agree least = grind (arith, IsLossyRing-agree)
 
 -- own weights agree with the letters
 pub AgreeOn-own : (k : ℕ) → AgreeOn k (slice_index (own_weights k)) (λ a. a)

@@ -49,11 +49,7 @@ ring-steps {k} {d} phi c sums steps p ring =
 
 -- the walk round the ring of z and y, where z is a node
 closed_walk : {d : ℕ} (z y : List ℕ) → 1 ≤ d → length z ≡ d → ring_letters (z ++ y) (pos 0) (length (z ++ y) + d) ≡ z ++ (y ++ z)
-closed_walk {d} z y some e =
-    let long = length-append z y in
-    ring_letters-closed (z ++ y) d (omega arith) (omega arith)
-    ∙ ap (λ x. (z ++ y) ++ x) (ap (λ n. take n (z ++ y)) (sym e) ∙ take-append_seam z y)
-    ∙ append_assoc z y z
+closed_walk z y some e = grind (arith, length-append, ring_letters-closed, take-append_seam, append_assoc)
 
 -- where each ring of at most 2 d + 1 letters gives nothing, a window gives the difference of the walks from its two nodes that read d letters 0
 pub window-short_rings : {d : ℕ} {h sum : List ℕ → ℤ} (k : ℕ) → 1 ≤ k → 1 ≤ d → IsWindowSum d h sum

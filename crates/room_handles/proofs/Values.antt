@@ -48,7 +48,8 @@ ptr_good (block_ptr b o) = (tt, tt)
 ptr_good null_ptr = (tt, record { fits = lit< tt })
 
 -- a pointer beside a handle is stored as a struct of two fields
-pub both_good : (Z : RattleType) (p : Ptr) (h : Val) → Good (layout Z) h → T (has_ty ty_ptr (ptr_val p) && (has_ty (layout Z) h && true)) × WT (both (ptr_val p) h)
+pub both_good : (Z : RattleType) (p : Ptr) (h : Val) → Good (layout Z) h
+    → T (has_ty ty_ptr (ptr_val p) && (has_ty (layout Z) h && true)) × WT (both (ptr_val p) h)
 both_good Z p h fits = (both_tt (has_ty ty_ptr (ptr_val p)) (has_ty (layout Z) h) (ptr_good p).0 fits.0, ((ptr_good p).1, (fits.1, tt)))
 
 module _ (R Z : RattleType) (L : Laws Z) (g : Ghosts Z.Denot) where
@@ -65,24 +66,6 @@ module _ (R Z : RattleType) (L : Laws Z) (g : Ghosts Z.Denot) where
   held_good b o h fits = (and_tt (has_ty (layout Z) h) fits.0, (tt, (fits.1, tt)))
 
   module _ {M : Type 1} {𝓤 : Ura M} {𝓛 : Logic 𝓤} {K : Type 0} {Γ : List (Item 𝓤)} {G : Goal 𝓤 𝓛.H} where
-    -- a `Held` with a box is the box and the handle
-    pub held_out : K → (d : Held.Denot) (vs : List Val)
-        → d.full ≡ true → ((b o : ℕ) (h : Val) (x : R.Denot) → vs ≡ both (vptr b o) h ∷ [] → Good (layout Z) h → Seq K 𝓛 (‵ (box_owns (g.dealloc_token d.alloc) R (block_ptr b o) x) ∷ ‵ (Z.own_val d.alloc (h ∷ [])) ∷ Γ) G)
-        → Seq K 𝓛 (‵ (Held.own_val d vs) ∷ Γ) G
-    held_out t d vs full k =
-        fsplit t $ fpick t (λ vss. fsplit t $ feq_l t (λ ev. fsplit t $ feq_l t (λ ep. fsplit t $ handle_tells al t d.alloc vss.1.0 (λ h ea fits. move t (1 ∷ []) $ drop t $ move t (1 ∷ []) $
-        rewrite t 0 (λ (f : Bool). ‵ (held (g.dealloc_token d.alloc) R d.at f)) full refl $ fpick t (λ x.
-        in_a_block t d.at (λ p. box_owns (g.dealloc_token d.alloc) R p x) (fst∗ 𝓤 (never 𝓤) (sem 𝓛 (g.dealloc_token d.alloc (bare (lone R.mir)) null_ptr))) (λ b o e. k b o h x
-        (subst (λ (p : Ptr). vs ≡ vstruct (of_list (ptr_val p ∷ h ∷ [])) ∷ []) e
-        (subst (λ (ws : List Val). vs ≡ vstruct (of_list (ptr_val d.at ∷ (ws ++ []))) ∷ []) ea (subst (λ (ps : List Val). vs ≡ vstruct (of_list (ps ++ (vss.1.0 ++ []))) ∷ []) ep ev))) fits))))))
-
-    -- a box and the handle are a `Held` with a box
-    pub held_in : K → (b o : ℕ) (h : Val) (a : Z.Denot) (x : R.Denot)
-        → Step K 𝓛 (‵ (Held.own_val (record { at = block_ptr b o; alloc = a; full = true }) (both (vptr b o) h ∷ [])) ∷ Γ) G (‵ (box_owns (g.dealloc_token a) R (block_ptr b o) x) ∷ ‵ (Z.own_val a (h ∷ [])) ∷ Γ) G
-    held_in t b o h a x = step (λ s. let v : Val = both (vptr b o) h in
-        fpack t R.Denot (λ y. box_owns (g.dealloc_token a) R (block_ptr b o) y) x $ nothing t $ move t (2 ∷ 0 ∷ []) $ fjoin t $ feq_i t (List Val) (vptr b o ∷ []) (vptr b o ∷ []) refl $ fjoin t $ feq_i t (List Val) (v ∷ []) (v ∷ []) refl $ fjoin t $
-        fpack t (Valss (RawPtr ∷ Z ∷ [])) (within (shape (holder.the_type R Z g)) (block_ptr b o, (a, tt)) (v ∷ [])) (vptr b o ∷ [], (h ∷ [], tt)) $ fjoin t $ s)
-
     -- a `Held` is what lies at its pointer, and the handle
     pub taken : K → (d : Held.Denot) (vs : List Val)
         → ((h : Val) → vs ≡ both (ptr_val d.at) h ∷ [] → Good (layout Z) h → Seq K 𝓛 (‵ (held (g.dealloc_token d.alloc) R d.at d.full) ∷ ‵ (Z.own_val d.alloc (h ∷ [])) ∷ Γ) G)
@@ -97,6 +80,20 @@ module _ (R Z : RattleType) (L : Laws Z) (g : Ghosts Z.Denot) where
     made t p h a f = step (λ s. let v : Val = both (ptr_val p) h in
         nothing t $ move t (2 ∷ 0 ∷ []) $ fjoin t $ feq_i t (List Val) (ptr_val p ∷ []) (ptr_val p ∷ []) refl $ fjoin t $ feq_i t (List Val) (v ∷ []) (v ∷ []) refl $ fjoin t $
         fpack t (Valss (RawPtr ∷ Z ∷ [])) (within (shape (holder.the_type R Z g)) (p, (a, tt)) (v ∷ [])) (ptr_val p ∷ [], (h ∷ [], tt)) $ fjoin t $ s)
+
+    -- a `Held` with a box is the box and the handle
+    pub held_out : K → (d : Held.Denot) (vs : List Val)
+        → d.full ≡ true
+        → ((b o : ℕ) (h : Val) (x : R.Denot) → vs ≡ both (vptr b o) h ∷ [] → Good (layout Z) h → Seq K 𝓛 (‵ (box_owns (g.dealloc_token d.alloc) R (block_ptr b o) x) ∷ ‵ (Z.own_val d.alloc (h ∷ [])) ∷ Γ) G)
+        → Seq K 𝓛 (‵ (Held.own_val d vs) ∷ Γ) G
+    held_out t d vs full k = taken t d vs (λ h ws fits. rewrite t 0 (λ (f : Bool). ‵ (held (g.dealloc_token d.alloc) R d.at f)) full refl $ fpick t (λ x.
+        in_a_block t d.at (λ p. box_owns (g.dealloc_token d.alloc) R p x) (fst∗ 𝓤 (never 𝓤) (sem 𝓛 (g.dealloc_token d.alloc (bare (lone R.mir)) null_ptr)))
+        (λ b o e. k b o h x (subst (λ (p : Ptr). vs ≡ both (ptr_val p) h ∷ []) e ws) fits)))
+
+    -- a box and the handle are a `Held` with a box
+    pub held_in : K → (b o : ℕ) (h : Val) (a : Z.Denot) (x : R.Denot)
+        → Step K 𝓛 (‵ (Held.own_val (record { at = block_ptr b o; alloc = a; full = true }) (both (vptr b o) h ∷ [])) ∷ Γ) G (‵ (box_owns (g.dealloc_token a) R (block_ptr b o) x) ∷ ‵ (Z.own_val a (h ∷ [])) ∷ Γ) G
+    held_in t b o h a x = step (λ s. fpack t R.Denot (λ y. box_owns (g.dealloc_token a) R (block_ptr b o) y) x $ made t (block_ptr b o) h a true $ s)
 
 -- the row of the handle of the heap
 abbrev heap_row : RattleType

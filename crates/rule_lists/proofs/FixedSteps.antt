@@ -1,66 +1,48 @@
 -- Steps by fixed letters are steps of each rule that has these letters.
-use Rattle.std.proofs.Common.{◌≡◌, ◌≢◌, ℕ, zero, suc, ◌<◌, List, Some, sym, ap, ◌∙◌, subst, ⊎_elim, arith}
-use Rattle.word_image.proofs.Common.{LocalRule, IsRule, first_of, second_of, pair_count, PairStep, LeadsOn, PairGoes, Together, IsFirstOfRight, window_with-within}
+use Rattle.std.proofs.Common.{◌≡◌, ◌≢◌, ℕ, zero, suc, ◌<◌, List, subst, ⊎_elim, arith}
+use Rattle.word_image.proofs.Common.{LocalRule, IsRule, first_of, second_of, pair_count, PairStep, LeadsOn, PairGoes, IsFirstOfRight, window_with-within, IsEndless}
 use Rattle.word_image.specs.declared.side.Side.{Side}
 use Rattle.word_image.specs.declared.side.Side.TheVariants.{Right, Left}
-use Rattle.word_image.specs.Ranks.{IsEndless}
-use Rattle.pair_laws.proofs.Common.{first_of-below, second_of-below, follow-edges, Together-zero, PairGoes-push}
+use Rattle.pair_laws.proofs.Common.{first_of-below, second_of-below, Together-zero, PairGoes-push}
 use Rattle.pair_laws.proofs.Mirrors.{Together-same}
 use Rattle.tail_config.proofs.Common.{IsInjective}
 use Rattle.tail_laws.proofs.Common.{no_twins}
 use Rattle.tail_laws.proofs.EndlessPairs.{has_twins-both_ways}
 use Rattle.rule_lists.specs.Completions.{IsCompletion}
 use Rattle.rule_lists.specs.EndlessPairs.{IsFixedStep, FixedLeadsOn, AreEndlessOn, IsFixedFirst}
-use Rattle.rule_lists.proofs.Sure.{shaped, is_shaped, IsRule-shaped}
+use Rattle.rule_lists.proofs.Sure.{is_shaped}
 
 -- a fixed step is a step of each rule that has the letters
-pub PairStep-fixed : (r s : LocalRule) (letters : List ℕ) → IsRule r → IsCompletion r.states r.width letters s → (p q : ℕ) → IsFixedStep r letters p q → PairStep s p q
+pub PairStep-fixed : (r s : LocalRule) (letters : List ℕ) → IsRule r → IsCompletion r.states r.width letters s → (p q : ℕ) → IsFixedStep r letters p q
+    → PairStep s p q
 PairStep-fixed r s letters rule h p q step =
     let first = h.fixed _ (window_with-within Right rule (first_of r p) step.a (first_of-below rule p step.in_pairs) step.a_letter) step.fixed in
     let second = h.fixed _ (window_with-within Right rule (second_of r p) step.b (second_of-below rule p) step.b_letter) (subst (λ c. c < r.states) step.one step.fixed) in
-    subst (λ x. PairStep x p q) (is_shaped r s letters h) (record {
-      a = step.a;
-      b = step.b;
-      in_pairs = step.in_pairs;
-      a_letter = step.a_letter;
-      b_letter = step.b_letter;
-      follows = follow-edges (shaped r s) p step.a step.b (first ∙ step.one ∙ sym second) ∙ ap (λ x. Some x) step.to;
-    })
+    subst (λ x. PairStep x p q) (is_shaped r s letters h) (grind arith)
 
 -- a fixed step leads on in each rule that has the letters
-pub LeadsOn-fixed : (side : Side) (r s : LocalRule) (letters : List ℕ) → IsRule r → IsCompletion r.states r.width letters s → (p q : ℕ) → FixedLeadsOn side r letters p q → LeadsOn side s p q
+pub LeadsOn-fixed : (side : Side) (r s : LocalRule) (letters : List ℕ) → IsRule r → IsCompletion r.states r.width letters s → (p q : ℕ)
+    → FixedLeadsOn side r letters p q → LeadsOn side s p q
 LeadsOn-fixed Right r s letters rule h p q step = PairStep-fixed r s letters rule h p q step
 LeadsOn-fixed Left r s letters rule h p q step = PairStep-fixed r s letters rule h q p step
 
 -- a first pair of the fixed letters is one of each rule that has them
-pub IsFirstOfRight-fixed : (r s : LocalRule) (letters : List ℕ) → IsRule r → IsCompletion r.states r.width letters s → (p : ℕ) → IsFixedFirst r letters p → IsFirstOfRight s p
+pub IsFirstOfRight-fixed : (r s : LocalRule) (letters : List ℕ) → IsRule r → IsCompletion r.states r.width letters s → (p : ℕ)
+    → IsFixedFirst r letters p → IsFirstOfRight s p
 IsFirstOfRight-fixed r s letters rule h p f =
     let first = h.fixed _ (window_with-within Right rule f.node f.a f.in_nodes f.a_letter) f.fixed in
     let second = h.fixed _ (window_with-within Right rule f.node f.b f.in_nodes f.b_letter) (subst (λ c. c < r.states) f.one f.fixed) in
-    subst (λ x. IsFirstOfRight x p) (is_shaped r s letters h) (record {
-      node = f.node;
-      a = f.a;
-      b = f.b;
-      in_nodes = f.in_nodes;
-      a_letter = f.a_letter;
-      b_letter = f.b_letter;
-      different = f.different;
-      one_label = first ∙ f.one ∙ sym second;
-      pair = f.pair;
-    })
+    subst (λ x. IsFirstOfRight x p) (is_shaped r s letters h) (grind arith)
 
 -- a pair of two equal nodes goes on for ever
-pub PairGoes-equal : (side : Side) (r s : LocalRule) (letters : List ℕ) → IsRule r → IsCompletion r.states r.width letters s → (p : ℕ) → p < pair_count r → first_of r p ≡ second_of r p → IsEndless (PairGoes side s p)
-PairGoes-equal side r s letters rule h p below one n =
-    let u : ℕ = first_of r p in
-    let same = Together-same side (IsRule-shaped r s letters h) n u (first_of-below rule p below) in
-    subst (λ x. PairGoes side x p n) (is_shaped r s letters h) (subst (λ v. Together side (shaped r s) u v n) one same)
+pub PairGoes-equal : (side : Side) (r s : LocalRule) (letters : List ℕ) → IsRule r → IsCompletion r.states r.width letters s → (p : ℕ)
+    → p < pair_count r → first_of r p ≡ second_of r p → IsEndless (PairGoes side s p)
+PairGoes-equal side r s letters rule h p below one n = grind (arith, Together-same)
 
 -- the pairs of the set go on for every length in each rule that has the letters
-pub PairGoes-fixed : (side : Side) (r s : LocalRule) (letters : List ℕ) (Set : ℕ → Type 0) → IsRule r → AreEndlessOn side r letters Set → IsCompletion r.states r.width letters s → (n p : ℕ) → Set p → PairGoes side s p n
-PairGoes-fixed side r s letters Set rule endless h zero p has =
-    let below : p < pair_count s = subst (λ x. p < pair_count x) (is_shaped r s letters h) (endless p has).0 in
-    Together-zero side s (first_of s p) (second_of s p) (first_of-below h.rule p below) (second_of-below h.rule p)
+pub PairGoes-fixed : (side : Side) (r s : LocalRule) (letters : List ℕ) (Set : ℕ → Type 0) → IsRule r → AreEndlessOn side r letters Set
+    → IsCompletion r.states r.width letters s → (n p : ℕ) → Set p → PairGoes side s p n
+PairGoes-fixed side r s letters Set rule endless h zero p has = grind (arith, Together-zero, first_of-below)
 PairGoes-fixed side r s letters Set rule endless h (suc n) p has =
     let (below, next) = endless p has in
     ⊎_elim
@@ -69,7 +51,8 @@ PairGoes-fixed side r s letters Set rule endless h (suc n) p has =
     next
 
 -- a pair of two different nodes that goes on for ever on both sides forbids injective rules
-pub IsInjective-none : (r s : LocalRule) (letters : List ℕ) (p : ℕ) → IsCompletion r.states r.width letters s → first_of r p ≢ second_of r p → IsEndless (PairGoes Left s p) → IsEndless (PairGoes Right s p) → ¬ IsInjective s
+pub IsInjective-none : (r s : LocalRule) (letters : List ℕ) (p : ℕ) → IsCompletion r.states r.width letters s → first_of r p ≢ second_of r p
+    → IsEndless (PairGoes Left s p) → IsEndless (PairGoes Right s p) → ¬ IsInjective s
 IsInjective-none r s letters p h different back on =
-    let apart : first_of s p ≢ second_of s p = subst (λ x. first_of x p ≢ second_of x p) (is_shaped r s letters h) different in
+    let apart : first_of s p ≢ second_of s p = grind arith in
     no_twins (has_twins-both_ways h.rule apart (back (pair_count s)) (on (pair_count s))).2

@@ -1,5 +1,5 @@
 -- What a flux says of the levels of trees.
-use Rattle.std.proofs.Common.{◌≡◌, ◌≢◌, ℕ, ◌+◌, ◌*◌, ◌/◌, ◌%◌, ◌^◌, ◌<◌, ◌≤◌, ◌⊎◌, inl, inr, ⊎_elim, List, slice_index, slice_index_or, ℤ, pos, ◌-ℤ◌, sym, ap, ap₂, ◌∙◌, subst, arith}
+use Rattle.std.proofs.Common.{◌≡◌, ◌≢◌, ℕ, ◌+◌, ◌*◌, ◌/◌, ◌%◌, ◌^◌, ◌<◌, ◌≤◌, ◌⊎◌, inl, inr, ⊎_elim, List, slice_index, slice_index_or, ℤ, pos, ◌-ℤ◌, sym, ap₂, ◌∙◌, subst, arith}
 use Rattle.word_image.proofs.Common.{ints, LocalRule, IsRule, node_count, IsFlux, IsConserving, end_node-below}
 use Rattle.word_image.specs.declared.side.Side.TheVariants.{Right, Left}
 use Rattle.ring_laws.proofs.FluxWindows.{FlowsAt-flux}
@@ -12,13 +12,15 @@ use Rattle.rule_lists.specs.Forests.{AreLevels, AreKnown, AreUpTo, GainsWith, Is
 use Rattle.rule_lists.proofs.Sure.{is_shaped, IsRule-shaped}
 
 -- a window gains with the letter of a rule what each flux of the rule says
-pub GainsWith-flux : (r s : LocalRule) (letters : List ℕ) (phi : List ℤ) (w : ℕ) → IsCompletion r.states r.width letters s → IsFlux (λ a. a) s phi → w < r.states ^ r.width
+pub GainsWith-flux : (r s : LocalRule) (letters : List ℕ) (phi : List ℤ) (w : ℕ) → IsCompletion r.states r.width letters s → IsFlux (λ a. a) s phi
+    → w < r.states ^ r.width
     → GainsWith r w (slice_index s.table w) phi
 GainsWith-flux r s letters phi w h flux within =
     FlowsAt-flux (IsRule-shaped r s letters h) (subst (λ x. IsFlux (λ a. a) x phi) (sym (is_shaped r s letters h)) flux) w within
 
 -- a conserving rule that has the fixed letters has a flux, which gives each window its letter
-pub GainsWith-conserving : (r s : LocalRule) (letters trees levels : List ℕ) (w : ℕ) → IsRule r → AreKnown r letters trees levels → IsCompletion r.states r.width letters s → IsConserving (λ a. a) s → w < r.states ^ r.width
+pub GainsWith-conserving : (r s : LocalRule) (letters trees levels : List ℕ) (w : ℕ) → IsRule r → AreKnown r letters trees levels
+    → IsCompletion r.states r.width letters s → IsConserving (λ a. a) s → w < r.states ^ r.width
     → slice_index trees (w / r.states) ≡ slice_index trees (w % node_count r)
     → slice_index s.table w + slice_index levels (w % node_count r) ≡ w / node_count r + slice_index levels (w / r.states)
 GainsWith-conserving r s letters trees levels w rule known h keep within one =
@@ -29,23 +31,23 @@ GainsWith-conserving r s letters trees levels w rule known h keep within one =
     omega (arith, ints)
 
 -- where the levels of a window's nodes ask for no letter that it may have, no rule with the fixed letters is conserving
-pub Bars-level : (r : LocalRule) (letters trees levels : List ℕ) (w first last begins least level : ℕ) → IsRule r → AreKnown r letters trees levels → w < r.states ^ r.width
+pub Bars-level : (r : LocalRule) (letters trees levels : List ℕ) (w first last begins least level : ℕ) → IsRule r → AreKnown r letters trees levels
+    → w < r.states ^ r.width
     → first ≡ w / r.states → last ≡ w % node_count r → begins ≡ w / node_count r → slice_index trees first ≡ slice_index trees last
     → least ≡ slice_index levels last → level ≡ slice_index levels first + begins
-    → ((a : ℕ) → a < r.states → (slice_index letters w < r.states → a ≡ slice_index letters w) → a + least ≢ level) → Bars Conserving r.states r.width letters
+    → ((a : ℕ) → a < r.states → (slice_index letters w < r.states → a ≡ slice_index letters w) → a + least ≢ level)
+    → Bars Conserving r.states r.width letters
 Bars-level r letters trees levels w first last begins least level rule known within ef el eb one is_least is_level apart s h keep =
-    let same : slice_index trees (w / r.states) ≡ slice_index trees (w % node_count r) = ap (slice_index trees) (sym ef) ∙ one ∙ ap (slice_index trees) el in
-    let e = GainsWith-conserving r s letters trees levels w rule known h keep within same in
-    let at_first : slice_index levels first ≡ slice_index levels (w / r.states) = ap (slice_index levels) ef in
-    let at_last : slice_index levels last ≡ slice_index levels (w % node_count r) = ap (slice_index levels) el in
+    let e = GainsWith-conserving r s letters trees levels w rule known h keep within (rw (ef, el) at one) in
     let size : s.states ^ s.width ≡ r.states ^ r.width = ap₂ (λ (x y : ℕ). x ^ y) h.states h.width in
-    let letter : slice_index s.table w < s.states = h.rule.letters w 0 (omega (arith, h.rule.entries, size, within)) in
-    apart (slice_index s.table w) (omega (arith, letter, h.states)) (λ fixed. h.fixed w within fixed) (omega (arith, e, at_first, at_last, is_least, is_level, eb))
+    apart (slice_index s.table w) (omega (arith, h.rule.letters w 0 (omega (arith, h.rule.entries, size, within)), h.states)) (λ fixed. h.fixed w within fixed) (omega (arith, e, rw el at is_least, rw ef at is_level, eb))
 
 -- where one tree goes into another, and each rises so that the window that joins them gains what it does, levels differ as before
-pub AreLevels-joined : (n : ℕ) (trees levels trees' levels' : List ℕ) (phi : List ℤ) (first last letter begins kept rise gone other : ℕ) → n ≤ 16 → first < n → last < n
+pub AreLevels-joined : (n : ℕ) (trees levels trees' levels' : List ℕ) (phi : List ℤ) (first last letter begins kept rise gone other : ℕ) → n ≤ 16
+    → first < n → last < n
     → (pos letter -ℤ pos begins) ≡ slice_index_or phi first (pos 0) -ℤ slice_index_or phi last (pos 0)
-    → kept ≡ slice_index trees first → rise ≡ slice_index levels last + letter → gone ≡ slice_index trees last → other ≡ slice_index levels first + begins
+    → kept ≡ slice_index trees first → rise ≡ slice_index levels last + letter → gone ≡ slice_index trees last
+    → other ≡ slice_index levels first + begins
     → ((v : ℕ) → v < 16 → IsMoved kept rise gone other (slice_index trees v) (slice_index levels v) (slice_index trees' v) (slice_index levels' v))
     → AreLevels n trees levels phi → AreLevels n trees' levels' phi
 AreLevels-joined n trees levels trees' levels' phi first last letter begins kept rise gone other few hf hl gains is_kept is_rise is_gone is_other each old u v hu hv same =
@@ -68,6 +70,4 @@ AreLevels-joined n trees levels trees' levels' phi first last letter begins kept
 pub AreUpTo-joined : (levels trees' trees levels' : List ℕ) (kept rise gone other w : ℕ) → rise ≤ 1048576 → other ≤ 1048576
     → ((v : ℕ) → v < 16 → IsMoved kept rise gone other (slice_index trees v) (slice_index levels v) (slice_index trees' v) (slice_index levels' v))
     → AreUpTo (w * 1048576) levels → AreUpTo ((w + 1) * 1048576) levels'
-AreUpTo-joined levels trees' trees levels' kept rise gone other w small less each old v l =
-    let before = old v l in
-    ⊎_elim (λ a. omega (arith, before, small, a.2)) (λ more. ⊎_elim (λ a. omega (arith, before, less, a.2)) (λ a. omega (arith, before, a.2)) more) (each v l)
+AreUpTo-joined levels trees' trees levels' kept rise gone other w small less each old v l = omega arith

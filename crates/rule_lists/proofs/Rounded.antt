@@ -1,8 +1,6 @@
 -- What walks by fixed letters show of each rule that has these letters.
 use Rattle.std.proofs.Common.{◌≡◌, ◌≢◌, ℕ, zero, suc, ◌+◌, ◌<◌, List, refl, subst, arith}
-use Rattle.word_image.proofs.Common.{LocalRule, IsRule, first_of, second_of, pair_count, PairStep, LeadsOn, PairGoes, IsFirstOf}
-use Rattle.word_image.specs.Sides.{other}
-use Rattle.word_image.specs.Ranks.{IsEndless}
+use Rattle.word_image.proofs.Common.{LocalRule, IsRule, first_of, second_of, pair_count, PairStep, LeadsOn, PairGoes, IsFirstOf, other, IsEndless}
 use Rattle.word_image.specs.declared.side.Side.{Side}
 use Rattle.word_image.specs.declared.side.Side.TheVariants.{Right, Left}
 use Rattle.pair_laws.proofs.Common.{first_of-below, second_of-below, IsFirstOf-step, PairGoes-push, PairGoes-less, Together-zero}
@@ -31,22 +29,26 @@ IsBefore-step side {s} rule p q step = record {
 }
 
 -- a walk, and one step more before it or behind it
-pub walk-after : (side : Side) (r : LocalRule) (letters : List ℕ) (p q z : ℕ) → IsRule r → IsFixedWalk side r letters p q → FixedLeadsOn side r letters q z → IsFixedWalk side r letters p z
+pub walk-after : (side : Side) (r : LocalRule) (letters : List ℕ) (p q z : ℕ) → IsRule r → IsFixedWalk side r letters p q
+    → FixedLeadsOn side r letters q z → IsFixedWalk side r letters p z
 walk-after side r letters p q z rule walk step s h = IsBefore-then (walk s h) (IsBefore-step side h.rule q z (LeadsOn-fixed side r s letters rule h q z step))
 
-pub walk-from : (side : Side) (r : LocalRule) (letters : List ℕ) (p q z : ℕ) → IsRule r → FixedLeadsOn side r letters p q → IsFixedWalk side r letters q z → IsFixedWalk side r letters p z
+pub walk-from : (side : Side) (r : LocalRule) (letters : List ℕ) (p q z : ℕ) → IsRule r → FixedLeadsOn side r letters p q
+    → IsFixedWalk side r letters q z → IsFixedWalk side r letters p z
 walk-from side r letters p q z rule step walk s h = IsBefore-then (IsBefore-step side h.rule p q (LeadsOn-fixed side r s letters rule h p q step)) (walk s h)
 
 -- a pair that goes on for one more wherever it goes on does for ever
-goes_ever : (side : Side) {s : LocalRule} → IsRule s → (p : ℕ) → p < pair_count s → ((n : ℕ) → PairGoes side s p n → PairGoes side s p (suc n)) → IsEndless (PairGoes side s p)
+goes_ever : (side : Side) {s : LocalRule} → IsRule s → (p : ℕ) → p < pair_count s → ((n : ℕ) → PairGoes side s p n → PairGoes side s p (suc n))
+    → IsEndless (PairGoes side s p)
 goes_ever side {s} rule p below more zero = Together-zero side s (first_of s p) (second_of s p) (first_of-below rule p below) (second_of-below rule p)
 goes_ever side rule p below more (suc n) = more n (goes_ever side rule p below more n)
 
 -- a pair to which a walk leads back goes on for ever on both sides
-pub IsFixedRound-closed : (side : Side) (r : LocalRule) (letters : List ℕ) (p q : ℕ) → IsRule r → p < pair_count r → IsFixedWalk side r letters p q → FixedLeadsOn side r letters q p → IsFixedRound r letters p
+pub IsFixedRound-closed : (side : Side) (r : LocalRule) (letters : List ℕ) (p q : ℕ) → IsRule r → p < pair_count r → IsFixedWalk side r letters p q
+    → FixedLeadsOn side r letters q p → IsFixedRound r letters p
 IsFixedRound-closed side r letters p q rule inside walk step s h =
     let w : IsBefore side s p q = walk s h in
-    let below : p < pair_count s = subst (λ x. p < pair_count x) (is_shaped r s letters h) inside in
+    let below : p < pair_count s = grind arith in
     let on : LeadsOn side s q p = LeadsOn-fixed side r s letters rule h q p step in
     each (λ to. IsEndless (PairGoes to s p)) side
     (goes_ever side h.rule p below (λ n goes. w.on (suc n) (PairGoes-push side h.rule q p n (suc n) (omega arith) on goes)))
@@ -59,13 +61,14 @@ IsFixedRound-closed side r letters p q rule inside walk step s h =
     each P Left here there Right = there
 
 -- a walk that begins with a step from a pair of two equal nodes to two different ones shows a first pair
-pub IsFixedTail-step : (side : Side) (r : LocalRule) (letters : List ℕ) (p q z : ℕ) → IsRule r → first_of r p ≡ second_of r p → first_of r q ≢ second_of r q
+pub IsFixedTail-step : (side : Side) (r : LocalRule) (letters : List ℕ) (p q z : ℕ) → IsRule r → first_of r p ≡ second_of r p
+    → first_of r q ≢ second_of r q
     → FixedLeadsOn side r letters p q → IsFixedWalk side r letters q z → IsFixedTail side r letters z
 IsFixedTail-step side r letters p q z rule one different step walk s h =
-    let same = is_shaped r s letters h in
-    let nodes = subst (λ x. (first_of x p ≡ second_of x p) × (first_of x q ≢ second_of x q)) same (one, different) in
+    let nodes = subst (λ x. (first_of x p ≡ second_of x p) × (first_of x q ≢ second_of x q)) (is_shaped r s letters h) (one, different) in
     (q, IsFirstOf-step side h.rule p q nodes.0 nodes.1 (LeadsOn-fixed side r s letters rule h p q step), walk s h)
 
 -- a pair that comes after a first one and goes on for ever bars that the rule closes
-pub IsClosing-tail : (side : Side) {s : LocalRule} (p q : ℕ) → IsRule s → IsFirstOf side s q → IsBefore side s q p → IsEndless (PairGoes side s p) → ¬ IsClosing side s
+pub IsClosing-tail : (side : Side) {s : LocalRule} (p q : ℕ) → IsRule s → IsFirstOf side s q → IsBefore side s q p → IsEndless (PairGoes side s p)
+    → ¬ IsClosing side s
 IsClosing-tail side p q rule first before goes = not_closing side rule (q, first, λ n. before.on n (goes n))

@@ -4,7 +4,7 @@ pub use Rattle.search_laws.specs.SearchQueues.{IsFilled, IsQueue, IsSearch, NoEd
 pub use Rattle.search_laws.specs.SearchQueues.TreeSpells.{Branch, Root}
 pub use Rattle.search_laws.specs.Walks.{Leads, Walk}
 pub use Rattle.search_laws.proofs.Families.{IsFamily-closed, IsFamily-stopped, chosen, stands_at}
-pub use Rattle.search_laws.proofs.PairWalks.{ArePairs-walk, CodeStep-some, IsLeastWalk-steps, Leads-walk, PairWalk-leads, code, length-IsLeastWalk, no_walk, pairs_cmp-leads, pairs_cmp-uncode, slice_cmp-uncode, uncode-code}
+pub use Rattle.search_laws.proofs.PairWalks.{ArePairs-walk, CodeStep-some, IsLeastWalk-steps, Leads-walk, PairWalk-leads, code, length-IsLeastWalk, no_walk, pairs_cmp-leads, pairs_cmp-uncode, slice_cmp-uncode}
 pub use Rattle.search_laws.proofs.QueueStates.{Contains-state, length-queue-le, mapped_at, place_of_listed, state-all, state-below, states_of, unmapped_at}
 pub use Rattle.search_laws.proofs.QueueSteps.{HaveMet-next, HaveMet-push, IsFilled-new, IsFilled-start, IsFilled-there, IsQueue-new, IsQueue-start, IsQueue-there, edge-within, filled-later}
 pub use Rattle.search_laws.proofs.Searches.{IsSearch-new, IsSearch-start, IsSearch-there, length-search, length-search-le, search-below, search_place}

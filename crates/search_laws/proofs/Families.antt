@@ -43,7 +43,8 @@ HasAllSets r sets = (v : List ℕ) (set : ℕ) → IsLastSet r v set → Contain
 
 -- the sets of a queue are a family if no set is missing and only the last may be empty
 family_with : {r : LocalRule} {tree : List (Place ℕ)} {e : ℕ} → IsRule r → IsSetQueue r tree e
-    → ((i : ℕ) (x : Place ℕ) → i + 1 < length tree → slice_get tree i ≡ Some x → x.state ≢ 0) → HasAllSets r (states_of tree) → IsFamily r (states_of tree)
+    → ((i : ℕ) (x : Place ℕ) → i + 1 < length tree → slice_get tree i ≡ Some x → x.state ≢ 0) → HasAllSets r (states_of tree)
+    → IsFamily r (states_of tree)
 family_with {r} {tree} rule q some all =
     let words = chosen tree (TreeSpells tree) (TreeSpells-some q.fills) in
     let long = length-map tree (λ x. x.state) ∙ words.1 in
@@ -71,7 +72,8 @@ IsFamily-closed {r} {tree} rule q closed some = family_with rule q some (λ v se
     inl (Contains-state tree reached.at reached.place set reached.stands reached.of_state))
 
 -- where the last set is the empty one, the sets are a family
-pub IsFamily-stopped : {r : LocalRule} {tree : List (Place ℕ)} {e : ℕ} → IsRule r → IsSetQueue r tree e → (i : ℕ) (x : Place ℕ) → i + 1 ≡ length tree → slice_get tree i ≡ Some x → x.state ≡ 0
+pub IsFamily-stopped : {r : LocalRule} {tree : List (Place ℕ)} {e : ℕ} → IsRule r → IsSetQueue r tree e → (i : ℕ) (x : Place ℕ) → i + 1 ≡ length tree
+    → slice_get tree i ≡ Some x → x.state ≡ 0
     → IsFamily r (states_of tree)
 IsFamily-stopped {r} {tree} rule q i x ends at empty =
     let spelled = TreeSpells-some q.fills i x at in

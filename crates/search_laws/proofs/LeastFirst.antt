@@ -73,7 +73,8 @@ module _ {Step : ℕ → ℕ → ℕ → Type 0} {k start : ℕ} {tree : List (P
       })))
 
   -- an edge that wasn't followed comes after each place
-  late_after : {i : ℕ} {v w : List ℕ} → TreeSpells tree i w → (x : Place ℕ) → slice_get tree i ≡ Some x → IsLate k tree e v → word_number k w < word_number k v
+  late_after : {i : ℕ} {v w : List ℕ} → TreeSpells tree i w → (x : Place ℕ) → slice_get tree i ≡ Some x → IsLate k tree e v
+      → word_number k w < word_number k v
   late_after {w = w} s x at late =
       omega (arith, late.no_later, spelled-before q.fills late.spells late.letter late.below _ x w at s (omega (arith, late.not_yet, q.fills.so_far _ x at)))
 

@@ -36,7 +36,8 @@ module _ {Step : ℕ → ℕ → ℕ → Type 0} {k start : ℕ} {tree : List (P
       )
 
   -- the word of an edge, where no edge before it leads to the state, isn't greater than one of at least one letter that does
-  first_edge : {h : ℕ} {w : List ℕ} → TreeSpells tree h w → (x : Place ℕ) → slice_get tree h ≡ Some x → (n : ℕ) → n < k → e ≡ h * k + n → (t : ℕ) → NoEdgeBefore Step k tree e t
+  first_edge : {h : ℕ} {w : List ℕ} → TreeSpells tree h w → (x : Place ℕ) → slice_get tree h ≡ Some x → (n : ℕ) → n < k → e ≡ h * k + n → (t : ℕ)
+      → NoEdgeBefore Step k tree e t
       → (v : List ℕ) → 0 < length v → Leads Step k start v t → word_number k w * k + n + 1 ≤ word_number k v
   first_edge {w = w} s x at n letter edge goal none v some leads =
       Leads-induct (λ u t. 0 < length u → t ≡ goal → word_number k w * k + n + 1 ≤ word_number k u) (λ some _. absurd (omega arith))

@@ -1,6 +1,6 @@
 -- Walks by letter pairs, the first of them found breadth first: a pair of letters is followed as one letter of a code.
-use Rattle.std.proofs.Common.{◌≡◌, ◌≢◌, ℕ, ◌+◌, ◌*◌, ◌/◌, ◌%◌, ◌<◌, ◌≤◌, List, [], ◌∷◌, length, map, get_or, Option, Some, refl, sym, ap, ap₂, ◌∙◌, arith, ⊎_elim, mul_comm, nat_cmp, Greater, mod-lt, div-add-mod'}
-use Rattle.word_image.proofs.Common.{ordering_then, slice_cmp, mul-add-lt, div-mul-add, mod-mul-add, length-map, All-map, word_cmp, pair_cmp, pairs_cmp, key_not_greater, nat_cmp-digits, slice_cmp-map}
+use Rattle.std.proofs.Common.{◌≡◌, ◌≢◌, ℕ, ◌+◌, ◌*◌, ◌/◌, ◌%◌, ◌<◌, ◌≤◌, List, [], ◌∷◌, length, map, Option, Some, refl, sym, ap, ap₂, ◌∙◌, arith, ⊎_elim, nat_cmp, Greater, mod-lt, div-add-mod'}
+use Rattle.word_image.proofs.Common.{ordering_then, slice_cmp, div-mul-add, mod-mul-add, length-map, All-map, word_cmp, pair_cmp, pairs_cmp, key_not_greater, nat_cmp-digits, slice_cmp-map}
 use Rattle.search_laws.specs.Walks.{Leads}
 use Rattle.search_laws.specs.PairWalks.{LetterPairStep, ArePairs, PairWalk, IsLeastWalk, uncode, CodeStep}
 use Rattle.search_laws.proofs.Walks.{Walk-each, Walk-map, All-walk, Walk-shortened}
@@ -30,15 +30,10 @@ pairs_cmp-codes n p q small_p small_q =
 pub ArePairs-walk : {follow : ℕ → ℕ → ℕ → Option ℕ} {k start t : ℕ} {w : List (ℕ × ℕ)} (n : ℕ) → k ≤ n → PairWalk follow k start w t → ArePairs n w
 ArePairs-walk {w = w} n le walk i d l = let here = walk.letters i d l in (omega (arith, here.0), omega (arith, here.1))
 
--- the number of a letter pair has these two letters
-pub uncode-code : (n a b : ℕ) → b < n → ((a * n + b) / n ≡ a) × ((a * n + b) % n ≡ b)
-uncode-code n a b below = (div-mul-add a n b below, mod-mul-add a n b below)
-
 -- where `follow` leads on two letters, a step leads on their number
-pub CodeStep-some : (follow : ℕ → ℕ → ℕ → Option ℕ) (k n s a b t : ℕ) → k ≤ n → a < k → b < k → follow s a b ≡ Some t → CodeStep follow k n s (a * n + b) t
-CodeStep-some follow k n s a b t le first second follows =
-    let parts = uncode-code n a b (omega arith) in
-    record { first = omega (arith, parts.0); second = omega (arith, parts.1); follows = ap₂ (follow s) parts.0 parts.1 ∙ follows }
+pub CodeStep-some : (follow : ℕ → ℕ → ℕ → Option ℕ) (k n s a b t : ℕ) → k ≤ n → a < k → b < k → follow s a b ≡ Some t
+    → CodeStep follow k n s (a * n + b) t
+CodeStep-some follow k n s a b t le first second follows = grind (arith, div-mul-add, mod-mul-add)
 
 -- a walk by letter pairs is a walk by their numbers
 pub Leads-walk : {follow : ℕ → ℕ → ℕ → Option ℕ} {k start t : ℕ} {w : List (ℕ × ℕ)} (n : ℕ) → k ≤ n → PairWalk follow k start w t
@@ -47,10 +42,7 @@ Leads-walk {follow} {k} {start} {t} {w} n le walk = record {
   walk = Walk-map (CodeStep follow k n) (code n) w start t
       (Walk-each (LetterPairStep follow) (λ s p. CodeStep follow k n s (code n p)) (λ s. s) (λ p. (p.0 < k) × (p.1 < k))
       (λ s p u small follows. CodeStep-some follow k n s p.0 p.1 u le small.0 small.1 follows) w start t walk.letters walk.steps);
-  word = All-map (λ c. c < k * n) (code n) w (λ i d l.
-      let p = get_or w i d in
-      let here = walk.letters i d l in
-      omega (arith, mul-add-lt p.0 n p.1 k here.0 (omega (arith, here.1)), mul_comm n k));
+  word = All-map (λ c. c < k * n) (code n) w (grind arith);
 }
 
 -- a walk by the numbers of letter pairs is a walk by these
@@ -68,29 +60,28 @@ codes-uncode n [] = refl
 codes-uncode n (c ∷ w) = ap₂ (λ (d : ℕ) (v : List ℕ). d ∷ v) (div-add-mod' c n) (codes-uncode n w)
 
 -- a walk by numbers comes no later than another walk, where its numbers do
-pub pairs_cmp-leads : {follow : ℕ → ℕ → ℕ → Option ℕ} {k n start t : ℕ} {w : List ℕ} {v : List (ℕ × ℕ)} → k ≤ n → Leads (CodeStep follow k n) (k * n) start w t → PairWalk follow k start v t
+pub pairs_cmp-leads : {follow : ℕ → ℕ → ℕ → Option ℕ} {k n start t : ℕ} {w : List ℕ} {v : List (ℕ × ℕ)} → k ≤ n
+    → Leads (CodeStep follow k n) (k * n) start w t → PairWalk follow k start v t
     → word_cmp w (map (code n) v) ≢ Greater → pairs_cmp (map (uncode n) w) v ≢ Greater
 pairs_cmp-leads {n = n} {w = w} {v} le leads other least greater =
     let order = pairs_cmp-codes n (map (uncode n) w) v (ArePairs-walk n le (PairWalk-leads leads)) (ArePairs-walk n le other) in
     least (ap (λ u. word_cmp u (map (code n) v)) (sym (codes-uncode n w)) ∙ sym order ∙ greater)
 
 -- the first word of numbers that leads to a state gives the first walk of letter pairs
-pub IsLeastWalk-steps : {follow : ℕ → ℕ → ℕ → Option ℕ} {k n start t : ℕ} {w : List ℕ} → k ≤ n → IsLeastStepsTo (CodeStep follow k n) (k * n) start t w
+pub IsLeastWalk-steps : {follow : ℕ → ℕ → ℕ → Option ℕ} {k n start t : ℕ} {w : List ℕ} → k ≤ n
+    → IsLeastStepsTo (CodeStep follow k n) (k * n) start t w
     → IsLeastWalk follow k start t (map (uncode n) w)
-IsLeastWalk-steps {follow} {k} {n} {start} {t} {w} le first =
-    record {
-      some = omega (arith, length-map w (uncode n), first.some);
-      walk = PairWalk-leads first.leads;
-      least = λ v some other. pairs_cmp-leads le first.leads other (first.least (map (code n) v) (omega (arith, length-map v (code n))) (Leads-walk n le other));
-    }
+IsLeastWalk-steps le first = grind (arith, length-map, pairs_cmp-leads, PairWalk-leads, Leads-walk)
 
 -- where no word of at least one number leads to a state, no walk of at least one step does
-pub no_walk : {follow : ℕ → ℕ → ℕ → Option ℕ} {k start : ℕ} (n t : ℕ) → k ≤ n → ((v : List ℕ) → 0 < length v → ¬ Leads (CodeStep follow k n) (k * n) start v t)
+pub no_walk : {follow : ℕ → ℕ → ℕ → Option ℕ} {k start : ℕ} (n t : ℕ) → k ≤ n
+    → ((v : List ℕ) → 0 < length v → ¬ Leads (CodeStep follow k n) (k * n) start v t)
     → (w : List (ℕ × ℕ)) → 0 < length w → ¬ PairWalk follow k start w t
 no_walk n t le none w some walk = none (map (code n) w) (omega (arith, length-map w (code n))) (Leads-walk n le walk)
 
 -- a least walk has no more steps than there are states
-pub length-IsLeastWalk : {follow : ℕ → ℕ → ℕ → Option ℕ} {k start t n : ℕ} {w : List (ℕ × ℕ)} → ((s a b u : ℕ) → follow s a b ≡ Some u → u < n) → IsLeastWalk follow k start t w → length w ≤ n
+pub length-IsLeastWalk : {follow : ℕ → ℕ → ℕ → Option ℕ} {k start t n : ℕ} {w : List (ℕ × ℕ)} → ((s a b u : ℕ) → follow s a b ≡ Some u → u < n)
+    → IsLeastWalk follow k start t w → length w ≤ n
 length-IsLeastWalk {follow} {k} {start} {t} {n} {w} below first =
     ⊎_elim (λ few. few)
     (λ h. omega (arith, ((key_not_greater (length w) (length h.shorter) _).0 (first.least h.shorter h.some (record { steps = h.walk; letters = h.letters }))).0, h.less))

@@ -36,7 +36,8 @@ module _ {Step : ℕ → ℕ → ℕ → Type 0} {k start : ℕ} {tree : List (P
       omega (arith, short, length_push late.word late.letter, b.deep late.at late.place late.word past late.stands late.spells)
 
   -- where no followed step leads to a state, no word of one letter to as many as the queue is deep does
-  pub no_word_within : {h most goal : ℕ} → IsDeepFrom k tree e h most → NoEdgeBefore Step k tree e goal → (w : List ℕ) → 0 < length w → length w ≤ most
+  pub no_word_within : {h most goal : ℕ} → IsDeepFrom k tree e h most → NoEdgeBefore Step k tree e goal → (w : List ℕ) → 0 < length w
+      → length w ≤ most
       → ¬ Leads Step k start w goal
   no_word_within {h} {most} {goal} b none w some short leads =
       Leads-induct (λ v t. 0 < length v → length v ≤ most → t ≢ goal) (λ some _ _. absurd (omega (arith, some)))

@@ -15,32 +15,32 @@ pub mapped_at : {X Y : Type 0} (f : X → Y) (xs : List X) (i : ℕ) (x : X) →
 mapped_at f xs i x at = slice_get-map f xs i ∙ ap (option_map f) at
 
 -- what stands in a list that was mapped comes from what stood there
-pub unmapped_at : {X Y : Type 0} (f : X → Y) (xs : List X) (i : ℕ) (y : Y) → slice_get (map f xs) i ≡ Some y → (x : X) × (slice_get xs i ≡ Some x) × (f x ≡ y)
+pub unmapped_at : {X Y : Type 0} (f : X → Y) (xs : List X) (i : ℕ) (y : Y) → slice_get (map f xs) i ≡ Some y
+    → (x : X) × (slice_get xs i ≡ Some x) × (f x ≡ y)
 unmapped_at f [] i y at = absurd (none-some y at)
 unmapped_at f (x ∷ xs) zero y at = (x, refl, cc)
 unmapped_at f (x ∷ xs) (suc i) y at = unmapped_at f xs i y at
 
 -- the state of a place is listed
-pub Contains-state : (tree : List (Place ℕ)) (i : ℕ) (x : Place ℕ) (set : ℕ) → slice_get tree i ≡ Some x → x.state ≡ set → Contains (states_of tree) set
+pub Contains-state : (tree : List (Place ℕ)) (i : ℕ) (x : Place ℕ) (set : ℕ) → slice_get tree i ≡ Some x → x.state ≡ set
+    → Contains (states_of tree) set
 Contains-state tree i x set at same =
     let there = mapped_at (λ y. y.state) tree i x at ∙ ap Some same in
     (i, slice_get_within (states_of tree) i set there, get_or_from_slice_get (states_of tree) i set set there)
 
 -- a listed state has a place
-pub place_of_listed : (tree : List (Place ℕ)) (set : ℕ) → Contains (states_of tree) set → (i : ℕ) × (x : Place ℕ) × (slice_get tree i ≡ Some x) × (x.state ≡ set)
-place_of_listed tree set (i, below, same) =
-    let found = unmapped_at (λ x. x.state) tree i set (slice_get-get_or (states_of tree) i set below ∙ ap Some same) in
-    (i, found.0, found.1, found.2)
+pub place_of_listed : (tree : List (Place ℕ)) (set : ℕ) → Contains (states_of tree) set
+    → (i : ℕ) × (x : Place ℕ) × (slice_get tree i ≡ Some x) × (x.state ≡ set)
+place_of_listed tree set (i, below, same) = grind (arith, unmapped_at, slice_get-get_or)
 
 -- what holds of the start, and where each step leads, holds of each state
-pub state-all : {S : Type 0} {Step : S → ℕ → S → Type 0} {Met : S → ℕ → Type 0} {k : ℕ} {start : S} {tree : List (Place S)} {e : ℕ} → IsFilled Step Met k start tree e
+pub state-all : {S : Type 0} {Step : S → ℕ → S → Type 0} {Met : S → ℕ → Type 0} {k : ℕ} {start : S} {tree : List (Place S)} {e : ℕ}
+    → IsFilled Step Met k start tree e
     → (P : S → Type 0) → P start → ((s : S) (a : ℕ) (t : S) → Step s a t → P t) → (i : ℕ) (x : Place S) → slice_get tree i ≡ Some x → P x.state
 state-all {tree = tree} q P first steps i x at =
     ⊎_elim
-    (λ none.
-    let same : q.first ≡ x = cc in
-    subst P (sym q.starts ∙ ap (λ z. z.state) same) first)
-    (λ some. let b = q.branches i x (omega (arith, some)) at in steps b.parent.state x.letter x.state b.step)
+    (grind arith)
+    (λ some. let b = q.branches i x (omega arith) at in steps b.parent.state x.letter x.state b.step)
     (cases_eq i 0)
 
 module _ {Step : ℕ → ℕ → ℕ → Type 0} {k start : ℕ} {tree : List (Place ℕ)} {e : ℕ} (q : IsQueue Step k start tree e) where

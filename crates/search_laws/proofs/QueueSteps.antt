@@ -1,5 +1,5 @@
 -- A breadth first queue, one edge more at a time.
-use Rattle.std.proofs.Common.{◌≡◌, ◌≢◌, ℕ, zero, suc, ◌+◌, ◌*◌, ◌<◌, ◌≤◌, List, [], ◌∷◌, ◌++◌, length, Some, refl, sym, ap, ap₂, ◌∙◌, subst, arith, ⊎_elim, slice_get, mul-le-mul_right, suc-mul}
+use Rattle.std.proofs.Common.{◌≡◌, ◌≢◌, ℕ, zero, suc, ◌+◌, ◌*◌, ◌<◌, ◌≤◌, List, [], ◌∷◌, ◌++◌, length, Some, refl, sym, ap, ap₂, ◌∙◌, subst, arith, ⊎_elim, slice_get, rules}
 use Rattle.word_image.proofs.Common.{cases_eq, same_from_place, slice_get_within, slice_get-append, slice_get-push, slice_get-push_cases, only_place}
 use Rattle.search_laws.specs.SearchQueues.{Place, IsBranch, HaveMet, IsFilled, IsQueue, filled}
 
@@ -9,7 +9,8 @@ filled-later k zero x h = absurd (omega arith)
 filled-later k (suc i) x h = refl
 
 -- one more edge is followed
-pub HaveMet-next : {S : Type 0} (Step : S → ℕ → S → Type 0) (Met : S → ℕ → Type 0) (k : ℕ) (tree : List (Place S)) (e h n : ℕ) (x : Place S) → HaveMet Step Met k tree e
+pub HaveMet-next : {S : Type 0} (Step : S → ℕ → S → Type 0) (Met : S → ℕ → Type 0) (k : ℕ) (tree : List (Place S)) (e h n : ℕ) (x : Place S)
+    → HaveMet Step Met k tree e
     → e ≡ h * k + n → n < k → slice_get tree h ≡ Some x → ((t : S) → Step x.state n t → Met t (e + 1)) → HaveMet Step Met k tree (e + 1)
 HaveMet-next Step Met k tree e h n x met edge below head next i a t y at letter less step = ⊎_elim
     (λ same.
@@ -20,22 +21,19 @@ HaveMet-next Step Met k tree e h n x met edge below head next i a t y at letter 
     (cases_eq (i * k + a) e)
 
 -- a place that is added has no edge yet
-pub HaveMet-push : {S : Type 0} (Step : S → ℕ → S → Type 0) (Met : S → ℕ → Type 0) (k : ℕ) (tree : List (Place S)) (e : ℕ) (y : Place S) → HaveMet Step Met k tree e
+pub HaveMet-push : {S : Type 0} (Step : S → ℕ → S → Type 0) (Met : S → ℕ → Type 0) (k : ℕ) (tree : List (Place S)) (e : ℕ) (y : Place S)
+    → HaveMet Step Met k tree e
     → e ≤ length tree * k → HaveMet Step Met k (tree ++ y ∷ []) e
-HaveMet-push Step Met k tree e y met all i a t z at letter less step =
-    ⊎_elim
-    (λ there. met i a t z there letter less step)
-    (λ last. let past : i * k ≡ length tree * k = ap (λ j. j * k) last.0 in absurd (omega arith))
-    (slice_get-push_cases tree y i z at)
+HaveMet-push Step Met k tree e y met all i a t z at letter less step = grind (arith, slice_get-push_cases)
 
 -- an edge from a place of the list comes before all edges from places past its end
-pub edge-within : {S : Type 0} (k : ℕ) (tree : List (Place S)) (h n : ℕ) (x : Place S) → slice_get tree h ≡ Some x → n ≤ k → h * k + n ≤ length tree * k
-edge-within k tree h n x at most =
-    let next = mul-le-mul_right k (slice_get_within tree h x at) in
-    omega (arith, suc-mul h k)
+pub edge-within : {S : Type 0} (k : ℕ) (tree : List (Place S)) (h n : ℕ) (x : Place S) → slice_get tree h ≡ Some x → n ≤ k
+    → h * k + n ≤ length tree * k
+edge-within k tree h n x at most = search (rules, slice_get_within)
 
 -- at the beginning the start stands alone
-pub IsFilled-start : {S : Type 0} {Step : S → ℕ → S → Type 0} {Met : S → ℕ → Type 0} {k : ℕ} {start : S} (x : Place S) → x.state ≡ start → IsFilled Step Met k start (x ∷ []) 0
+pub IsFilled-start : {S : Type 0} {Step : S → ℕ → S → Type 0} {Met : S → ℕ → Type 0} {k : ℕ} {start : S} (x : Place S) → x.state ≡ start
+    → IsFilled Step Met k start (x ∷ []) 0
 IsFilled-start {k = k} x starts = record {
   first = x;
   root = refl;
@@ -47,14 +45,13 @@ IsFilled-start {k = k} x starts = record {
 }
 
 pub IsQueue-start : {Step : ℕ → ℕ → ℕ → Type 0} {k start : ℕ} (x : Place ℕ) → x.state ≡ start → IsQueue Step k start (x ∷ []) 0
-IsQueue-start x starts = record {
-  fills = IsFilled-start x starts;
-  apart = λ i j y z at_i at_j same. (only_place x y i at_i).0 ∙ sym (only_place x z j at_j).0;
-}
+IsQueue-start x starts = grind arith
 
 -- one more edge is followed, and nothing is added
-pub IsFilled-there : {S : Type 0} {Step : S → ℕ → S → Type 0} {Met : S → ℕ → Type 0} {k : ℕ} {start : S} {tree : List (Place S)} {e : ℕ} → IsFilled Step Met k start tree e
-    → (h n : ℕ) (x : Place S) → e ≡ h * k + n → n < k → slice_get tree h ≡ Some x → ((t : S) → Step x.state n t → Met t (e + 1)) → IsFilled Step Met k start tree (e + 1)
+pub IsFilled-there : {S : Type 0} {Step : S → ℕ → S → Type 0} {Met : S → ℕ → Type 0} {k : ℕ} {start : S} {tree : List (Place S)} {e : ℕ}
+    → IsFilled Step Met k start tree e
+    → (h n : ℕ) (x : Place S) → e ≡ h * k + n → n < k → slice_get tree h ≡ Some x → ((t : S) → Step x.state n t → Met t (e + 1))
+    → IsFilled Step Met k start tree (e + 1)
 IsFilled-there {Step = Step} {Met = Met} {k = k} {tree = tree} {e = e} q h n x edge below head met = record {
   first = q.first;
   root = q.root;
@@ -76,9 +73,11 @@ IsQueue-there q h n x edge below head there = record {
 }
 
 -- one more edge is followed, and where it leads is added: what was met stays so, and where the edge leads is met
-pub IsFilled-new : {S : Type 0} {Step : S → ℕ → S → Type 0} {Met More : S → ℕ → Type 0} {k : ℕ} {start : S} {tree : List (Place S)} {e : ℕ} → IsFilled Step Met k start tree e
+pub IsFilled-new : {S : Type 0} {Step : S → ℕ → S → Type 0} {Met More : S → ℕ → Type 0} {k : ℕ} {start : S} {tree : List (Place S)} {e : ℕ}
+    → IsFilled Step Met k start tree e
     → (h n : ℕ) (x y : Place S) → e ≡ h * k + n → n < k → slice_get tree h ≡ Some x → y.parent ≡ h → y.letter ≡ n → Step x.state n y.state
-    → ((t : S) (f : ℕ) → Met t f → More t f) → ((t : S) → Step x.state n t → filled k (length tree) y ≡ e + 1 → More t (e + 1)) → IsFilled Step More k start (tree ++ y ∷ []) (e + 1)
+    → ((t : S) (f : ℕ) → Met t f → More t f) → ((t : S) → Step x.state n t → filled k (length tree) y ≡ e + 1 → More t (e + 1))
+    → IsFilled Step More k start (tree ++ y ∷ []) (e + 1)
 IsFilled-new {Step = Step} {More = More} {k = k} {tree = tree} {e = e} q h n x y edge below head parent letter step stays met =
     let within = slice_get_within tree h x head in
     let late : (i : ℕ) → i ≡ length tree → filled k i y ≡ e + 1 = λ i last.
@@ -123,18 +122,5 @@ pub IsQueue-new : {Step : ℕ → ℕ → ℕ → Type 0} {k start : ℕ} {tree 
     → ((t : ℕ) → Step x.state n t → t ≡ y.state)
     → ((j : ℕ) (z : Place ℕ) → slice_get tree j ≡ Some z → z.state ≢ y.state)
     → IsQueue Step k start (tree ++ y ∷ []) (e + 1)
-IsQueue-new {tree = tree} q h n x y edge below head parent letter step only new = record {
-  fills = IsFilled-new q.fills h n x y edge below head parent letter step
-      (λ t f (j, z, at, same, early). (j, z, slice_get-append tree (y ∷ []) j z at, same, early))
-      (λ t follows last. (length tree, y, slice_get-push tree y, sym (only t follows), omega (arith, last)));
-  apart = λ i j v z at_i at_j same. ⊎_elim
-      (λ first. ⊎_elim
-      (λ second. q.apart i j v z first second same)
-      (λ last. absurd (new i v first (same ∙ ap (λ u. u.state) (sym last.1))))
-      (slice_get-push_cases tree y j z at_j))
-      (λ last. ⊎_elim
-      (λ second. absurd (new j z second (sym same ∙ ap (λ u. u.state) (sym last.1))))
-      (λ also. last.0 ∙ sym also.0)
-      (slice_get-push_cases tree y j z at_j))
-      (slice_get-push_cases tree y i v at_i);
-}
+IsQueue-new {tree = tree} q h n x y edge below head parent letter step only new =
+    search (rules, slice_get-append, slice_get-push, slice_get-push_cases, IsFilled-new)

@@ -1,5 +1,5 @@
 -- Ascending lists: with the same members they are one, and each item stands at one place.
-use Rattle.std.proofs.Common.{inl, inr, ◌≡◌, ◌≢◌, ◌⊎◌, ⊎_elim, ◌↔◌, ℕ, zero, suc, ◌+◌, ◌<◌, List, [], ◌∷◌, length, get_or, slice_get, Some, Contains, refl, sym, ap, ap₂, ◌∙◌, subst, subst₂, arith, Ordering, Less, Greater}
+use Rattle.std.proofs.Common.{inl, inr, ◌≡◌, ◌≢◌, ◌⊎◌, ⊎_elim, ◌↔◌, ℕ, zero, suc, ◌<◌, List, [], ◌∷◌, length, get_or, slice_get, Some, Contains, refl, sym, ap, ap₂, ◌∙◌, subst, subst₂, arith, Ordering, Less, Greater}
 use Rattle.std.proofs.lemmas.Map.Keys.{sorted_head, sorted_tail, sorted_from_all_adjacent, Less-from_sorted}
 use Rattle.std.proofs.lemmas.Map.Made.{Contains-tail}
 use Rattle.std.specs.List.Sorted.{IsStrictlySortedBy}
@@ -20,14 +20,16 @@ module _ {K : Type 0} {R : K → K → Ordering} (total : IsTotalOrder R) where
   less_than x z xs sorted there = All-contains (λ y. R x y ≡ Less) xs z (All-from_recursion (λ y. R x y ≡ Less) xs (sorted_head R x xs sorted)) there
 
   -- the first items are one
-  same_first : (x y : K) (xs ys : List K) → IsStrictlySortedBy R (x ∷ xs) → IsStrictlySortedBy R (y ∷ ys) → Contains (x ∷ xs) y → Contains (y ∷ ys) x → x ≡ y
+  same_first : (x y : K) (xs ys : List K) → IsStrictlySortedBy R (x ∷ xs) → IsStrictlySortedBy R (y ∷ ys) → Contains (x ∷ xs) y → Contains (y ∷ ys) x
+      → x ≡ y
   same_first x y xs ys first second (i, within, at) (j, inside, also) =
       ⊎_elim (λ same. same)
       (λ there. ⊎_elim sym (λ here. absurd (not_both x y (less_than x y xs first there) (less_than y x ys second here))) (first_or_rest y x ys j inside also))
       (first_or_rest x y xs i within at)
 
   -- a later item of one list that stands in another with the same first item is a later item there
-  rest_within : (x z : K) (xs ys : List K) → IsStrictlySortedBy R (x ∷ xs) → (Contains (x ∷ xs) z → Contains (x ∷ ys) z) → Contains xs z → Contains ys z
+  rest_within : (x z : K) (xs ys : List K) → IsStrictlySortedBy R (x ∷ xs) → (Contains (x ∷ xs) z → Contains (x ∷ ys) z) → Contains xs z
+      → Contains ys z
   rest_within x z xs ys sorted within there =
       let less = less_than x z xs sorted there in
       Contains-tail x ys z (λ same. let itself : R z z ≡ Less = subst (λ w. R w z ≡ Less) same less in not_both z z itself itself) (within (Contains-append_right (x ∷ []) xs z there))
@@ -55,5 +57,4 @@ module _ {K : Type 0} {R : K → K → Ordering} (total : IsTotalOrder R) where
 -- words of which each comes before the next ascend
 pub IsAscending-sorted : (words : List (List ℕ)) → IsAscending words → IsStrictlySortedBy word_cmp words
 IsAscending-sorted words ascending =
-    sorted_from_all_adjacent word_cmp_total words [] (λ k within.
-    ascending k (get_or words k []) (get_or words (k + 1) []) (slice_get-get_or words k [] (omega (arith, within))) (slice_get-get_or words (k + 1) [] within))
+    sorted_from_all_adjacent word_cmp_total words [] (grind (arith, slice_get-get_or))

@@ -10,8 +10,7 @@ use Rattle.search_laws.proofs.WordOrder.{word_number, word_number-snoc, word_cmp
 
 -- a letter after the letters, which are read backwards, stands before them
 pub letter_before : (v letters longer : List ℕ) (a : ℕ) → longer ≡ letters ++ a ∷ [] → (v ++ a ∷ []) ++ reverse letters ≡ v ++ reverse longer
-letter_before v letters longer a more =
-    append_assoc v (a ∷ []) (reverse letters) ∙ ap (λ w. v ++ w) (sym (ap reverse more ∙ reverse-append letters (a ∷ [])))
+letter_before v letters longer a more = grind (arith, append_assoc, reverse-append)
 
 -- the last letter of a word is that of its place, and the others are spelled to the parent
 pub record IsLonger {S : Type 0} (tree : List (Place S)) (i : ℕ) (w : List ℕ) : Type 0 where
@@ -87,7 +86,8 @@ module _ {S : Type 0} {Step : S → ℕ → S → Type 0} {Met : S → ℕ → T
   length-spelled-le (Branch i x w positive at before) = omega (arith, length-spelled-le before, length_push w x.letter, (q.branches i x positive at).earlier)
 
   -- a later place has a greater word
-  spelled-ascending : {j : ℕ} {w : List ℕ} → TreeSpells tree j w → (i : ℕ) (v : List ℕ) → i < j → TreeSpells tree i v → word_number k v < word_number k w
+  spelled-ascending : {j : ℕ} {w : List ℕ} → TreeSpells tree j w → (i : ℕ) (v : List ℕ) → i < j → TreeSpells tree i v
+      → word_number k v < word_number k w
   spelled-ascending Root i v less first = absurd (omega arith)
   spelled-ascending (Branch j z w positive here before) i v less Root = omega (arith, word_number-snoc k w z.letter)
   spelled-ascending (Branch j z w positive here before) _ _ less (Branch i y v some there front) =
@@ -99,7 +99,8 @@ module _ {S : Type 0} {Step : S → ℕ → S → Type 0} {Met : S → ℕ → T
       omega (arith, word_number-snoc k v y.letter, word_number-snoc k w z.letter, step)
 
   -- the words of the places ascend
-  pub TreeSpells-ascending : {i j : ℕ} {v w : List ℕ} → i < j → TreeSpells tree i v → TreeSpells tree j w → (x y : Place S) → slice_get tree i ≡ Some x
+  pub TreeSpells-ascending : {i j : ℕ} {v w : List ℕ} → i < j → TreeSpells tree i v → TreeSpells tree j w → (x y : Place S)
+      → slice_get tree i ≡ Some x
       → slice_get tree j ≡ Some y → word_cmp v w ≡ Less
   TreeSpells-ascending {v = v} {w} less first second x y at_i at_j =
       word_cmp-less k v w (Leads-spelled first x at_i).word (Leads-spelled second y at_j).word (spelled-ascending second _ v less first)
@@ -111,12 +112,14 @@ module _ {S : Type 0} {Step : S → ℕ → S → Type 0} {Met : S → ℕ → T
       digits-ascend i j a b k (word_number k v) (word_number k w) letter_b most (λ less. spelled-ascending second i v less first)
       (λ same. ap (word_number k) (TreeSpells-unique (subst (λ n. TreeSpells tree n v) same first) second)) letter_a
 
-  pub edges-ascending : {i j : ℕ} {v w : List ℕ} → TreeSpells tree i v → TreeSpells tree j w → (x : Place S) → slice_get tree i ≡ Some x → (a b : ℕ) → a < k → b < k → i * k + a ≤ j * k + b
+  pub edges-ascending : {i j : ℕ} {v w : List ℕ} → TreeSpells tree i v → TreeSpells tree j w → (x : Place S) → slice_get tree i ≡ Some x → (a b : ℕ)
+      → a < k → b < k → i * k + a ≤ j * k + b
       → word_number k v * k + a ≤ word_number k w * k + b
   edges-ascending first second x at a b letter_a letter_b most = edges_ascend first second a b (omega arith) letter_b most
 
   -- a place that was filled n edges before an edge, or more, has a word that many before that edge's, for n up to 1
-  spelled-edge : {i j : ℕ} {v w : List ℕ} → TreeSpells tree i w → (a : ℕ) → a < k → (y : Place S) → slice_get tree j ≡ Some y → TreeSpells tree j v → (n : ℕ) → n ≤ 1 → filled k j y + n ≤ i * k + a + 1
+  spelled-edge : {i j : ℕ} {v w : List ℕ} → TreeSpells tree i w → (a : ℕ) → a < k → (y : Place S) → slice_get tree j ≡ Some y → TreeSpells tree j v
+      → (n : ℕ) → n ≤ 1 → filled k j y + n ≤ i * k + a + 1
       → word_number k v + n ≤ word_number k w * k + a + 1
   spelled-edge s a letter y at Root n small most = omega arith
   spelled-edge s a letter y at (Branch j z u positive here before) n small most =
@@ -126,11 +129,13 @@ module _ {S : Type 0} {Step : S → ℕ → S → Type 0} {Met : S → ℕ → T
       omega (arith, word_number-snoc k u z.letter, edges_ascend before s (z.letter + n) a (omega (arith, b.letter)) letter (omega (arith, same)))
 
   -- a place that was filled before letter a from place i was followed has a lesser word than that edge
-  pub spelled-before : {i : ℕ} {w : List ℕ} → TreeSpells tree i w → (a : ℕ) → a < k → (j : ℕ) (y : Place S) (v : List ℕ) → slice_get tree j ≡ Some y → TreeSpells tree j v → filled k j y < i * k + a + 1
+  pub spelled-before : {i : ℕ} {w : List ℕ} → TreeSpells tree i w → (a : ℕ) → a < k → (j : ℕ) (y : Place S) (v : List ℕ) → slice_get tree j ≡ Some y
+      → TreeSpells tree j v → filled k j y < i * k + a + 1
       → word_number k v < word_number k w * k + a + 1
   spelled-before s a letter j y v at spells less = omega (arith, spelled-edge s a letter y at spells 1 (omega arith) (omega arith))
 
   -- a place that was filled by then has a word that isn't greater than that edge's
-  pub spelled-within : {i : ℕ} {w : List ℕ} → TreeSpells tree i w → (a : ℕ) → a < k → (j : ℕ) (y : Place S) (v : List ℕ) → slice_get tree j ≡ Some y → TreeSpells tree j v → filled k j y ≤ i * k + a + 1
+  pub spelled-within : {i : ℕ} {w : List ℕ} → TreeSpells tree i w → (a : ℕ) → a < k → (j : ℕ) (y : Place S) (v : List ℕ) → slice_get tree j ≡ Some y
+      → TreeSpells tree j v → filled k j y ≤ i * k + a + 1
       → word_number k v ≤ word_number k w * k + a + 1
   spelled-within s a letter j y v at spells most = omega (arith, spelled-edge s a letter y at spells 0 (omega arith) (omega arith))

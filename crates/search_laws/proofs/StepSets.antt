@@ -1,21 +1,14 @@
 -- Each step leads to one set of nodes, each word has one set of last nodes, and steps lead along words from set to set.
-use Rattle.std.proofs.Common.{◌≡◌, ℕ, zero, suc, ◌^◌, ◌<◌, ◌≤◌, ◌⊎◌, ◌↔◌, List, [], ◌∷◌, IsBitSet, bit_or, refl, sym, ◌∙◌, subst, arith, add-one, ⊎_elim}
-use Rattle.std.proofs.lemmas.Nat.Bits.{bit_at-lt, same_from_bits_below}
-use Rattle.word_image.proofs.Common.{bit_at, cases_eq, LocalRule, IsRule, IsWord, node_count, IsOrphan, IsSetOf, full_set, next, label, IsEdge, IsStep, IsLastSet, bit_at-IsBitSet, IsBitSet-decide, IsUnion-none, IsSetTo, IsSetTo-take, IsSetTo-skip, IsSetTo-all, IsLastSet-full, IsLastSet-step, IsPreimage-nonempty_set, decide_both, exists_below}
+use Rattle.std.proofs.Common.{◌≡◌, ℕ, zero, suc, ◌^◌, ◌<◌, ◌≤◌, ◌⊎◌, ◌↔◌, List, [], ◌∷◌, IsBitSet, bit_or, refl, subst, arith, add-one, ⊎_elim}
+use Rattle.std.proofs.lemmas.Nat.Bits.{same_from_bits_below}
+use Rattle.word_image.proofs.Common.{cases_eq, LocalRule, IsRule, IsWord, node_count, IsOrphan, IsSetOf, full_set, next, label, IsEdge, IsStep, IsLastSet, bit_at-IsBitSet, IsBitSet-decide, IsUnion-none, IsSetTo, IsSetTo-take, IsSetTo-skip, IsSetTo-all, IsLastSet-full, IsLastSet-step, decide_both, exists_below}
 use Rattle.word_image.specs.declared.side.Side.TheVariants.{Right}
 use Rattle.search_laws.specs.Walks.{Walk, Leads}
 use Rattle.search_laws.proofs.Walks.{Leads-induct}
 
 -- two sets of n nodes with the same nodes are one
 pub same_set : (n a b : ℕ) → a < 2 ^ n → b < 2 ^ n → ((i : ℕ) → i < n → (IsBitSet a i ↔ IsBitSet b i)) → a ≡ b
-same_set n a b small_a small_b same = same_from_bits_below n a b small_a small_b (λ i l.
-    ⊎_elim
-    (λ one. one ∙ sym ((bit_at-IsBitSet b i).0 ((same i l).0 ((bit_at-IsBitSet a i).1 one))))
-    (λ none. ⊎_elim
-    (λ one. absurd (none ((bit_at-IsBitSet a i).0 ((same i l).1 ((bit_at-IsBitSet b i).1 one)))))
-    (λ also. omega (arith, bit_at-lt a i, bit_at-lt b i))
-    (cases_eq (bit_at b i) 1))
-    (cases_eq (bit_at a i) 1))
+same_set n a b small_a small_b same = same_from_bits_below n a b small_a small_b (grind (arith, bit_at-IsBitSet))
 
 -- there is one set of the nodes of which something holds
 pub IsSetOf-unique : {n : ℕ} {Holds : ℕ → Type 0} {a b : ℕ} → IsSetOf n Holds a → IsSetOf n Holds b → a ≡ b
@@ -72,10 +65,4 @@ LeadsToSet-last {r} {w} {set} rule last =
 
 -- the last nodes of an orphan are the empty set
 pub IsLastSet-orphan : {r : LocalRule} {w : List ℕ} → IsRule r → IsOrphan r w → IsLastSet r w 0
-IsLastSet-orphan {r} {w} rule orphan =
-    let found = LeadsToSet-some r w orphan.word in
-    let last = IsLastSet-leads rule found.1 in
-    ⊎_elim
-    (λ empty. subst (IsLastSet r w) empty last)
-    (λ some. let preimage = IsPreimage-nonempty_set last some in absurd (orphan.none preimage.0 preimage.1))
-    (cases_eq found.0 0)
+IsLastSet-orphan rule orphan = grind (arith, LeadsToSet-some, IsLastSet-leads)

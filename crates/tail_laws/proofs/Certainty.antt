@@ -59,7 +59,8 @@ abbrev pub IsLongFirst : LocalRule → ℕ → ℕ → ℕ → Type 0
 IsLongFirst r node a b = (a ≢ b) × ((label r node a ≡ label r node b) × BeginTogether r (next r node a) (next r node b) (pair_count r))
 
 -- two letters with one label to nodes that begin together for as long as there are pairs give a normal split
-first_split : {r : LocalRule} → IsRule r → (node a b : ℕ) → node < node_count r → a < r.states → b < r.states → IsLongFirst r node a b → HasNormalSplit r
+first_split : {r : LocalRule} → IsRule r → (node a b : ℕ) → node < node_count r → a < r.states → b < r.states → IsLongFirst r node a b
+    → HasNormalSplit r
 first_split {r} rule node a b hn ha hb h =
     normal_split-begins rule
     (record { node = node; a = a; b = b; in_nodes = hn; a_letter = ha; b_letter = hb; different = h.0; one_label = h.1.0; pair = refl })
@@ -108,9 +109,8 @@ IsRightClosing-window {r} rule = (
 -- a rule is injective if the mirrored rule is
 pub IsInjective-from_mirrored : {r : LocalRule} → IsRule r → IsInjective (mirrored r) → IsInjective r
 IsInjective-from_mirrored {r} rule injective x y hx hy share =
-    let window = (IsInjective-window (IsRule-mirrored rule)).0 injective in
     same_from_mirrored rule (cell-below hx) (cell-below hy) share
-    (agree_determined {r = mirrored r} {x = flip (cell x)} {y = flip (cell y)} (IsRule-mirrored rule) window.2 (λ j. cell-below hx (neg_ℤ j)) (λ j. cell-below hy (neg_ℤ j)))
+    (agree_determined {r = mirrored r} {x = flip (cell x)} {y = flip (cell y)} (IsRule-mirrored rule) ((IsInjective-window (IsRule-mirrored rule)).0 injective).2 (λ j. cell-below hx (neg_ℤ j)) (λ j. cell-below hy (neg_ℤ j)))
 
 -- a rule is left-closing exactly where it looks ahead to the left
 pub IsLeftClosing-window : {r : LocalRule} → IsRule r → IsLeftClosing r ↔ ((n : ℕ) × IsLeftAhead r n)

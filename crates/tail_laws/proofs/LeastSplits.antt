@@ -1,8 +1,8 @@
 -- The least normal right split: the least of at most one candidate for each state of the marked graph, made of two least walks.
-use Rattle.std.proofs.Common.{◌≡◌, ◌≢◌, ℕ, ◌+◌, List, [], ◌∷◌, length, sym, ap, ap₂, ◌∙◌, subst, arith, zip, nat_cmp, Ordering, Greater}
+use Rattle.std.proofs.Common.{◌≡◌, ◌≢◌, ℕ, ◌+◌, List, length, arith, zip, nat_cmp, Ordering, Greater}
 use Rattle.std.proofs.lemmas.Cmp.{then_total, on_total, lists_total, nat_cmp_total}
 use Rattle.std.proofs.lemmas.Slice.Zip.{firsts-zip, seconds-zip}
-use Rattle.word_image.proofs.Common.{ordering_then, IsTotalOrder, slice_cmp, length-map, LocalRule, IsRule, pair_count, marked, pair_cmp, pairs_cmp, key_not_greater, then_not_greater, no_later, pair_cmp_total}
+use Rattle.word_image.proofs.Common.{ordering_then, IsTotalOrder, slice_cmp, length-map, LocalRule, IsRule, pair_count, marked, pair_cmp, pairs_cmp, key_not_greater, no_later, pair_cmp_total}
 use Rattle.search_laws.proofs.Common.{IsLeastWalk, IsLeastWalkTo}
 use Rattle.tail_config.proofs.Common.{TailConfig, IsNormalRightSplit, IsLeastRightSplit, splits_cmp}
 use Rattle.tail_laws.specs.SplitWalks.{IsSplitAt, IsNoSplitBelow, IsLeastSplitAt, IsLeastBelow, with_mark, first_tail, second_tail, split_of}
@@ -30,47 +30,27 @@ splits_cmp-walks w v w' v' = grind (arith, length-map, zip-sides)
 
 -- walks of which neither comes later make a split that comes no later
 walks_cmp-not_greater : (w v w' v' : List (ℕ × ℕ)) → pairs_cmp w w' ≢ Greater → pairs_cmp v v' ≢ Greater → walks_cmp w v w' v' ≢ Greater
-walks_cmp-not_greater w v w' v' h g =
-    let (few, first) = (key_not_greater (length w) (length w') (slice_cmp pair_cmp w w')).0 h in
-    let (also, second) = (key_not_greater (length v) (length v') (slice_cmp pair_cmp v v')).0 g in
-    (key_not_greater (length w + length v) (length w' + length v') _).1
-    (omega arith, λ all. (key_not_greater (length w) (length w') _).1 (few, λ same. then_not_greater (slice_cmp pair_cmp w w') (slice_cmp pair_cmp v v') (first same) (λ _. second (omega arith))))
+walks_cmp-not_greater w v w' v' h g = grind (arith, key_not_greater)
 
 -- Candidates
 
 -- the first walk to a state and the first one round it make its least split
-pub IsLeastSplitAt-walks : {r : LocalRule} {t : ℕ} {w v : List (ℕ × ℕ)} → IsLeastWalkTo (marked r) r.states 0 t w → IsLeastWalk (marked r) r.states t (with_mark r t) v → IsLeastSplitAt r t w v
-IsLeastSplitAt-walks {r} {t} {w} {v} reach round =
-    record {
-      split = record { reach = reach.walk; some = round.some; round = round.walk };
-      least = λ w' v' h greater. walks_cmp-not_greater w v w' v' (reach.least w' h.reach) (round.least v' h.some h.round) (sym (splits_cmp-walks w v w' v') ∙ greater);
-    }
+pub IsLeastSplitAt-walks : {r : LocalRule} {t : ℕ} {w v : List (ℕ × ℕ)} → IsLeastWalkTo (marked r) r.states 0 t w
+    → IsLeastWalk (marked r) r.states t (with_mark r t) v → IsLeastSplitAt r t w v
+IsLeastSplitAt-walks reach round = grind (arith, walks_cmp-not_greater, splits_cmp-walks)
 
 -- The search, state by state
 
 -- what comes no later than the least split at a state comes no later than each one there
-pub no_earlier-least : {r : LocalRule} {t : ℕ} {a b w' v' : List (ℕ × ℕ)} → IsLeastSplitAt r t a b → (w v : List (ℕ × ℕ)) → splits_cmp (split_of w v) (split_of a b) ≢ Greater → IsSplitAt r t w' v'
+pub no_earlier-least : {r : LocalRule} {t : ℕ} {a b w' v' : List (ℕ × ℕ)} → IsLeastSplitAt r t a b → (w v : List (ℕ × ℕ))
+    → splits_cmp (split_of w v) (split_of a b) ≢ Greater → IsSplitAt r t w' v'
     → splits_cmp (split_of w v) (split_of w' v') ≢ Greater
 no_earlier-least {a = a} {b} {w'} {v'} here w v first at = no_later splits_cmp_total (split_of w v) (split_of a b) (split_of w' v') first (here.least w' v' at)
 
--- a configuration with zeros on its left is made of its middle and its right period
-tail_of-parts : (t : TailConfig) (middle right : List ℕ) → t.left ≡ 0 ∷ [] → middle ≡ t.middle → right ≡ t.right → record { left = 0 ∷ []; middle = middle; right = right } ≡ t
-tail_of-parts t middle right left same_middle same_right =
-    ap₂ (λ (m p : List ℕ). record { left = 0 ∷ []; middle = m; right = p }) same_middle same_right ∙ ap (λ (l : List ℕ). record { left = l; middle = t.middle; right = t.right }) (sym left)
-
 -- the least normal split over all states is the least normal right split
-pub IsLeastRightSplit-below : {r : LocalRule} {w v : List (ℕ × ℕ)} → IsRule r → IsLeastBelow r (pair_count r + pair_count r) w v → IsLeastRightSplit r (first_tail w v) (second_tail w v)
-IsLeastRightSplit-below {r} {w} {v} rule h =
-    record {
-      split = h.split;
-      least = λ x y n.
-          let found = normal_split-at rule n in
-          let first = tail_of-parts x _ _ n.first.left (firsts-zip x.middle y.middle (sym n.middles)) (firsts-zip x.right y.right (sym n.rights)) in
-          let second : second_tail (zip x.middle y.middle) (zip x.right y.right) ≡ y =
-          tail_of-parts y _ _ n.second.left (seconds-zip x.middle y.middle (sym n.middles)) (seconds-zip x.right y.right (sym n.rights)) in
-          let same : split_of (zip x.middle y.middle) (zip x.right y.right) ≡ (x, y) = ap₂ (λ (a b : TailConfig). (a, b)) first second in
-          subst (λ p. splits_cmp (split_of w v) p ≢ Greater) same (h.least found.0 (zip x.middle y.middle) (zip x.right y.right) found.1 found.2);
-    }
+pub IsLeastRightSplit-below : {r : LocalRule} {w v : List (ℕ × ℕ)} → IsRule r → IsLeastBelow r (pair_count r + pair_count r) w v
+    → IsLeastRightSplit r (first_tail w v) (second_tail w v)
+IsLeastRightSplit-below rule h = grind (arith, normal_split-at, firsts-zip, seconds-zip)
 
 -- where no state has a split, there is no normal right split
 pub no_normal_split : {r : LocalRule} → IsRule r → IsNoSplitBelow r (pair_count r + pair_count r) → (x y : TailConfig) → ¬ IsNormalRightSplit r x y

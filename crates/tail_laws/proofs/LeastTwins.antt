@@ -15,9 +15,7 @@ IsLeastTurn r p w = IsLeastWalk (marked r) r.states p (p + pair_count r) w
 
 -- a walk from the pair p to p with the mark has a step
 pub turn-some : {r : LocalRule} → IsRule r → (p : ℕ) (w : List (ℕ × ℕ)) → IsTurn r p w → 0 < length w
-turn-some {r} rule p [] turn =
-    let pairs = pair_count_pos rule in
-    absurd (omega arith)
+turn-some rule p [] turn = omega (arith, pair_count_pos)
 turn-some rule p (ab ∷ w) turn = omega arith
 
 -- the least walk from the pair p to p with the mark that has a step is the least of all such walks
@@ -25,7 +23,8 @@ pub IsLeastOf-turn : {r : LocalRule} {p : ℕ} {w : List (ℕ × ℕ)} → IsRul
 IsLeastOf-turn {r} {p} rule first = record { has = first.walk; least = λ v turn. first.least v (turn-some rule p v turn) turn }
 
 -- the first of all walks has the least twins
-pub IsLeastTwins-first : {r : LocalRule} {w : List (ℕ × ℕ)} → IsRule r → IsFirstBelow (IsTurn r) (pair_count r) w → IsLeastTwins r (map (λ a. a.0) w) (map (λ a. a.1) w)
+pub IsLeastTwins-first : {r : LocalRule} {w : List (ℕ × ℕ)} → IsRule r → IsFirstBelow (IsTurn r) (pair_count r) w
+    → IsLeastTwins r (map (λ a. a.0) w) (map (λ a. a.1) w)
 IsLeastTwins-first {w = w} rule first = record {
   twins = IsTwins-turn rule first.below first.has;
   least = λ u v twins. let turn = twins-turn rule twins in subst (λ z. pairs_cmp z (zip u v) ≢ Greater) (sym (zip-sides w)) (first.least turn.0 (zip u v) turn.1 turn.2);

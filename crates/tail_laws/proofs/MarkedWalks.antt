@@ -1,6 +1,6 @@
 -- Walks in the marked graph are walks of pairs, and the mark tells whether two letters have differed.
 use Rattle.std.proofs.Common.{◌≡◌, ◌≢◌, ◌⊎◌, ℕ, ◌+◌, ◌%◌, ◌<◌, ◌≤◌, List, [], ◌∷◌, length, drop, slice_index, Some, None, if◌then◌else◌, ◌==◌, ◌||◌, not, refl, sym, ap, ap₂, ◌∙◌, subst, inl, inr, ⊎_elim, arith, mod-eq_of_lt, ◌↔◌, nat_le, zip}
-use Rattle.word_image.proofs.Common.{add-mod_right, cases_lt, cases_eq, nat_tests, same_Some, LocalRule, IsRule, next, label, pair_of, first_of, second_of, follow, pair_count, marked, next-below}
+use Rattle.word_image.proofs.Common.{add-mod_right, cases_eq, nat_tests, same_Some, LocalRule, IsRule, next, label, pair_of, first_of, second_of, follow, pair_count, marked, next-below}
 use Rattle.search_laws.proofs.Common.{Walk, LetterPairStep}
 use Rattle.pair_laws.proofs.Common.{pair_of-below}
 use Rattle.tail_laws.proofs.PairLeads.{PairLeads}
@@ -33,31 +33,22 @@ HasOther-different (a ∷ x) (b ∷ y) (inr rest) e = HasOther-different x y res
 abbrev pub mark : LocalRule → ℕ → ℕ → ℕ → ℕ
 mark r t a b = if nat_le (pair_count r) t || not (a == b) then pair_count r else 0
 
--- a value under a test, and the same with a mark that is added to it
-marked_value : (c d s k : ℕ) (q : ℕ) → (if c == d then Some s else None) ≡ Some q → (if c == d then Some (s + k) else None) ≡ Some (q + k)
-marked_value c d s k q e = grind (arith, nat_tests)
-
 -- a value under a test, without the mark that is added to it
 value_marked : (c d s k : ℕ) (q : ℕ) → (if c == d then Some (s + k) else None) ≡ Some q → ((if c == d then Some s else None) ≡ Some s) × (q ≡ s + k)
 value_marked c d s k q e = (grind (arith, nat_tests), grind (arith, nat_tests))
 
 -- a step of the marked graph is a step of the pair, and adds the mark
 marked-follow : (r : LocalRule) (t a b q : ℕ) → follow r (t % pair_count r) a b ≡ Some q → marked r t a b ≡ Some (q + mark r t a b)
-marked-follow r t a b q e = marked_value _ _ _ (mark r t a b) q e
+marked-follow r t a b q e = grind arith
 
 -- each step of the marked graph is one of the pair, and adds the mark
-pub follow-marked : {r : LocalRule} → IsRule r → (t a b s : ℕ) → marked r t a b ≡ Some s → (q : ℕ) × (follow r (t % pair_count r) a b ≡ Some q) × (q < pair_count r) × (s ≡ q + mark r t a b)
+pub follow-marked : {r : LocalRule} → IsRule r → (t a b s : ℕ) → marked r t a b ≡ Some s
+    → (q : ℕ) × (follow r (t % pair_count r) a b ≡ Some q) × (q < pair_count r) × (s ≡ q + mark r t a b)
 follow-marked {r} rule t a b s e =
     let p : ℕ = t % pair_count r in
     let q : ℕ = pair_of r (next r (first_of r p) a) (next r (second_of r p) b) in
     let both = value_marked (label r (first_of r p) a) (label r (second_of r p) b) q (mark r t a b) s e in
     (q, both.0, pair_of-below r _ _ (next-below rule (first_of r p) a) (next-below rule (second_of r p) b), both.1)
-
--- the mark is set where it was or two letters differ, and is not set where neither is so
-mark_cases : (p t a b : ℕ) → (((if nat_le p t || not (a == b) then p else 0) ≡ p) × ((p ≤ t) ⊎ (a ≢ b))) ⊎ (((if nat_le p t || not (a == b) then p else 0) ≡ 0) × (t < p) × (a ≡ b))
-mark_cases p t a b =
-    ⊎_elim (λ l. ⊎_elim (λ e. inr (grind (arith, nat_tests), l, e)) (λ n. inl (grind (arith, nat_tests), inr n)) (cases_eq a b))
-    (λ l. inl (grind (arith, nat_tests), inl l)) (cases_lt t p)
 
 -- the state after a step is the pair, and has the mark exactly if the state before it has or the letters differ
 record IsStepMarked (r : LocalRule) (t a b s q : ℕ) : Type 0 where
@@ -66,15 +57,7 @@ record IsStepMarked (r : LocalRule) (t a b s q : ℕ) : Type 0 where
 
 -- the state after a step is its pair, and has the mark exactly if the state before it has or the letters differ
 marked_step : (r : LocalRule) (t a b q : ℕ) → q < pair_count r → IsStepMarked r t a b (q + mark r t a b) q
-marked_step r t a b q h =
-    let p : ℕ = pair_count r in
-    ⊎_elim
-    (λ (e, why). record { pair = ap (λ m. (q + m) % p) e ∙ add-mod_right q p ∙ mod-eq_of_lt {n = q} h; mark = (λ l. why, λ w. omega (arith, e)) })
-    (λ (e, none, same). record {
-      pair = ap (λ m. (q + m) % p) e ∙ mod-eq_of_lt {n = q + 0} (omega arith) ∙ omega arith;
-      mark = (λ k. absurd (omega (arith, e)), λ w. absurd (⊎_elim (λ k. omega (arith, none)) (λ n. n same) w));
-    })
-    (mark_cases p t a b)
+marked_step r t a b q h = grind (arith, add-mod_right, mod-eq_of_lt)
 
 -- a walk of pairs, which ends with the mark exactly if it begins with it or two letters have differed
 pub record IsMarkedWalk (r : LocalRule) (t : ℕ) (abs : List (ℕ × ℕ)) (s : ℕ) : Type 0 where
@@ -85,27 +68,19 @@ pub record IsMarkedWalk (r : LocalRule) (t : ℕ) (abs : List (ℕ × ℕ)) (s :
 pub IsMarkedWalk-leads : {r : LocalRule} → IsRule r → (abs : List (ℕ × ℕ)) (t s : ℕ) → MarkedLeads r t abs s → IsMarkedWalk r t abs s
 IsMarkedWalk-leads {r} rule [] t s h = record { pairs = ap (λ n. n % pair_count r) h; mark = (λ l. inl (rw h l), λ w. rw (← h) (⊎_elim (λ l. l) (λ n. absurd n) w)) }
 IsMarkedWalk-leads {r} rule (ab ∷ rest) t s h =
-    let p : ℕ = pair_count r in
     let step = follow-marked rule t ab.0 ab.1 h.0 h.1 in
-    let m : IsStepMarked r t ab.0 ab.1 h.0 step.0 = subst (λ n. IsStepMarked r t ab.0 ab.1 n step.0) (sym step.3) (marked_step r t ab.0 ab.1 step.0 step.2) in
+    let m : IsStepMarked r t ab.0 ab.1 h.0 step.0 = grind (arith, marked_step) in
     let w = IsMarkedWalk-leads rule rest h.0 s h.2 in
-    record {
-      pairs = (step.0, step.1, subst (λ n. PairLeads r n rest (s % p)) m.pair w.pairs);
-      mark = (
-        λ l. ⊎_elim (λ k. ⊎_elim (λ a. inl a) (λ n. inr (inl n)) (m.mark.0 k)) (λ o. inr (inr o)) (w.mark.0 l),
-        λ v. w.mark.1 (⊎_elim (λ l. inl (m.mark.1 (inl l))) (λ o. ⊎_elim (λ n. inl (m.mark.1 (inr n))) (λ k. inr k) o) v),
-      );
-    }
+    grind arith
 
 -- each walk of pairs is one of the marked graph
-pub leads-marked : {r : LocalRule} → IsRule r → (abs : List (ℕ × ℕ)) (t q : ℕ) → PairLeads r (t % pair_count r) abs q → (s : ℕ) × MarkedLeads r t abs s × (s % pair_count r ≡ q)
-leads-marked {r} rule [] t q h = (t, refl, h)
+pub leads-marked : {r : LocalRule} → IsRule r → (abs : List (ℕ × ℕ)) (t q : ℕ) → PairLeads r (t % pair_count r) abs q
+    → (s : ℕ) × MarkedLeads r t abs s × (s % pair_count r ≡ q)
+leads-marked rule [] t q h = (t, refl, h)
 leads-marked {r} rule (ab ∷ rest) t q h =
     let next : ℕ = h.0 + mark r t ab.0 ab.1 in
     let step = marked-follow r t ab.0 ab.1 h.0 h.1 in
     let back = follow-marked rule t ab.0 ab.1 next step in
     let same = same_Some h.0 back.0 (sym h.1 ∙ back.1) in
-    let below : h.0 < pair_count r = rw same back.2 in
-    let pair : next % pair_count r ≡ h.0 = (marked_step r t ab.0 ab.1 h.0 below).pair in
-    let on = leads-marked rule rest next q (subst (λ n. PairLeads r n rest q) (sym pair) h.2) in
+    let on = leads-marked rule rest next q (subst (λ n. PairLeads r n rest q) (sym ((marked_step r t ab.0 ab.1 h.0 (rw same back.2)).pair)) h.2) in
     (on.0, (next, step, on.1), on.2)

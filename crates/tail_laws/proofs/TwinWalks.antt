@@ -1,9 +1,9 @@
 -- Twins are the closed walks in the graph of pairs of nodes whose letters differ somewhere.
-use Rattle.std.proofs.Common.{◌≡◌, ◌≢◌, ℕ, ◌-◌, ◌<◌, ◌≤◌, List, [], length, ℤ, pos, negsuc, ◌+ℤ◌, ◌-ℤ◌, neg_ℤ, refl, sym, ap, ap₂, ◌∙◌, subst, subst₂, arith, ◌*◌, ◌≤ℤ◌, ◌↔◌, zip}
+use Rattle.std.proofs.Common.{◌≡◌, ◌≢◌, ℕ, ◌-◌, ◌<◌, ◌≤◌, List, [], length, ℤ, pos, ◌+ℤ◌, ◌-ℤ◌, neg_ℤ, refl, sym, ap, ap₂, ◌∙◌, subst, arith, ◌*◌, zip}
 use Rattle.word_image.proofs.Common.{mul-le, ints, LocalRule, IsRule, value, word_of, node_count, IsRing, IsTwins, pair_of, length-word_of, IsWord-word_of, value-word_of}
 use Rattle.tail_config.proofs.Common.{TailConfig, IsTail, ShareImage, cell, cells, run-same, cells-left, RepeatsRight-times}
-use Rattle.tail_laws.proofs.TwinTails.{round, IsTail-round, cells-round, cell-round_period, ShareImage-turn, ShareImage-rings, ring_image-shared}
-use Rattle.tail_laws.proofs.Nodes.{node_at, label_over, node_at-below, image_cell-label, labels-ShareImage}
+use Rattle.tail_laws.proofs.TwinTails.{round, IsTail-round, cells-round, cell-round_period, ShareImage-turn, ring_image-shared}
+use Rattle.tail_laws.proofs.Nodes.{node_at, label_over, image_cell-label, labels-ShareImage}
 use Rattle.tail_laws.proofs.Loops.{IsInStep, IsLooped, looped-cells}
 use Rattle.tail_laws.proofs.PairLeads.{PairLeads, pair_at, IsInStep-walk, PairLeads-cells, cells-PairLeads}
 
@@ -13,33 +13,22 @@ from_node r u p = record { left = word_of r.states (r.width - 1) u; middle = [];
 
 -- the configuration with node u before place 0, and the ring p from there on, is one over the rule's letters
 IsTail-from_node : {r : LocalRule} {p : List ℕ} → IsRule r → (u : ℕ) → u < node_count r → IsRing r.states p → IsTail r.states (from_node r u p)
-IsTail-from_node {r} {p} rule u h ring =
-    record {
-      left_some = omega (arith, length-word_of r.states (r.width - 1) u, rule.shape.least_width);
-      right_some = ring.some;
-      left_word = IsWord-word_of r.states (r.width - 1) u h;
-      middle_word = λ i d l. absurd (omega arith);
-      right_word = ring.word;
-    }
+IsTail-from_node rule u h ring = grind (arith, IsWord-word_of)
 
 -- the node at place 0 of the configuration from a node is this node
 node_at-from_node : (r : LocalRule) (u : ℕ) (p : List ℕ) → u < node_count r → node_at r (from_node r u p) (pos 0) ≡ u
 node_at-from_node r u p h = grind (arith, ints, neg_ℤ, length-word_of, cells-left, value-word_of)
 
--- right of place 0 the configuration from a node has the cells of the ring
-cell-from_node : (r : LocalRule) (u : ℕ) (p : List ℕ) (i : ℤ) → pos 0 ≤ℤ i → cell (round p) i ≡ cell (from_node r u p) i
-cell-from_node r u p (pos i) l = refl
-cell-from_node r u p (negsuc i) l = absurd (omega (arith, ints))
-
 -- along a closed walk of pairs the configurations from its nodes go in step
-loop_steps : {r : LocalRule} {x y : List ℕ} → IsRule r → IsRing r.states x → IsRing r.states y → length x ≡ length y → (u v : ℕ) → u < node_count r → v < node_count r
+loop_steps : {r : LocalRule} {x y : List ℕ} → IsRule r → IsRing r.states x → IsRing r.states y → length x ≡ length y → (u v : ℕ) → u < node_count r
+    → v < node_count r
     → PairLeads r (pair_of r u v) (zip x y) (pair_of r u v) → IsInStep r (from_node r u x) (from_node r v y)
-loop_steps {r} {x} {y} rule hx hy long u v hu hv loop =
-    let start : pair_at r (from_node r u x) (from_node r v y) (pos 0) ≡ pair_of r u v = ap₂ (pair_of r) (node_at-from_node r u x hu) (node_at-from_node r v y hv) in
-    IsInStep-walk rule (IsTail-from_node rule u hu hx) (IsTail-from_node rule v hv hy) refl long (pair_of r u v) start loop
+loop_steps {r} rule hx hy long u v hu hv loop =
+    IsInStep-walk rule (IsTail-from_node rule u hu hx) (IsTail-from_node rule v hv hy) refl long (pair_of r u v) (grind (arith, node_at-from_node)) loop
 
 -- where the walk from a node comes back to the node, this is the node before the ring
-looped_node : {r : LocalRule} {p : List ℕ} → IsRule r → IsRing r.states p → (u : ℕ) → u < node_count r → IsLooped r (from_node r u p) → node_at r (round p) (pos 0) ≡ u
+looped_node : {r : LocalRule} {p : List ℕ} → IsRule r → IsRing r.states p → (u : ℕ) → u < node_count r → IsLooped r (from_node r u p)
+    → node_at r (round p) (pos 0) ≡ u
 looped_node {r} {p} rule ring u h loop =
     let m : ℕ = r.width - 1 in
     let n : ℕ = length p in
@@ -48,31 +37,27 @@ looped_node {r} {p} rule ring u h loop =
     let long : m * 1 ≤ m * n = mul-le m 1 m n (omega arith) ring.some in
     let again = RepeatsRight-times m n (cell t) start (looped-cells r (IsTail-from_node rule u h ring) loop) in
     let round_again = RepeatsRight-times m n (cell (round p)) start (λ i l. cell-round_period p ring.some i) in
-    ap (value r.states) (run-same (cell (round p)) (cell t) start start m (λ a l.
-    let place : ℤ = start +ℤ pos a in
-    sym (round_again place (omega (arith, ints))) ∙ cell-from_node r u p (place +ℤ pos (m * n)) (omega (arith, ints)) ∙ again place (omega (arith, ints))))
+    ap (value r.states) (run-same (cell (round p)) (cell t) start start m (grind (arith, ints)))
     ∙ node_at-from_node r u p h
 
 -- a closed walk begins at the nodes before its two rings
-pub node_at-loop : {r : LocalRule} {x y : List ℕ} → IsRule r → IsRing r.states x → IsRing r.states y → length x ≡ length y → (u v : ℕ) → u < node_count r → v < node_count r
+pub node_at-loop : {r : LocalRule} {x y : List ℕ} → IsRule r → IsRing r.states x → IsRing r.states y → length x ≡ length y → (u v : ℕ)
+    → u < node_count r → v < node_count r
     → PairLeads r (pair_of r u v) (zip x y) (pair_of r u v) → (node_at r (round x) (pos 0) ≡ u) × (node_at r (round y) (pos 0) ≡ v)
-node_at-loop {r} {x} {y} rule hx hy long u v hu hv loop =
-    let steps = loop_steps rule hx hy long u v hu hv loop in
-    (looped_node rule hx u hu steps.first, looped_node rule hy v hv steps.second)
+node_at-loop rule hx hy long u v hu hv loop = grind (arith, loop_steps, looped_node)
 
 -- the letter pairs of two rings are those of their configurations
 zip-rounds : (x y : List ℕ) → length x ≡ length y → zip (cells (round x) (pos 0) (length x)) (cells (round y) (pos 0) (length x)) ≡ zip x y
 zip-rounds x y long = ap₂ (λ (a b : List ℕ). zip a b) (cells-round x refl) (cells-round y long)
 
 -- a closed walk of pairs is two rings whose configurations share an image
-ShareImage-loop : {r : LocalRule} {x y : List ℕ} → IsRule r → IsRing r.states x → IsRing r.states y → length x ≡ length y → (u v : ℕ) → u < node_count r → v < node_count r
+ShareImage-loop : {r : LocalRule} {x y : List ℕ} → IsRule r → IsRing r.states x → IsRing r.states y → length x ≡ length y → (u v : ℕ)
+    → u < node_count r → v < node_count r
     → PairLeads r (pair_of r u v) (zip x y) (pair_of r u v) → ShareImage r (round x) (round y)
 ShareImage-loop {r} {x} {y} rule hx hy long u v hu hv loop =
     let n : ℕ = length x in
     let nodes = node_at-loop rule hx hy long u v hu hv loop in
-    let walk : PairLeads r (pair_at r (round x) (round y) (pos 0)) (zip (cells (round x) (pos 0) n) (cells (round y) (pos 0) n)) (pair_of r u v) =
-    subst₂ (λ p ab. PairLeads r p ab (pair_of r u v)) (sym (ap₂ (pair_of r) nodes.0 nodes.1)) (sym (zip-rounds x y long)) loop in
-    let labels = (cells-PairLeads rule (IsTail-round hx) (IsTail-round hy) n (pos 0) (pos n) (pair_of r u v) (omega (arith, ints)) walk).0 in
+    let labels = (cells-PairLeads rule (IsTail-round hx) (IsTail-round hy) n (pos 0) (pos n) (pair_of r u v) (omega (arith, ints)) (grind (arith, zip-rounds))).0 in
     let start : ℤ = neg_ℤ (r.offset +ℤ pos (r.width - 1)) in
     ShareImage-turn r x y hx.some long start (λ d l.
     let place : pos 0 +ℤ pos d ≡ start +ℤ pos d +ℤ r.offset +ℤ pos (r.width - 1) = omega (arith, ints) in
@@ -87,47 +72,17 @@ node_at-round r p some =
     ap (cell (round p)) place ∙ cell-round_period p some (pos 0 -ℤ pos m +ℤ pos a)))
 
 -- two rings whose configurations share an image are a closed walk of pairs
-loop-ShareImage : {r : LocalRule} {x y : List ℕ} → IsRule r → IsRing r.states x → IsRing r.states y → length x ≡ length y → ShareImage r (round x) (round y)
+pub loop-ShareImage : {r : LocalRule} {x y : List ℕ} → IsRule r → IsRing r.states x → IsRing r.states y → length x ≡ length y
+    → ShareImage r (round x) (round y)
     → PairLeads r (pair_at r (round x) (round y) (pos 0)) (zip x y) (pair_at r (round x) (round y) (pos 0))
 loop-ShareImage {r} {x} {y} rule hx hy long share =
     let first = IsTail-round hx in
-    let second = IsTail-round hy in
     let n : ℕ = length x in
-    let turn = PairLeads-cells rule first second n (pos 0) (pos n) (omega (arith, ints)) (λ d l. labels-ShareImage r (round x) (round y) share (pos 0 +ℤ pos d)) in
-    let back = ap₂ (pair_of r) (node_at-round r x hx.some) (ap (λ m. node_at r (round y) (pos m)) long ∙ node_at-round r y hy.some) in
-    subst (PairLeads r (pair_at r (round x) (round y) (pos 0)) (zip x y)) back
-    (subst (λ ab. PairLeads r (pair_at r (round x) (round y) (pos 0)) ab (pair_at r (round x) (round y) (pos n)))
-    (zip-rounds x y long) turn)
+    let turn = PairLeads-cells rule first (IsTail-round hy) n (pos 0) (pos n) (omega (arith, ints)) (λ d l. labels-ShareImage r (round x) (round y) share (pos 0 +ℤ pos d)) in
+    grind (arith, node_at-round, zip-rounds)
 
--- two different rings of one length that are a closed walk of pairs
-pub record IsTwinWalk (r : LocalRule) (x y : List ℕ) : Type 0 where
-  pub first : IsRing r.states x
-  pub second : IsRing r.states y
-  pub one_length : length x ≡ length y
-  pub different : x ≢ y
-  pub u : ℕ
-  pub v : ℕ
-  pub in_nodes : (u < node_count r) × (v < node_count r)
-  pub loop : PairLeads r (pair_of r u v) (zip x y) (pair_of r u v)
-
--- twins are two different rings of one length that are a closed walk of pairs
-pub IsTwins-walk : {r : LocalRule} {x y : List ℕ} → IsRule r → IsTwins r x y ↔ IsTwinWalk r x y
-IsTwins-walk {r} {x} {y} rule = (
-  λ t. record {
-    first = t.first;
-    second = t.second;
-    one_length = t.one_length;
-    different = t.different;
-    u = node_at r (round x) (pos 0);
-    v = node_at r (round y) (pos 0);
-    in_nodes = (node_at-below rule (IsTail-round t.first) (pos 0), node_at-below rule (IsTail-round t.second) (pos 0));
-    loop = loop-ShareImage rule t.first t.second t.one_length (ShareImage-rings r x y t.first.some t.one_length t.one_image);
-  },
-  λ w. record {
-    first = w.first;
-    second = w.second;
-    one_length = w.one_length;
-    different = w.different;
-    one_image = ring_image-shared r x y w.one_length (ShareImage-loop rule w.first w.second w.one_length w.u w.v w.in_nodes.0 w.in_nodes.1 w.loop);
-  },
-)
+-- two different rings of one length that are a closed walk of pairs are twins
+pub IsTwins-walk : {r : LocalRule} {x y : List ℕ} → IsRule r → IsRing r.states x → IsRing r.states y → length x ≡ length y → x ≢ y → (u v : ℕ)
+    → u < node_count r → v < node_count r
+    → PairLeads r (pair_of r u v) (zip x y) (pair_of r u v) → IsTwins r x y
+IsTwins-walk rule hx hy long other u v hu hv loop = grind (arith, ring_image-shared, ShareImage-loop)

@@ -15,7 +15,6 @@ pub IsSetOf-meets : {n : ℕ} {P : ℕ → Type 0} {a : ℕ} → IsSetOf n P a �
 IsSetOf-meets {n} {a = a} h set = (
   (λ some.
       let (u, first, second) = IsBitSet-meet n a set (let less = and_le_l a set in let small = h.within in omega arith) some in
-      let below = IsBitSet-below n a u h.within first in
-      (u, below, (h.nodes u below).0 first, second)),
+      grind (arith, IsBitSet-below)),
   (λ (u, below, holds, bit) none. IsBitSet-apart a set u none ((h.nodes u below).1 holds) bit),
 )

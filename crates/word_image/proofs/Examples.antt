@@ -1,10 +1,10 @@
 -- Worked examples that need a proof: what some definitions hold of, and what they refuse.
-use Rattle.std.proofs.Common.{◌≡◌, ◌≢◌, ℕ, zero, suc, ◌+◌, ◌^◌, ◌<◌, List, [], ◌∷◌, inl, inr, length, take, drop, replicate, Some, refl, sym, ap, ap₂, ◌∙◌, subst, arith, ℤ, pos, negsuc, ◌-ℤ◌, slice_index, slice_get, nat_cmp, is_gt, Less, Greater, true≢false, get_or-drop}
-use Rattle.word_image.proofs.Common.{ordering_then, nat_cmp_is, slice_cmp, same_Some, length-replicate, All-head, All-replicate}
-use Rattle.word_image.specs.LocalRules.{IsWord, word_of, value, local_map}
+use Rattle.std.proofs.Common.{◌≡◌, ◌≢◌, ℕ, zero, suc, ◌+◌, ◌^◌, ◌<◌, List, [], ◌∷◌, length, drop, replicate, refl, sym, ap, ◌∙◌, subst, arith, pos, negsuc, slice_index, nat_cmp, is_gt, Less, Greater, true≢false, get_or-drop}
+use Rattle.word_image.proofs.Common.{ordering_then, nat_cmp_is, slice_cmp, length-replicate, All-head, All-replicate}
+use Rattle.word_image.specs.LocalRules.{IsWord, word_of, value}
 use Rattle.word_image.specs.Words.{image, IsOrphan, IsLeastOrphan, word_cmp}
-use Rattle.word_image.specs.Rings.{IsRing, IsTwins, IsLossyRing, IsFlux}
-use Rattle.word_image.specs.Windows.{HaveOneImage, WindowBefore, IsDetermined, IsLeastDetermined, IsRightAhead, IsLeastRightAhead}
+use Rattle.word_image.specs.Rings.{IsTwins, IsLossyRing, IsFlux}
+use Rattle.word_image.specs.Windows.{HaveOneImage, IsDetermined, IsLeastDetermined, IsRightAhead, IsLeastRightAhead}
 use Rattle.word_image.specs.Sides.{IsLeftAhead}
 use Rattle.word_image.specs.Graphs.{label}
 use Rattle.word_image.specs.Ranks.{BeginTogether, EndTogether, IsRank, IsEndless}
@@ -16,7 +16,8 @@ use Rattle.word_image.proofs.laws.Values.{value-below, word_of-value}
 use Rattle.word_image.proofs.laws.Words.{word_by_test}
 
 -- what holds of the four words of two letters holds of each
-each_of_four : (P : List ℕ → Type 0) → P (0 ∷ 0 ∷ []) → P (0 ∷ 1 ∷ []) → P (1 ∷ 0 ∷ []) → P (1 ∷ 1 ∷ []) → (x : List ℕ) → IsWord 2 x → length x ≡ 2 → P x
+each_of_four : (P : List ℕ → Type 0) → P (0 ∷ 0 ∷ []) → P (0 ∷ 1 ∷ []) → P (1 ∷ 0 ∷ []) → P (1 ∷ 1 ∷ []) → (x : List ℕ) → IsWord 2 x → length x ≡ 2
+    → P x
 each_of_four P p q s t x word long =
     let below : value 2 x < 2 ^ 2 = subst (λ n. value 2 x < 2 ^ n) long (value-below 2 x word) in
     subst P (ap (λ n. word_of 2 n (value 2 x)) (sym long) ∙ word_of-value 2 x word) (at (value 2 x) below)
@@ -30,20 +31,8 @@ each_of_four P p q s t x word long =
 
 -- Rings: the words 0011 and 0101 are twins of rule 184, and 0 and 1 are none, since the ring 0 stays 0 and the ring 1 stays 1
 
-ring-0011 : IsRing 2 (0 ∷ 0 ∷ 1 ∷ 1 ∷ [])
-ring-0011 = record { word = word_by_test 2 (0 ∷ 0 ∷ 1 ∷ 1 ∷ []) refl; some = omega arith }
-
-ring-0101 : IsRing 2 (0 ∷ 1 ∷ 0 ∷ 1 ∷ [])
-ring-0101 = record { word = word_by_test 2 (0 ∷ 1 ∷ 0 ∷ 1 ∷ []) refl; some = omega arith }
-
 twins-184 : IsTwins rule184 (0 ∷ 0 ∷ 1 ∷ 1 ∷ []) (0 ∷ 1 ∷ 0 ∷ 1 ∷ [])
-twins-184 = record {
-  first = ring-0011;
-  second = ring-0101;
-  one_length = refl;
-  different = λ e. let second = ap (λ w. slice_index w 1) e in absurd (omega arith);
-  one_image = refl;
-}
+twins-184 = grind arith
 
 no_twins-184 : ¬ IsTwins rule184 (0 ∷ []) (1 ∷ [])
 no_twins-184 twins = let letter = ap (λ w. slice_index w 0) twins.one_image in absurd (omega arith)
@@ -51,13 +40,7 @@ no_twins-184 twins = let letter = ap (λ w. slice_index w 0) twins.one_image in 
 -- the ring 012 has the sum 3 and becomes 010, whose sum is 1
 
 lossy-012 : IsLossyRing (λ a. a) lossy_at_three (0 ∷ 1 ∷ 2 ∷ [])
-lossy-012 = record {
-  ring = record {
-    word = word_by_test 3 (0 ∷ 1 ∷ 2 ∷ []) refl;
-    some = omega arith;
-  };
-  loses = λ kept. absurd (omega arith);
-}
+lossy-012 = grind arith
 
 -- The shift: its image of two letters is the second one
 
@@ -68,47 +51,25 @@ image-shift = each_of_four (λ x. image shift x ≡ drop 1 x) refl refl refl ref
 same_second : {x y : List ℕ} → HaveOneImage shift 1 x y → drop 1 x ≡ drop 1 y
 same_second {x} {y} h = sym (image-shift x h.first h.first_long) ∙ h.one_image ∙ image-shift y h.second h.second_long
 
-second-letter : (x y : List ℕ) → HaveOneImage shift 1 x y → slice_index x 1 ≡ slice_index y 1
-second-letter x y h = sym (get_or-drop 1 x 0 0) ∙ ap (λ w. slice_index w 0) (same_second h) ∙ get_or-drop 1 y 0 0
-
 -- the words 00 and 10 have one image
 one_image-shift : HaveOneImage shift 1 (0 ∷ 0 ∷ []) (1 ∷ 0 ∷ [])
-one_image-shift = record {
-  first = word_by_test 2 (0 ∷ 0 ∷ []) refl;
-  second = word_by_test 2 (1 ∷ 0 ∷ []) refl;
-  first_long = refl;
-  second_long = refl;
-  one_image = refl;
-}
+one_image-shift = grind arith
 
 window-shift : IsDetermined shift 1 1
-window-shift = record { some = omega arith; inside = omega arith; letter = second-letter }
+window-shift = grind (arith, get_or-drop, same_second)
 
 no_window-shift : ¬ IsDetermined shift 1 0
 no_window-shift determined = let same = determined.letter _ _ one_image-shift in absurd (omega arith)
 
 least_window-shift : IsLeastDetermined shift 1 1
-least_window-shift = record { determined = window-shift; least = before }
-  where
-    before : (n c : ℕ) → WindowBefore n c 1 1 → ¬ IsDetermined shift n c
-    before n c (inl less) determined = let some = determined.some in omega arith
-    before n c (inr same) determined =
-        let least : c ≡ 0 = omega (arith, same.1) in
-        no_window-shift (subst (λ d. IsDetermined shift 1 d) least (subst (λ m. IsDetermined shift m c) same.0 determined))
+least_window-shift = grind (arith, window-shift, no_window-shift)
 
 ahead-shift : IsLeastRightAhead shift 1
-ahead-shift = record {
-  ahead = record { some = omega arith; letter = λ x y h _. second-letter x y h };
-  least = λ n less ahead. let some = ahead.some in omega arith;
-}
+ahead-shift = grind (arith, get_or-drop, same_second)
 
 -- read backwards, the rule that keeps each letter is the shift: the letter before the last one is determined
 left_ahead-stay : IsLeftAhead stay 1
-left_ahead-stay = record {
-  some = omega arith;
-  letter = λ x y h _. second-letter x y
-      (record { first = h.first; second = h.second; first_long = h.first_long; second_long = h.second_long; one_image = h.one_image });
-}
+left_ahead-stay = grind arith
 
 -- the words 00 and 01 begin with 0 and have one image under the rule that is 1 where both cells are
 no_ahead-both : ¬ IsRightAhead both 1
@@ -126,15 +87,7 @@ no_ahead-both ahead = let same = ahead.letter (0 ∷ 0 ∷ []) (0 ∷ 1 ∷ []) 
 -- the difference of each window is the flux over its first node less that over its second: 0 over the node 0, -1 over 1
 
 flux-shift : IsFlux (λ a. a) shift (pos 0 ∷ negsuc 0 ∷ [])
-flux-shift = record { entries = refl; flows = λ w first last word long. flows w word long first last }
-  where
-    minus : (a b first last : ℤ) → Some a ≡ Some first → Some b ≡ Some last → a -ℤ b ≡ first -ℤ last
-    minus a b first last e f = ap₂ (λ (u v : ℤ). u -ℤ v) (same_Some a first e) (same_Some b last f)
-
-    flows : (w : List ℕ) → IsWord 2 w → length w ≡ 2 → (first last : ℤ)
-        → slice_get (pos 0 ∷ negsuc 0 ∷ []) (value 2 (take 1 w)) ≡ Some first → slice_get (pos 0 ∷ negsuc 0 ∷ []) (value 2 (drop 1 w)) ≡ Some last
-        → (pos (local_map shift w) -ℤ pos (slice_index w 0)) ≡ first -ℤ last
-    flows = each_of_four _ (minus (pos 0) (pos 0)) (minus (pos 0) (negsuc 0)) (minus (negsuc 0) (pos 0)) (minus (negsuc 0) (negsuc 0))
+flux-shift = grind arith
 
 -- The backward rank of the nodes 0 and 1 is 0: two words of two letters with one image end with one letter
 
@@ -174,42 +127,17 @@ endless-shift n =
 -- The words 000 and 010 become 00 under the rule that is 1 where both cells are, and begin and end with 0
 
 erasable-both : IsErasable both (0 ∷ 0 ∷ 0 ∷ []) (0 ∷ 1 ∷ 0 ∷ [])
-erasable-both = record {
-  first = word_by_test 2 (0 ∷ 0 ∷ 0 ∷ []) refl;
-  second = word_by_test 2 (0 ∷ 1 ∷ 0 ∷ []) refl;
-  one_length = refl;
-  different = λ e. let second = ap (λ w. slice_index w 1) e in absurd (omega arith);
-  one_image = refl;
-  same_front = refl;
-  same_back = refl;
-}
+erasable-both = grind arith
 
 -- The letters 0 and 1 lead from the node 0 with the label 0: to the pair of 0 and 1, whose number is 1
 
 first_of_right-both : IsFirstOfRight both 1
-first_of_right-both = record {
-  node = 0;
-  a = 0;
-  b = 1;
-  in_nodes = omega arith;
-  a_letter = omega arith;
-  b_letter = omega arith;
-  different = λ e. absurd (omega arith);
-  one_label = refl;
-  pair = refl;
-}
+first_of_right-both = grind arith
 
 -- From the nodes 0 and 1 the letter 0 leads with the label 0
 
 first_of_left-shift : IsFirstOfLeft shift 1
-first_of_left-shift = record {
-  letter = 0;
-  in_pairs = omega arith;
-  in_letters = omega arith;
-  different = λ e. absurd (omega arith);
-  same_rest = refl;
-  one_label = refl;
-}
+first_of_left-shift = grind arith
 
 -- The shift has no first pair of the right, since each label is the letter: the empty list of pairs proves that it is surjective
 
@@ -222,13 +150,7 @@ label-shift u (suc (suc a)) h l = absurd (omega arith)
 label-shift (suc (suc u)) a h l = absurd (omega arith)
 
 pairs-shift : IsPairList shift []
-pairs-shift = record {
-  below = λ p contains. absurd (omega (arith, contains.1));
-  firsts = λ p first. absurd (first.different
-      (sym (label-shift first.node first.a first.in_nodes first.a_letter) ∙ first.one_label ∙ label-shift first.node first.b first.in_nodes first.b_letter));
-  closed = λ p a b q contains. absurd (omega (arith, contains.1));
-  off_diagonal = λ p contains. absurd (omega (arith, contains.1));
-}
+pairs-shift = grind arith
 
 -- The word 1 is the least orphan of the rule that is 0 everywhere: the words before it are the empty one and 0
 
@@ -236,10 +158,7 @@ image-zero_rule : (x : List ℕ) → IsWord 2 x → length x ≡ 2 → image zer
 image-zero_rule = each_of_four (λ x. image zero_rule x ≡ 0 ∷ []) refl refl refl refl
 
 orphan-zero_rule : IsOrphan zero_rule (1 ∷ [])
-orphan-zero_rule = record {
-  word = word_by_test 2 (1 ∷ []) refl;
-  none = λ x p. let same = ap (λ w. slice_index w 0) (sym (image-zero_rule x p.word p.long) ∙ p.maps) in omega arith;
-}
+orphan-zero_rule = grind arith
 
 least_orphan-zero_rule : IsLeastOrphan zero_rule (1 ∷ [])
 least_orphan-zero_rule = record { orphan = orphan-zero_rule; least = least }

@@ -26,7 +26,8 @@ IsGrown-more {letters} more h grown = record {
 }
 
 -- the row of a word that was added behind the letters
-pub IsRow-added : (before : List ℕ) {after word : List ℕ} {row : LetterRow} → after ≡ before ++ word → row.begin ≡ length before → row.length ≡ length word → IsRow after row word
+pub IsRow-added : (before : List ℕ) {after word : List ℕ} {row : LetterRow} → after ≡ before ++ word → row.begin ≡ length before
+    → row.length ≡ length word → IsRow after row word
 IsRow-added before {after} {word} {row} grown begins long = record {
   within = omega (arith, begins, long, ap length grown, length-append before word);
   same =
@@ -47,13 +48,16 @@ IsRow-grown {letters} {after} {word} {row} grown h =
     }
 
 -- the rows of two words keep the words where letters are added
-pub AreTwinRows-grown : {letters after x y : List ℕ} {rows : TwinRows} → IsGrown letters after → AreTwinRows letters rows x y → AreTwinRows after rows x y
+pub AreTwinRows-grown : {letters after x y : List ℕ} {rows : TwinRows} → IsGrown letters after → AreTwinRows letters rows x y
+    → AreTwinRows after rows x y
 AreTwinRows-grown grown h = record { first = IsRow-grown grown h.first; second = IsRow-grown grown h.second }
 
 -- the rows of a configuration keep its parts where letters are added
-pub AreTailRows-grown : {letters after : List ℕ} {rows : TailRows} {t : TailConfig} → IsGrown letters after → AreTailRows letters rows t → AreTailRows after rows t
+pub AreTailRows-grown : {letters after : List ℕ} {rows : TailRows} {t : TailConfig} → IsGrown letters after → AreTailRows letters rows t
+    → AreTailRows after rows t
 AreTailRows-grown grown h = record { left = IsRow-grown grown h.left; middle = IsRow-grown grown h.middle; right = IsRow-grown grown h.right }
 
 -- the rows of two configurations keep their parts where letters are added
-pub AreSplitRows-grown : {letters after : List ℕ} {rows : SplitRows} {x y : TailConfig} → IsGrown letters after → AreSplitRows letters rows x y → AreSplitRows after rows x y
+pub AreSplitRows-grown : {letters after : List ℕ} {rows : SplitRows} {x y : TailConfig} → IsGrown letters after → AreSplitRows letters rows x y
+    → AreSplitRows after rows x y
 AreSplitRows-grown grown h = record { first = AreTailRows-grown grown h.first; second = AreTailRows-grown grown h.second }

@@ -34,25 +34,30 @@ SaysSide-grown letters after holds ahead split (Ahead n) grown h = h
 SaysSide-grown letters after holds ahead split (Split x y) grown h = (h.0, h.1, AreSplitRows-grown grown h.2)
 
 -- the report that is written is the right one
-pub IsReported-written : {r : LocalRule} {weights : Option (List ℕ)} {e : Evidence} {v : RuleReport} {letters : List ℕ} → IsRule r → IsFinding (Question.Report r weights) (Finding.Report e)
+pub IsReported-written : {r : LocalRule} {weights : Option (List ℕ)} {e : Evidence} {v : RuleReport} {letters : List ℕ} → IsRule r
+    → IsFinding (Question.Report r weights) (Finding.Report e)
     → letters ≡ letters_in e → IsReportOf letters e v → IsReported r weights v letters
 IsReported-written {e = e} {v = v} rule fits same says = rw same (IsReported.Found e v rule fits (rw same at says))
 
 -- there is no report where there isn't one weight for each letter
-pub IsReported-none : {r : LocalRule} {weights : Option (List ℕ)} {v : RuleReport} {letters : List ℕ} → IsRule r → ¬ AreFor weights r → v ≡ no_report 18 → letters ≡ [] → IsReported r weights v letters
+pub IsReported-none : {r : LocalRule} {weights : Option (List ℕ)} {v : RuleReport} {letters : List ℕ} → IsRule r → ¬ AreFor weights r
+    → v ≡ no_report 18 → letters ≡ [] → IsReported r weights v letters
 IsReported-none rule none same empty = rw (same, empty) (IsReported.NoWeights rule none)
 
 -- there is no report where there is no rule
-pub IsReported-fault : (r : LocalRule) {weights : Option (List ℕ)} {v : RuleReport} {letters : List ℕ} {code : ℕ} (f : RuleFault) → Some f ≡ rule_fault r.states r.width r.offset r.table
+pub IsReported-fault : (r : LocalRule) {weights : Option (List ℕ)} {v : RuleReport} {letters : List ℕ} {code : ℕ} (f : RuleFault)
+    → Some f ≡ rule_fault r.states r.width r.offset r.table
     → code ≡ fault_code (Some f) → v ≡ no_report code → letters ≡ [] → IsReported r weights v letters
 IsReported-fault r f fault coded same empty = rw (same, empty, coded) (IsReported.NoRule f (sym fault))
 
 -- the report is handed back, and all letters
-pub IsReportCall-whole : {r : LocalRule} {weights : Option (List ℕ)} {was v : RuleReport} {before after letters bytes : List ℕ} {len : ℕ} → IsReported r weights v letters → len ≡ length letters
+pub IsReportCall-whole : {r : LocalRule} {weights : Option (List ℕ)} {was v : RuleReport} {before after letters bytes : List ℕ} {len : ℕ}
+    → IsReported r weights v letters → len ≡ length letters
     → bytes ≡ letters → length bytes ≤ length before → after ≡ bytes ++ drop (length bytes) before → IsReportCall r weights was before 0 len v after
 IsReportCall-whole {v = v} {letters = letters} made long same fits put = rw (long, put, same) (IsReportCall.Whole v letters made (rw same at fits))
 
 -- the length of letters that don't fit
-pub IsReportCall-short : {r : LocalRule} {weights : Option (List ℕ)} {was v : RuleReport} {before after letters bytes : List ℕ} {len : ℕ} → IsReported r weights v letters → len ≡ length letters
+pub IsReportCall-short : {r : LocalRule} {weights : Option (List ℕ)} {was v : RuleReport} {before after letters bytes : List ℕ} {len : ℕ}
+    → IsReported r weights v letters → len ≡ length letters
     → bytes ≡ letters → ¬ (length bytes ≤ length before) → after ≡ before → IsReportCall r weights was before 10 len was after
 IsReportCall-short {v = v} {letters = letters} made long same over kept = rw (long, kept) (IsReportCall.Short v letters made (omega (arith, over, ap length same)))

@@ -1,6 +1,6 @@
 -- The least rules of the classes of some rules, one rule more at a time, and what is kept for them.
 use borrow.Author.Tests.{eqb-true}
-use Rattle.std.proofs.Common.{◌≡◌, ◌≢◌, ◌↔◌, ℕ, nat_eq, Bool, true, false, true≢false, IsTrue, List, [], ◌∷◌, ◌++◌, length, get_or, is_some, None, Some, All, Contains, pos, refl, sym, ap, subst, ◌∙◌, arith}
+use Rattle.std.proofs.Common.{◌≡◌, ◌≢◌, ℕ, nat_eq, Bool, true, false, true≢false, List, [], ◌∷◌, ◌++◌, get_or, is_some, None, Some, All, Contains, pos, refl, sym, ap, subst, ◌∙◌}
 use Rattle.std.specs.Map.{keys_of, lookup}
 use Rattle.std.proofs.lemmas.Cmp.{nat_eq_equiv}
 use Rattle.std.proofs.lemmas.List.Quantifiers.{all_pairs_push}
@@ -23,7 +23,8 @@ abbrev IsNeeded : List LocalRule → LocalRule → Type 0
 IsNeeded rules g = (r : LocalRule) × Contains rules r × IsLeastOfItsClass r g
 
 -- the least rules of one rule more: its least rule is added to the list
-pub AreLeastRules-push : {rules leasts more : List LocalRule} {r g : LocalRule} → IsLeastOfItsClass r g → IsRuleAdded g leasts more → AreLeastRules rules leasts → AreLeastRules (rules ++ r ∷ []) more
+pub AreLeastRules-push : {rules leasts more : List LocalRule} {r g : LocalRule} → IsLeastOfItsClass r g → IsRuleAdded g leasts more
+    → AreLeastRules rules leasts → AreLeastRules (rules ++ r ∷ []) more
 AreLeastRules-push {rules = rules} {r = r} {g = g} least (Old leasts there) are = record {
   distinct = are.distinct;
   complete = All-push (HasLeast leasts) rules r are.complete (g, there, least);
@@ -42,8 +43,7 @@ AreLeastRules-push {rules = rules} {r = r} {g = g} least (New leasts absent) are
 -- the rule of an entry is among the rules
 Contains-rules_in : (k m : ℕ) (entries : List (ℕ × Truths)) (e : ℕ × Truths) → Contains entries e → Contains (rules_in k m entries) (rule_in k m e)
 Contains-rules_in k m entries e (i, within, at) =
-    let long : length (rules_in k m entries) ≡ length entries = length-map entries (rule_in k m) in
-    (i, omega arith, get_or-map (rule_in k m) entries i e (rule_in k m e) within ∙ ap (rule_in k m) at)
+    (i, rw length-map within, get_or-map (rule_in k m) entries i e (rule_in k m e) within ∙ ap (rule_in k m) at)
 
 module _ {k m : ℕ} (entries : List (ℕ × Truths)) (decided : All (IsDecided k m) entries) {r : LocalRule} (accepted : IsRule r)
     (states : r.states ≡ k) (width : r.width ≡ m) (offset : r.offset ≡ pos 0) where
@@ -53,7 +53,7 @@ module _ {k m : ℕ} (entries : List (ℕ × Truths)) (decided : All (IsDecided 
       let among = Contains-from_lookup eqb-true (wolfram_number r) t entries found in
       let is : IsDecided k m (wolfram_number r, t) = All-contains (IsDecided k m) entries (wolfram_number r, t) decided among in
       let same : rule_in k m (wolfram_number r, t) ≡ r = same_number is.accepted accepted (sym states) (sym width) (sym offset) is.number in
-      (subst (λ (q : LocalRule). AreTruths q t) same is.truths, subst (Contains (rules_in k m entries)) same (Contains-rules_in k m entries (wolfram_number r, t) among))
+      (subst (λ (q : LocalRule). AreTruths q t) same is.truths, rw same at (Contains-rules_in k m entries (wolfram_number r, t) among))
 
   -- where nothing is found the rule isn't among them
   pub decided_absent : lookup (nat_eq (wolfram_number r)) entries ≡ None → ¬ Contains (rules_in k m entries) r
@@ -64,15 +64,10 @@ module _ {k m : ℕ} (entries : List (ℕ × Truths)) (decided : All (IsDecided 
       others i d within same =
           let is : IsDecided k m (get_or entries i d) = decided i d within in
           let key : (get_or entries i d).0 ≡ wolfram_number r = sym is.number ∙ ap wolfram_number same in
-          let long : length (keys_of entries) ≡ length entries = length-map entries (λ (e : ℕ × Truths). e.0) in
-          let among : Contains (keys_of entries) (wolfram_number r) = (i, omega arith, get_or-map (λ (e : ℕ × Truths). e.0) entries i d (wolfram_number r) within ∙ key) in
+          let among : Contains (keys_of entries) (wolfram_number r) = (i, rw length-map within, get_or-map (λ (e : ℕ × Truths). e.0) entries i d (wolfram_number r) within ∙ key) in
           true≢false (sym (IsSome-lookup_from_Contains nat_eq_equiv (wolfram_number r) entries among) ∙ ap is_some none)
 
 -- the least rule of a class has the shape of the rule, at offset 0
 pub least_shape : {r g : LocalRule} (mirror : Bool) → IsLeastOfClass r mirror g → (g.states ≡ r.states) × (g.width ≡ r.width) × (g.offset ≡ pos 0)
 least_shape true is = ((is.member).recoloured.states, (is.member).recoloured.width, (is.member).offset)
 least_shape false is = ((is.member).recoloured.states, (is.member).recoloured.width, (is.member).offset)
-
--- a verdict on one rule is that on another of which the same is true
-pub verdict_through : {b : Bool} {P Q : Type 0} → IsTrue b ↔ P → Q ↔ P → IsTrue b ↔ Q
-verdict_through is same = ((λ yes. same.1 (is.0 yes)), (λ holds. is.1 (same.0 holds)))

@@ -1,5 +1,5 @@
 -- Counts of rules, one rule more at a time.
-use Rattle.std.proofs.Common.{◌≡◌, ℕ, Bool, true, false, ◌+◌, ◌≤◌, List, [], ◌∷◌, ◌++◌, length, refl, sym, subst, arith, ◌↔◌, IsTrue}
+use Rattle.std.proofs.Common.{◌≡◌, ℕ, Bool, true, false, ◌+◌, ◌≤◌, List, [], ◌∷◌, ◌++◌, length, refl, subst, arith, ◌↔◌, IsTrue}
 use Rattle.word_image.proofs.Common.{from_bool, false≢true, LocalRule}
 use Rattle.ca_questions.proofs.Common.{AreMany}
 use Rattle.ca_questions.specs.Counts.AreMany.{None, One, Other}
@@ -15,15 +15,11 @@ one_rule : {Has : LocalRule → Type 0} (r : LocalRule) (b : Bool) → (IsTrue b
 one_rule r true is = One r [] 0 (is.0 refl) None
 one_rule r false is = Other r [] 0 (λ has. false≢true (is.1 has)) None
 
--- n of some rules and j of more rules are n + j of all
-AreMany-append : {Has : LocalRule → Type 0} {rules more : List LocalRule} {n j : ℕ} → AreMany Has rules n → AreMany Has more j → AreMany Has (rules ++ more) (n + j)
-AreMany-append {Has = Has} {more = more} {j = j} None others = subst (AreMany Has more) (omega arith) others
-AreMany-append {Has = Has} {more = more} {j = j} (One r rules n has rest) others =
-    subst (AreMany Has (r ∷ (rules ++ more))) (omega arith) (One r (rules ++ more) (n + j) has (AreMany-append rest others))
-AreMany-append (Other r rules n lacks rest) others = Other r _ _ lacks (AreMany-append rest others)
-
 -- of one rule more as many more have a property as its test says, 0 or 1
-pub AreMany-push : {Has : LocalRule → Type 0} {rules : List LocalRule} {n : ℕ} (r : LocalRule) {b : Bool} {j : ℕ} → j ≡ from_bool b → (IsTrue b ↔ Has r)
+pub AreMany-push : {Has : LocalRule → Type 0} {rules : List LocalRule} {n : ℕ} (r : LocalRule) {b : Bool} {j : ℕ} → j ≡ from_bool b
+    → (IsTrue b ↔ Has r)
     → AreMany Has rules n → AreMany Has (rules ++ r ∷ []) (n + j)
-AreMany-push {Has = Has} {rules = rules} {n = n} r {b = b} one is many =
-    subst (λ j. AreMany Has (rules ++ r ∷ []) (n + j)) (sym one) (AreMany-append many (one_rule r b is))
+AreMany-push {Has = Has} r {b = b} one is None = subst (AreMany Has (r ∷ [])) (omega (arith, one)) (one_rule r b is)
+AreMany-push {Has = Has} r {j = j} one is (One q rules n has rest) =
+    subst (AreMany Has (q ∷ (rules ++ r ∷ []))) (omega arith) (One q (rules ++ r ∷ []) (n + j) has (AreMany-push r one is rest))
+AreMany-push r one is (Other q rules n lacks rest) = Other q _ _ lacks (AreMany-push r one is rest)

@@ -5,12 +5,13 @@ use Rattle.word_image.proofs.Common.{leb_tells}
 use Rattle.ca_questions.proofs.Common.{Reply}
 use Rattle.ca_commands.specs.Commands.{Command, IsCommand}
 use Rattle.ca_commands.specs.Asking.{NeedMemory}
+use Rattle.ca_commands.proofs.laws.FirstBytes.{IsFirstByte}
 use Rattle.ca_commands.proofs.laws.Short.{IsCommand-short}
 use Rattle.ca_cli.specs.declared.status.Status.{Status}
 use Rattle.ca_cli.specs.RightAnswers.{IsReplyTo}
 use Rattle.ca_c.specs.Blocks.{AreFirstWords, AreWords, kept_words}
 use Rattle.ca_c.specs.Calls.{IsAnswerBy, IsAnswerIn, MayLackMemory}
-use Rattle.ca_c.proofs.laws.Blocks.{HasDone, HasDone-end, HasDone-next, IsWordEnd}
+use Rattle.ca_c.proofs.laws.Blocks.{HasDone, HasDone-end, HasDone-next}
 
 -- `first` has the words of the block that are done, or the first of them if there are more than are kept
 pub record HasBegun (block rest : List ℕ) (first : List (List ℕ)) : Type 0 where
@@ -25,7 +26,8 @@ take-take-append (suc n) [] ys = refl
 take-take-append (suc n) (x ∷ xs) ys = ap (λ (v : List (List ℕ)). x ∷ v) (take-take-append n xs ys)
 
 -- a further word of the block is kept if there is a place for it
-pub HasBegun-next : {block rest word : List ℕ} {first next : List (List ℕ)} (end len : ℕ) → HasBegun block rest first → IsWordEnd rest end → word ≡ take end rest → IsUtf8 (take end rest)
+pub HasBegun-next : {block rest word : List ℕ} {first next : List (List ℕ)} (end len : ℕ) → HasBegun block rest first → IsFirstByte 0 rest end
+    → word ≡ take end rest → IsUtf8 (take end rest)
     → len ≡ length rest → next ≡ take kept_words (first ++ word ∷ []) → HasBegun block (take (len - (end + 1)) (drop (end + 1) rest)) next
 HasBegun-next {word = word} {first = first} end len begun at same text long kept = record {
   done = begun.done ++ word ∷ [];
@@ -49,7 +51,8 @@ command_words : {block : List ℕ} {first : List (List ℕ)} {c : Command} → A
 command_words {block = block} h is = subst (AreWords block) (sym (all_words h (IsCommand-short is))) h.in_block
 
 -- all words are no command if the first words are none
-no_command : {block : List ℕ} {first : List (List ℕ)} {c : Command} (h : AreFirstWords block first) → ((c : Command) → ¬ IsCommand first c) → ¬ IsCommand h.words c
+no_command : {block : List ℕ} {first : List (List ℕ)} {c : Command} (h : AreFirstWords block first) → ((c : Command) → ¬ IsCommand first c)
+    → ¬ IsCommand h.words c
 no_command {c = c} h none is =
     let few = IsCommand-short is in
     none c (subst (λ words. IsCommand words c) (sym (h.begin ∙ take_all kept_words h.words (omega (arith, few)))) is)

@@ -27,7 +27,8 @@ found_fits few are (IsFinding.Gap r t before after w short gap) = inr (length-ga
 found_fits few are right = inr tt
 
 -- a right reply to words has a text that fits the room, or the words may need memory
-pub IsReplyTo-fits : {words : List (List ℕ)} {input : Option (List ℕ)} {reply : Reply} → HaveFewClasses → IsReplyTo words input reply → NeedMemory words ⊎ FitsRoom reply
+pub IsReplyTo-fits : {words : List (List ℕ)} {input : Option (List ℕ)} {reply : Reply} → HaveFewClasses → IsReplyTo words input reply
+    → NeedMemory words ⊎ FitsRoom reply
 IsReplyTo-fits few (IsReplyTo.Usage none) = inr tt
 IsReplyTo-fits few (IsReplyTo.Right c reply is (IsReply.Found _ q f asked right)) = elim (found_fits few (AreRules-asked asked.texts asked.asks) right) [ inl needs ↦ inl (inr (q, record { command = c; is = is; asked = asked }, needs)) | inr fits ↦ inr fits ]
 IsReplyTo-fits few (IsReplyTo.Right c reply is (IsReply.NoFit _ q u asked unfits)) = inr tt

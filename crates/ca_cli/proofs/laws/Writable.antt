@@ -25,7 +25,8 @@ second_rule : {texts : List (List ℕ)} {r s : LocalRule} {rules : List LocalRul
 second_rule (AreRuleTexts.More text texts r rules says rest) = first_rule rest
 
 -- a question is one of many rules, or its rules are accepted ones
-pub AreRules-asked : {texts : List (List ℕ)} {n : Name} {rules : List LocalRule} {operands : List (List ℕ)} {q : Question} → AreRuleTexts texts rules → Asks n rules operands q → IsOfMany q ⊎ AreRules q
+pub AreRules-asked : {texts : List (List ℕ)} {n : Name} {rules : List LocalRule} {operands : List (List ℕ)} {q : Question} → AreRuleTexts texts rules
+    → Asks n rules operands q → IsOfMany q ⊎ AreRules q
 AreRules-asked are (Asks.Survey k m from count none) = inl tt
 AreRules-asked are (Asks.Sample k m seed count none) = inl tt
 AreRules-asked are (Asks.Classes k m from count none) = inl tt
@@ -55,6 +56,7 @@ reply_writable law (IsReply.NoFit c q u asked unfits) = elim (AreRules-asked ask
 reply_writable law _ = tt
 
 -- a right reply to words can be written
-pub IsReplyTo-writable : {words : List (List ℕ)} {input : Option (List ℕ)} {reply : Reply} → AreWritable → IsReplyTo words input reply → IsWritableReply reply
+pub IsReplyTo-writable : {words : List (List ℕ)} {input : Option (List ℕ)} {reply : Reply} → AreWritable → IsReplyTo words input reply
+    → IsWritableReply reply
 IsReplyTo-writable law (IsReplyTo.Usage none) = tt
 IsReplyTo-writable law (IsReplyTo.Right c reply is right) = reply_writable law right

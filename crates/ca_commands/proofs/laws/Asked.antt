@@ -26,7 +26,8 @@ AreRuleTexts-unique (AreRuleTexts.More text texts r rules says rest) (AreRuleTex
     ap₂ (λ (p : LocalRule) (ps : List LocalRule). p ∷ ps) (IsRuleText-unique says also) (AreRuleTexts-unique rest rest')
 
 -- a name, rules and operands ask one question
-Asks-unique : {n : Name} {rules : List LocalRule} {operands : List (List ℕ)} {p q : Question} → Asks n rules operands p → Asks n rules operands q → p ≡ q
+Asks-unique : {n : Name} {rules : List LocalRule} {operands : List (List ℕ)} {p q : Question} → Asks n rules operands p → Asks n rules operands q
+    → p ≡ q
 Asks-unique (Asks.Shift r text by says) (Asks.Shift _ _ other also) = ap (Question.Shift r) (IsOffset-unique says also)
 Asks-unique (Asks.Preimage r text t parts) (Asks.Preimage _ _ u also) = ap (Question.Preimage r) (HasParts-unique parts also)
 Asks-unique (Asks.Decide r operands) (Asks.Decide _ _) = refl
@@ -62,7 +63,8 @@ texts_without_fault (AreRuleTexts.More text texts r rules says rest) (IsFirstFau
 texts_without_fault (AreRuleTexts.More text texts r rules says rest) (IsFirstFault.Later _ _ s i f also fault) = texts_without_fault rest fault
 
 -- a shape that is asked about has no fault
-shape_without_fault : {n : Name} {rules : List LocalRule} {operands : List (List ℕ)} {q : Question} {f : TextFault} → Asks n rules operands q → IsShapeFault (form_of n) operands f → ⊥
+shape_without_fault : {n : Name} {rules : List LocalRule} {operands : List (List ℕ)} {q : Question} {f : TextFault} → Asks n rules operands q
+    → IsShapeFault (form_of n) operands f → ⊥
 shape_without_fault (Asks.Survey k m from count none) (IsShapeFault.Numbers _ _ _ _ f is) = none-some f (sym none ∙ is)
 shape_without_fault (Asks.Sample k m seed count none) (IsShapeFault.Seed _ _ _ _ f is) = none-some f (sym none ∙ is)
 shape_without_fault (Asks.Classes k m from count none) (IsShapeFault.Numbers _ _ _ _ f is) = none-some f (sym none ∙ is)
@@ -82,6 +84,7 @@ fault_behind (IsFirstFault.Here text texts f is) = omega arith
 fault_behind (IsFirstFault.Later text texts r i f says fault) = omega arith
 
 -- `check` has no operand that is refused
-pub IsOperandFault-reads_nothing : {words : List (List ℕ)} {c : Command} {i : ℕ} {f : TextFault} → IsCommand words c → IsOperandFault c i f → c.name ≢ name.Check
+pub IsOperandFault-reads_nothing : {words : List (List ℕ)} {c : Command} {i : ℕ} {f : TextFault} → IsCommand words c → IsOperandFault c i f
+    → c.name ≢ name.Check
 IsOperandFault-reads_nothing is (IsOperandFault.OfRule c i f fault) check = let none : rule_count c.name ≡ 0 = ap rule_count check in omega (arith, fault_behind fault, is.rules, none)
 IsOperandFault-reads_nothing is (IsOperandFault.OfShape c f fault) check = elim (subst (λ n. IsShapeFault (form_of n) c.operands f) check fault) [ ]

@@ -20,7 +20,8 @@ AreWeightWords-operands (text ∷ []) _ one are = absurd are
 AreWeightWords-operands _ _ one are = absurd (omega (arith, one))
 
 -- behind the name of such a command stand a rule, and weights or nothing
-pub AreWeightWords-behind : (n : Name) {rest : List (List ℕ)} {c : Command} → rule_count n ≡ 1 → form_of n ≡ Form.Weights → IsCommand (word_of n ∷ rest) c → AreWeightWords rest
+pub AreWeightWords-behind : (n : Name) {rest : List (List ℕ)} {c : Command} → rule_count n ≡ 1 → form_of n ≡ Form.Weights
+    → IsCommand (word_of n ∷ rest) c → AreWeightWords rest
 AreWeightWords-behind n {rest} {c} one form is =
     let same : c.name ≡ n = sym (word_of-injective n c.name cc) in
     let split : rest ≡ c.rules ++ c.operands = cc in

@@ -19,7 +19,8 @@ pub some_place : {number left place end : ℕ} {bytes before : List ℕ} → Are
 some_place {left = n} are fits = omega (arith, are.room, some_digit n fits)
 
 -- if a number has two digits or more, its last digit can be written, and those of its tenth are left
-pub AreLeft-step : {number left place end : ℕ} {bytes before : List ℕ} → AreLeft number left place end bytes before → 10 ≤ left → left < 2 ^ 128 → place ≤ length bytes
+pub AreLeft-step : {number left place end : ℕ} {bytes before : List ℕ} → AreLeft number left place end bytes before → 10 ≤ left → left < 2 ^ 128
+    → place ≤ length bytes
     → AreLeft number (left / 10) (place - 1) end (set bytes (place - 1) (48 + left % 10)) before
 AreLeft-step {left = n} {place = place} {bytes = bytes} are more fits long =
     let step = decimal_step_wide n more (omega arith) in

@@ -6,7 +6,8 @@ use Rattle.ca_text.specs.Reports.{line}
 use Rattle.ca_text.specs.StatusLines.{weights_lines}
 
 -- weights that are not own ones have a line
-pub weights_lines-other : (weights : List ℕ) → ¬ (weights ≡ own_weights (length weights)) → weights_lines weights ≡ line (codes "weights " ++ join_by decimal (codes ",") weights)
+pub weights_lines-other : (weights : List ℕ) → ¬ (weights ≡ own_weights (length weights))
+    → weights_lines weights ≡ line (codes "weights " ++ join_by decimal (codes ",") weights)
 weights_lines-other weights other =
     let same = bytes_eq-Decides weights (own_weights (length weights)) in
     let text = line (codes "weights " ++ join_by decimal (codes ",") weights) in

@@ -1,6 +1,6 @@
 -- The first pairs of a side, told by the letters of their nodes.
-use Rattle.std.proofs.Common.{◌≡◌, ◌≢◌, ℕ, ◌+◌, ◌-◌, ◌*◌, ◌/◌, ◌%◌, ◌<◌, slice_index, refl, sym, ap, ap₂, ◌∙◌, subst, arith, mul_comm, mod-lt, div-add-mod'}
-use Rattle.word_image.proofs.Common.{mul-add-lt, div_below, div-mul-add, mod-mul-add, LocalRule, IsRule, node_count, value, word_of, next, node_letter, pair_of, first_of, second_of, pair_count, IsFirstOfRight, IsFirstOfLeft, IsFirstOf, value-word_of, next-below, rest_count, power-below, node_count-rest, window_parts, node_parts, window_with, other}
+use Rattle.std.proofs.Common.{◌↔◌, ◌≡◌, ◌≢◌, ℕ, ◌+◌, ◌-◌, ◌*◌, ◌/◌, ◌%◌, ◌<◌, slice_index, refl, sym, ap, ap₂, ◌∙◌, subst, arith, mul_comm, mod-lt, div-add-mod', rules}
+use Rattle.word_image.proofs.Common.{mul-add-lt, div_below, div-mul-add, mod-mul-add, LocalRule, IsRule, node_count, value, word_of, next, first_of, second_of, pair_count, IsFirstOfRight, IsFirstOfLeft, IsFirstOf, value-word_of, next-below, rest_count, power-below, node_count-rest, window_parts, node_parts, window_with, other}
 use Rattle.pair_laws.proofs.Common.{next-digits, first_of-pair_of, second_of-pair_of, pair_of-first_of, first_of-below, second_of-below}
 use Rattle.word_image.specs.declared.side.Side.{Side}
 use Rattle.word_image.specs.declared.side.Side.TheVariants.{Right, Left}
@@ -17,49 +17,34 @@ DifferAtEnd side r u v = (u ≢ v) × (rest_of side r u ≡ rest_of side r v) ×
 -- the node to which a letter leads: its last letter, its other letters, and the window that ends with it
 next_parts : {r : LocalRule} → IsRule r → (w a : ℕ) → a < r.states
     → (next r w a % r.states ≡ a) × (next r w a / r.states ≡ w % rest_count r) × (w / rest_count r * node_count r + next r w a ≡ w * r.states + a)
-next_parts {r} rule w a letter =
-    let rest : ℕ = w % rest_count r in
-    let node = next-digits rule w a letter in
-    let window = window_parts rule (w / rest_count r) rest a ∙ ap (λ z. z * r.states + a) (div-add-mod' w (rest_count r)) in (
-      ap (λ z. z % r.states) node ∙ mod-mul-add rest r.states a letter,
-      ap (λ z. z / r.states) node ∙ div-mul-add rest r.states a letter,
-      ap (λ z. w / rest_count r * node_count r + z) node ∙ window,
-    )
+next_parts rule w a letter = search (rules, window_parts, div-add-mod', next-digits, mod-mul-add, div-mul-add)
 
 -- the nodes of a first pair of the right differ in their last letter alone
 DifferAtEnd-right : {r : LocalRule} {p : ℕ} → IsRule r → IsFirstOfRight r p → DifferAtEnd Right r (first_of r p) (second_of r p)
 DifferAtEnd-right {r} {p} rule f =
     let k : ℕ = r.states in
-    let some = power-below rule (r.width - 2) (omega arith) in
     let c : ℕ = f.node / rest_count r in
     let first : first_of r p ≡ next r f.node f.a = ap (first_of r) f.pair ∙ first_of-pair_of r _ _ (next-below rule f.node f.b) in
     let second : second_of r p ≡ next r f.node f.b = ap (second_of r) f.pair ∙ second_of-pair_of r _ _ (next-below rule f.node f.b) in
     let one = next_parts rule f.node f.a f.a_letter in
     let two = next_parts rule f.node f.b f.b_letter in
-    let letter : c < k = div_below f.node (rest_count r) k some.0 (subst (λ n. f.node < n) (node_count-rest rule ∙ mul_comm (rest_count r) k) f.in_nodes) in (
-      λ e. f.different (sym one.0 ∙ ap (λ z. z % k) (sym first ∙ e ∙ second) ∙ two.0),
-      ap (λ z. z / k) first ∙ one.1 ∙ sym (ap (λ z. z / k) second ∙ two.1),
-      (
-        c,
-        letter,
-        ap (λ z. slice_index r.table (c * node_count r + z)) first ∙ ap (slice_index r.table) one.2 ∙ f.one_label
-            ∙ ap (slice_index r.table) (sym two.2) ∙ ap (λ z. slice_index r.table (c * node_count r + z)) (sym second),
-      ),
-    )
+    let letter : c < k = div_below f.node (rest_count r) k (power-below rule (r.width - 2) (omega arith)).0 (rw (node_count-rest rule, mul_comm (rest_count r) k) at f.in_nodes) in
+    rw (first, second) ((λ e. f.different (sym one.0 ∙ ap (λ z. z % k) e ∙ two.0)), one.1 ∙ sym two.1, (c, letter, rw (one.2, two.2) f.one_label))
 
 -- two nodes that differ in their last letter alone are a first pair of the right
-IsFirstOfRight-differ : {r : LocalRule} {p : ℕ} → IsRule r → p < pair_count r → DifferAtEnd Right r (first_of r p) (second_of r p) → IsFirstOfRight r p
+IsFirstOfRight-differ : {r : LocalRule} {p : ℕ} → IsRule r → p < pair_count r → DifferAtEnd Right r (first_of r p) (second_of r p)
+    → IsFirstOfRight r p
 IsFirstOfRight-differ {r} {p} rule in_pairs (apart, rest, (c, letter, one_label)) =
     let k : ℕ = r.states in
     let u : ℕ = first_of r p in
     let v : ℕ = second_of r p in
-    let some : 0 < k = omega (arith, rule.shape.least_states) in
+    let some : 0 < k = omega arith in
     let hu : u < node_count r = first_of-below rule p in_pairs in
     let node : ℕ = c * rest_count r + u / k in
     let from : (x : ℕ) → u / k ≡ x / k → node * k + x % k ≡ c * node_count r + x = λ x same.
     ap (λ s. (c * rest_count r + s) * k + x % k) same ∙ sym (window_parts rule c (x / k) (x % k)) ∙ ap (λ z. c * node_count r + z) (div-add-mod' x k) in
-    let leads : (x : ℕ) → u / k ≡ x / k → x < node_count r → next r node (x % k) ≡ x = λ x same h. ap (λ z. z % node_count r) (from x same) ∙ mod-mul-add c (node_count r) x h in
-    let below : u / k < rest_count r = div_below u k (rest_count r) some (subst (λ n. u < n) (node_count-rest rule) hu) in
+    let leads : (x : ℕ) → u / k ≡ x / k → x < node_count r → next r node (x % k) ≡ x = grind (arith, mod-mul-add) in
+    let below : u / k < rest_count r = grind (arith, div_below, node_count-rest) in
     record {
       node = node;
       a = u % k;
@@ -68,20 +53,16 @@ IsFirstOfRight-differ {r} {p} rule in_pairs (apart, rest, (c, letter, one_label)
       a_letter = mod-lt u some;
       b_letter = mod-lt v some;
       different = λ e. apart (sym (div-add-mod' u k) ∙ ap₂ (λ (i j : ℕ). i * k + j) rest e ∙ div-add-mod' v k);
-      one_label = ap (slice_index r.table) (from u refl) ∙ one_label ∙ ap (slice_index r.table) (sym (from v rest));
-      pair = sym (pair_of-first_of r p) ∙ ap₂ (pair_of r) (sym (leads u refl hu)) (sym (leads v rest (second_of-below rule p)));
+      one_label = rw (from u refl, from v rest) one_label;
+      pair = rw (leads u refl hu, leads v rest (second_of-below rule p)) (sym (pair_of-first_of r p));
     }
 
 -- the nodes of a first pair of the left differ in their first letter alone
 DifferAtEnd-left : {r : LocalRule} {p : ℕ} → IsRule r → IsFirstOfLeft r p → DifferAtEnd Left r (first_of r p) (second_of r p)
 DifferAtEnd-left {r} {p} rule f =
     let some = power-below rule (r.width - 2) (omega arith) in
-    let at : (u : ℕ) → value r.states (word_of r.states (r.width - 2) (u % rest_count r)) ≡ u % rest_count r = λ u. value-word_of r.states (r.width - 2) (u % rest_count r) (mod-lt u some.0) in
-    let words = sym (node_parts rule (first_of r p)).1 ∙ f.same_rest ∙ (node_parts rule (second_of r p)).1 in (
-      λ e. f.different (ap (λ u. node_letter r u 0) e),
-      sym (at (first_of r p)) ∙ ap (value r.states) words ∙ at (second_of r p),
-      (f.letter, f.in_letters, f.one_label),
-    )
+    let at : (u : ℕ) → value r.states (word_of r.states (r.width - 2) (u % rest_count r)) ≡ u % rest_count r = grind (arith, value-word_of) in
+    let words = sym (node_parts rule (first_of r p)).1 ∙ f.same_rest ∙ (node_parts rule (second_of r p)).1 in grind arith
 
 -- two nodes that differ in their first letter alone are a first pair of the left
 IsFirstOfLeft-differ : {r : LocalRule} {p : ℕ} → IsRule r → p < pair_count r → DifferAtEnd Left r (first_of r p) (second_of r p) → IsFirstOfLeft r p
@@ -92,19 +73,13 @@ IsFirstOfLeft-differ {r} {p} rule in_pairs (apart, rest, (c, letter, one_label))
       letter = c;
       in_pairs = in_pairs;
       in_letters = letter;
-      different = λ same.
-          let first : u / rest_count r ≡ v / rest_count r = sym (node_parts rule u).0 ∙ same ∙ (node_parts rule v).0 in
-          apart (sym (div-add-mod' u (rest_count r)) ∙ ap₂ (λ (i j : ℕ). i * rest_count r + j) first rest ∙ div-add-mod' v (rest_count r));
+      different = grind (arith, node_parts);
       same_rest = (node_parts rule u).1 ∙ ap (word_of r.states (r.width - 2)) rest ∙ sym (node_parts rule v).1;
       one_label = one_label;
     }
 
 -- a pair is a first one of a side exactly where its nodes differ in their letter on that side alone
-pub IsFirstOf-differ : (side : Side) {r : LocalRule} (p : ℕ) → IsRule r → p < pair_count r → DifferAtEnd side r (first_of r p) (second_of r p) → IsFirstOf side r p
-IsFirstOf-differ Right p rule in_pairs h = IsFirstOfRight-differ rule in_pairs h
-IsFirstOf-differ Left p rule in_pairs h = IsFirstOfLeft-differ rule in_pairs h
-
--- the nodes of a first pair of a side differ in their letter on that side alone
-pub DifferAtEnd-first : (side : Side) {r : LocalRule} (p : ℕ) → IsRule r → IsFirstOf side r p → DifferAtEnd side r (first_of r p) (second_of r p)
-DifferAtEnd-first Right p rule f = DifferAtEnd-right rule f
-DifferAtEnd-first Left p rule f = DifferAtEnd-left rule f
+pub IsFirstOf-differ : (side : Side) {r : LocalRule} (p : ℕ) → IsRule r → p < pair_count r
+    → IsFirstOf side r p ↔ DifferAtEnd side r (first_of r p) (second_of r p)
+IsFirstOf-differ Right p rule pair = (DifferAtEnd-right rule, IsFirstOfRight-differ rule pair)
+IsFirstOf-differ Left p rule pair = (DifferAtEnd-left rule, IsFirstOfLeft-differ rule pair)

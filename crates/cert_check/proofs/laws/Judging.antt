@@ -20,24 +20,24 @@ abbrev pub NamesEach : List ℕ → Result Certificate CertFault → Type 0
 NamesEach bytes read = (s : ShapeFault) → IsShapeFault bytes s → (read ≡ Err (cert_fault.Format s)) ⊎ (read ≡ Err (cert_fault.Memory alloc_error))
 
 -- a certificate that was read is the only one
-only_cert : {bytes : List ℕ} {read : Result Certificate CertFault} {c d : Certificate} → ReadsEach bytes read → read ≡ Ok c → IsCertificateText bytes d → d ≡ c
+only_cert : {bytes : List ℕ} {read : Result Certificate CertFault} {c d : Certificate} → ReadsEach bytes read → read ≡ Ok c
+    → IsCertificateText bytes d → d ≡ c
 only_cert {d = d} each is text = ⊎_elim (λ same. cc) (λ none. absurd (cc)) (each d text)
 
 -- what is accepted has the verdicts of the certificate that was read, which meets the conditions
-pub accepted-read : {bytes : List ℕ} {read : Result Certificate CertFault} {c : Certificate} {v : Verdicts} → ReadsEach bytes read → read ≡ Ok c → IsAccepted bytes v → (v ≡ verdicts_of c) × MeetsConditions c
+pub accepted-read : {bytes : List ℕ} {read : Result Certificate CertFault} {c : Certificate} {v : Verdicts} → ReadsEach bytes read → read ≡ Ok c
+    → IsAccepted bytes v → (v ≡ verdicts_of c) × MeetsConditions c
 accepted-read each is h = let same = only_cert each is h.text in (h.verdicts ∙ ap verdicts_of same, subst MeetsConditions same h.meets)
 
 -- what is refused where a certificate was read is its first breach
-pub refusal-read : {bytes : List ℕ} {read : Result Certificate CertFault} {c : Certificate} {f : Refusal} → ReadsEach bytes read → NamesEach bytes read → read ≡ Ok c → IsRefusal bytes f → IsFirstUnmet c f
+pub refusal-read : {bytes : List ℕ} {read : Result Certificate CertFault} {c : Certificate} {f : Refusal} → ReadsEach bytes read
+    → NamesEach bytes read → read ≡ Ok c → IsRefusal bytes f → IsFirstUnmet c f
 refusal-read each names is (NoShape s fault) = ⊎_elim (λ named. absurd (cc)) (λ none. absurd (cc)) (names s fault)
 refusal-read each names is (Unmet d f text h) = subst (λ c. IsFirstUnmet c f) (only_cert each is text) h
 
--- nothing is accepted where a fault was named
-pub accepted-named : {bytes : List ℕ} {read : Result Certificate CertFault} {s : ShapeFault} {v : Verdicts} → ReadsEach bytes read → read ≡ Err (cert_fault.Format s) → IsAccepted bytes v → ⊥
-accepted-named each is h = ⊎_elim (λ same. absurd (cc)) (λ none. absurd (cc)) (each h.certificate h.text)
-
 -- where a fault was named, that fault alone is refused
-pub refusal-named : {bytes : List ℕ} {read : Result Certificate CertFault} {s : ShapeFault} {f : Refusal} → ReadsEach bytes read → NamesEach bytes read → read ≡ Err (cert_fault.Format s) → IsRefusal bytes f
+pub refusal-named : {bytes : List ℕ} {read : Result Certificate CertFault} {s : ShapeFault} {f : Refusal} → ReadsEach bytes read
+    → NamesEach bytes read → read ≡ Err (cert_fault.Format s) → IsRefusal bytes f
     → refusal.Format s ≡ f
 refusal-named each names is (NoShape t fault) = ap refusal.Format (⊎_elim (λ named. cc) (λ none. absurd (cc)) (names t fault))
 refusal-named each names is (Unmet d f text h) = ⊎_elim (λ same. absurd (cc)) (λ none. absurd (cc)) (each d text)

@@ -1,6 +1,6 @@
 -- A set of nodes contains a listed set exactly where it is listed, or contains one without one of its nodes.
-use Rattle.std.proofs.Common.{◌≡◌, ℕ, ◌+◌, ◌*◌, ◌%◌, ◌^◌, ◌<◌, ◌≤◌, ◌↔◌, ◌⊎◌, inl, inr, List, Contains, bit_and, w16, sym, ap, subst, ◌∙◌, ⊎_elim, arith}
-use Rattle.std.proofs.lemmas.Nat.Bits.{bit_at_and, bit_at-lt, bit_at_clear_same, bit_at_clear_other, same_from_bits, same_from_bits_below}
+use Rattle.std.proofs.Common.{◌≡◌, ℕ, ◌+◌, ◌*◌, ◌%◌, ◌^◌, ◌<◌, ◌≤◌, ◌↔◌, ◌⊎◌, inl, inr, List, Contains, bit_and, w16, ap, subst, ◌∙◌, ⊎_elim, arith}
+use Rattle.std.proofs.lemmas.Nat.Bits.{bit_at_and, bit_at_clear_same, bit_at_clear_other, same_from_bits, same_from_bits_below}
 use Rattle.std.specs.Int.Bits.{and_self}
 use Rattle.word_image.proofs.Common.{bit_at, bit_not, cases_eq, and_le_l, and_le_r}
 use Rattle.pair_laws.proofs.Common.{differ_below}
@@ -31,15 +31,15 @@ without-less s n l some =
     (cases_eq (without s n) s)
 
 -- a set that contains a listed one is listed, or contains one without one of its nodes
-pub HasPart-split : (sets : List ℕ) (s : ℕ) → s < 2 ^ 16 → HasPart sets s → Contains sets s ⊎ ((n : ℕ) × (n < 16) × (without s n < s) × HasPart sets (without s n))
+pub HasPart-split : (sets : List ℕ) (s : ℕ) → s < 2 ^ 16 → HasPart sets s
+    → Contains sets s ⊎ ((n : ℕ) × (n < 16) × (without s n < s) × HasPart sets (without s n))
 HasPart-split sets s small (t, listed, part) =
-    let less : t ≤ s = omega (arith, and_le_r t s, part) in
+    let less : t ≤ s = omega (arith, and_le_r t s) in
     ⊎_elim
     (λ all. inl (subst (Contains sets) (same_from_bits_below 16 t s (omega arith) small all) listed))
     (λ (n, l, differ).
     let here = part-bit t s n part in
-    let some : bit_at s n ≡ 1 = omega (arith, bit_at-lt s n, bit_at-lt t n) in
-    let none : bit_at t n ≡ 0 = omega (arith, bit_at-lt s n, bit_at-lt t n) in
+    let some : bit_at s n ≡ 1 = omega arith in
     inr (
       n,
       l,
@@ -49,20 +49,12 @@ HasPart-split sets s small (t, listed, part) =
         listed,
         bits-part t (without s n) (omega arith) (λ i below.
             ⊎_elim
-            (λ same. let zeroth : bit_at t i ≡ 0 = ap (bit_at t) same ∙ none in omega arith)
+            (λ same. let zeroth : bit_at t i ≡ 0 = ap (bit_at t) same ∙ (omega arith) in omega arith)
             (λ other. omega (arith, part-bit t s i part, bit_at_clear_other w16 s n l i below other))
             (cases_eq i n)),
       ),
     ))
     (differ_below (bit_at t) (bit_at s) 16)
-
--- a listed set contains a listed one
-HasPart-listed : (sets : List ℕ) (s : ℕ) → Contains sets s → HasPart sets s
-HasPart-listed sets s listed = (s, listed, and_self s)
-
--- a set contains a listed one where it does without a node
-HasPart-without : (sets : List ℕ) (s n : ℕ) → HasPart sets (without s n) → HasPart sets s
-HasPart-without sets s n (t, listed, part) = (t, listed, part-of_part t (without s n) s part (without-part s n))
 
 -- the sets before one are marked that contain a listed one
 abbrev AreAbove : List ℕ → List ℕ → ℕ → Type 0
@@ -73,11 +65,12 @@ abbrev IsAbove : List ℕ → List ℕ → ℕ → Type 0
 IsAbove listed above i = IsMarked listed i ⊎ ((n : ℕ) × (n < 16) × IsMarked above (without i n))
 
 -- the test of the next set is passed exactly where the set contains a listed one
-IsAbove-part : (sets listed above : List ℕ) (i : ℕ) → i < 2 ^ 16 → AreMarked listed sets → AreAbove sets above i → IsAbove listed above i ↔ HasPart sets i
+IsAbove-part : (sets listed above : List ℕ) (i : ℕ) → i < 2 ^ 16 → AreMarked listed sets → AreAbove sets above i
+    → IsAbove listed above i ↔ HasPart sets i
 IsAbove-part sets listed above i small marked before = (
   (λ test. ⊎_elim
-      (λ some. HasPart-listed sets i ((marked i).0 some))
-      (λ (n, l, some). HasPart-without sets i n ((before (without i n)).0 some).1)
+      (λ some. (i, (marked i).0 some, and_self i))
+      (λ (n, l, some). let (less, (t, listed, part)) = (before (without i n)).0 some in (t, listed, part-of_part t (without i n) i part (without-part i n)))
       test),
   (λ kept. ⊎_elim
       (λ one. inl ((marked i).1 one))
@@ -85,24 +78,14 @@ IsAbove-part sets listed above i small marked before = (
       (HasPart-split sets i small kept)),
 )
 
--- a set more is marked where the test holds
-pub above_more : (sets listed above after : List ℕ) (i : ℕ) → i < 2 ^ 16 → AreMarked listed sets → AreAbove sets above i → IsAbove listed above i
-    → ((s : ℕ) → IsMarked after s ↔ ((s ≡ i) ⊎ IsMarked above s)) → AreAbove sets after (i + 1)
-above_more sets listed above after i small marked before test more s =
-    let kept : HasPart sets i = (IsAbove-part sets listed above i small marked before).0 test in (
+-- the next set is marked exactly where the test holds
+pub above_next : (sets listed above after : List ℕ) (i : ℕ) → i < 2 ^ 16 → AreMarked listed sets → AreAbove sets above i
+    → ((s : ℕ) → IsMarked after s ↔ (((s ≡ i) × IsAbove listed above i) ⊎ IsMarked above s)) → AreAbove sets after (i + 1)
+above_next sets listed above after i small marked before more s =
+    let test = IsAbove-part sets listed above i small marked before in (
       (λ some. ⊎_elim
-          (λ same. (omega arith, subst (HasPart sets) (sym same) kept))
+          (λ (same, is). (omega arith, rw same (test.0 is)))
           (λ old. let (l, is) = (before s).0 old in (omega arith, is))
           ((more s).0 some)),
-      (λ (l, is). (more s).1 (⊎_elim (λ same. inl same) (λ other. inr ((before s).1 (omega arith, is))) (cases_eq s i))),
+      (λ (l, is). (more s).1 (⊎_elim (λ same. inl (same, test.1 (rw same at is))) (λ other. inr ((before s).1 (omega arith, is))) (cases_eq s i))),
     )
-
--- a set more stays unmarked where the test fails
-pub above_skip : (sets listed above : List ℕ) (i : ℕ) → i < 2 ^ 16 → AreMarked listed sets → AreAbove sets above i → ¬ IsAbove listed above i → AreAbove sets above (i + 1)
-above_skip sets listed above i small marked before none s = (
-  (λ some. let (l, is) = (before s).0 some in (omega arith, is)),
-  (λ (l, is). ⊎_elim
-      (λ same. absurd (none ((IsAbove-part sets listed above i small marked before).1 (subst (HasPart sets) same is))))
-      (λ other. (before s).1 (omega arith, is))
-      (cases_eq s i)),
-)

@@ -1,6 +1,6 @@
 -- A breach of a condition says that the condition isn't met, and a certificate has at most one first breach.
-use Rattle.std.proofs.Common.{◌≡◌, ◌≢◌, sym, subst, List, length, take, drop, get_or, ℕ, suc, ◌+◌, ◌<◌, ◌≤◌, arith, All}
-use Rattle.word_image.proofs.Common.{slice_get-get_or, take_more, All-push, LocalRule, ring_image, slice_get-cut}
+use Rattle.std.proofs.Common.{◌≡◌, ◌≢◌, List, length, take, drop, get_or, ℕ, suc, ◌<◌, ◌≤◌, arith, All}
+use Rattle.word_image.proofs.Common.{slice_get-get_or, LocalRule, ring_image, slice_get-cut}
 use Rattle.word_image.specs.declared.side.Side.TheVariants as side
 use Rattle.tail_config.proofs.Common.{TailConfig, Different, ShareImage}
 use Rattle.cert_values.proofs.Common.{Certificate}
@@ -19,7 +19,8 @@ use Rattle.cert_conditions.specs.Refusals.IsSplitBreach.{Same as SameCells, Apar
 first_fails : {n i : ℕ} {P : ℕ → Type 0} → IsFirstBreach n P i → ¬ EachBelow n P
 first_fails {i} first each = first.fails (each i first.within)
 
-twins_fail : {r : LocalRule} {x y : List ℕ} {cause : TwinCause} → IsTwinsBreach r x y cause → ¬ (((length x ≡ length y) × (1 ≤ length x)) × (x ≢ y) × (ring_image r x ≡ ring_image r y))
+twins_fail : {r : LocalRule} {x y : List ℕ} {cause : TwinCause} → IsTwinsBreach r x y cause
+    → ¬ (((length x ≡ length y) × (1 ≤ length x)) × (x ≢ y) × (ring_image r x ≡ ring_image r y))
 twins_fail (Length other) h = other h.0
 twins_fail (SameWords _ _ equal) h = h.1 equal
 twins_fail (OtherRings _ _ _ other) h = other h.2
@@ -52,7 +53,8 @@ pub unmet_fails : {c : Certificate} {f : Refusal} → IsFirstUnmet c f → ¬ Me
 unmet_fails h meets = breach_fails h.breach (meets h.unmet)
 
 -- where the conditions before a place are met, a breach of the one there is the first
-pub IsFirstUnmet-at : {c : Certificate} {f : Refusal} (i : ℕ) (d : Condition) → i < length conditions → All (Holds c) (take i conditions) → IsBreach c (get_or conditions i d) f → IsFirstUnmet c f
+pub IsFirstUnmet-at : {c : Certificate} {f : Refusal} (i : ℕ) (d : Condition) → i < length conditions → All (Holds c) (take i conditions)
+    → IsBreach c (get_or conditions i d) f → IsFirstUnmet c f
 IsFirstUnmet-at i d inside before breach =
     let one = get_or conditions i d in
     record {
@@ -60,10 +62,6 @@ IsFirstUnmet-at i d inside before breach =
       first = record { before = take i conditions; after = drop (suc i) conditions; list = slice_get-cut conditions i one (slice_get-get_or conditions i d inside); earlier = before; fails = breach_fails breach };
       breach = breach;
     }
-
--- what is true of the elements before a place and of the one there is true of one element more
-pub All-more : {A : Type 0} (P : A → Type 0) (xs : List A) (i : ℕ) (d : A) → i < length xs → All P (take i xs) → P (get_or xs i d) → All P (take (i + 1) xs)
-All-more P xs i d inside before here = subst (All P) (sym (take_more xs i d inside)) (All-push P (take i xs) (get_or xs i d) before here)
 
 -- where each condition of the list is met, all are
 pub MeetsConditions-all : (c : Certificate) → All (Holds c) conditions → MeetsConditions c

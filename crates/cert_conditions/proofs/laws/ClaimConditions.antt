@@ -1,10 +1,10 @@
 -- What claims of ranks say of windows and look-aheads, and so of injectivity and of closing on either side; what twins and splits say against them.
 use Rattle.std.proofs.Common.{◌≡◌, ◌≢◌, ℕ, ◌≤◌, List, length, Option, refl, arith, ◌↔◌, IsTrue}
-use Rattle.word_image.proofs.Common.{false≢true, LocalRule, IsRule, IsWord, ring_image, IsTwins, IsDetermined, IsRightAhead, pair_count, IsFirstOfRight, IsFirstOfLeft, IsFirstOf, seen_from}
+use Rattle.word_image.proofs.Common.{false≢true, LocalRule, IsRule, IsWord, ring_image, IsTwins, pair_count, IsFirstOfRight, IsFirstOfLeft}
 use Rattle.word_image.specs.declared.side.Side.{Side}
 use Rattle.word_image.specs.declared.side.Side.TheVariants.{Right, Left}
 use Rattle.pair_laws.proofs.Common.{IsDetermined-claims, ahead-claims}
-use Rattle.tail_config.proofs.Common.{TailConfig, Different, ShareImage, AgreeLeft, AgreeRight, IsInjective, IsRightSplit, IsRightClosing, IsLeftClosing, IsLeftSplit, IsShortTail}
+use Rattle.tail_config.proofs.Common.{TailConfig, Different, ShareImage, AgreeLeft, AgreeRight, IsInjective, IsRightClosing, IsLeftClosing}
 use Rattle.tail_laws.proofs.Common.{IsInjective-determined, IsRightClosing-ahead, IsLeftClosing-ahead, no_twins, IsRightClosing-none, IsLeftClosing-none}
 use Rattle.cert_values.proofs.Common.{InjectiveEvidence, SideEvidence, IsInjectiveShape, IsSideShape, Window, Twins, Ahead, Split}
 use Rattle.cert_conditions.specs.Breaches.{EachBelow}
@@ -24,16 +24,6 @@ AreSplit Agree r x y = Different x y × Agree x y × ShareImage r x y
 abbrev pub AreAlike : LocalRule → List ℕ → List ℕ → Type 0
 AreAlike r x y = ((length x ≡ length y) × (1 ≤ length x)) × (x ≢ y) × (ring_image r x ≡ ring_image r y)
 
--- a window that is claimed is determined
-pub IsDetermined-claimed : {r : LocalRule} → IsRule r → (forward backward : List (Option ℕ)) → AllFall Right r forward → AllFall Left r backward → (n c : ℕ)
-    → IsInjectiveShape r (Window n c) → EachBelow (pair_count r) (IsWindowPair r forward backward n c) → IsDetermined r n c
-IsDetermined-claimed rule forward backward falls back n c shape pairs = IsDetermined-claims {forward = claim forward} {backward = claim backward} rule falls back n c shape.0 shape.2 pairs
-
--- a look-ahead that is claimed is one
-pub ahead-claimed : (side : Side) {r : LocalRule} → IsRule r → (row : List (Option ℕ)) → AllFall side r row → (n : ℕ) → IsSideShape r (Ahead n)
-    → EachBelow (pair_count r) (IsAheadPair (IsFirstOf side r) row n) → IsRightAhead (seen_from side r) n
-ahead-claimed side rule row falls n shape pairs = ahead-claims side {claim = claim row} rule falls n shape.0 pairs
-
 -- words that are alike are twins
 pub IsTwins-alike : {r : LocalRule} {x y : List ℕ} → IsWord r.states x → IsWord r.states y → AreAlike r x y → IsTwins r x y
 IsTwins-alike hx hy alike =
@@ -45,31 +35,30 @@ IsTwins-alike hx hy alike =
       one_image = alike.2;
     }
 
--- configurations that agree on the left are a right split
-pub IsRightSplit-apart : {r : LocalRule} {x y : TailConfig} → IsShortTail r.states x → IsShortTail r.states y → AreSplit AgreeLeft r x y → IsRightSplit r x y
-IsRightSplit-apart hx hy apart = record { first = hx.tail; second = hy.tail; different = apart.0; share = apart.2; agree = apart.1 }
-
--- short configurations that split a rule and agree on the right are a left split
-pub IsLeftSplit-apart : {r : LocalRule} {x y : TailConfig} → IsShortTail r.states x → IsShortTail r.states y → AreSplit AgreeRight r x y → IsLeftSplit r x y
-IsLeftSplit-apart hx hy apart = record { first = hx.tail; second = hy.tail; different = apart.0; share = apart.2; agree = apart.1 }
-
 -- what is said of injectivity is true where its conditions are met
 pub IsInjective-said : {r : LocalRule} → IsRule r → (forward backward : List (Option ℕ)) → AllFall Right r forward → AllFall Left r backward
-    → (e : InjectiveEvidence) → IsInjectiveShape r e → OfWindow e (λ n c. EachBelow (pair_count r) (IsWindowPair r forward backward n c)) → OfTwins e (AreAlike r)
+    → (e : InjectiveEvidence) → IsInjectiveShape r e → OfWindow e (λ n c. EachBelow (pair_count r) (IsWindowPair r forward backward n c))
+    → OfTwins e (AreAlike r)
     → IsTrue (says_injective e) ↔ IsInjective r
-IsInjective-said rule forward backward falls back (Window n c) shape pairs alike = ((λ _. IsInjective-determined rule (IsDetermined-claimed rule forward backward falls back n c shape pairs)), (λ _. refl))
+IsInjective-said rule forward backward falls back (Window n c) shape pairs alike = ((λ _. IsInjective-determined rule (IsDetermined-claims {forward = claim forward} {backward = claim backward} rule falls back n c shape.0 shape.2 pairs)), (λ _. refl))
 IsInjective-said {r} rule forward backward falls back (Twins x y) shape pairs alike = ((λ no. absurd (false≢true no)), (λ injective. absurd (no_twins (IsTwins-alike {r = r} shape.0 shape.1 alike) injective)))
 
 -- what is said of closing on the right is true where its conditions are met
 pub IsRightClosing-said : {r : LocalRule} → IsRule r → (forward : List (Option ℕ)) → AllFall Right r forward → (e : SideEvidence) → IsSideShape r e
-    → OfAhead e (λ n. EachBelow (pair_count r) (IsAheadPair (IsFirstOfRight r) forward n)) → OfSplit e (AreSplit AgreeLeft r) → IsTrue (says_closing e) ↔ IsRightClosing r
-IsRightClosing-said rule forward falls (Ahead n) shape pairs apart = ((λ _. IsRightClosing-ahead rule (ahead-claimed Right rule forward falls n shape pairs)), (λ _. refl))
-IsRightClosing-said {r} rule forward falls (Split x y) shape pairs apart =
-    ((λ no. absurd (false≢true no)), (λ closing. absurd ((IsRightClosing-none r).0 closing x y (IsRightSplit-apart shape.0 shape.1 apart))))
+    → OfAhead e (λ n. EachBelow (pair_count r) (IsAheadPair (IsFirstOfRight r) forward n)) → OfSplit e (AreSplit AgreeLeft r)
+    → IsTrue (says_closing e) ↔ IsRightClosing r
+IsRightClosing-said rule forward falls (Ahead n) shape pairs apart = ((λ _. IsRightClosing-ahead rule (ahead-claims Right {claim = claim forward} rule falls n shape.0 pairs)), (λ _. refl))
+IsRightClosing-said {r} rule forward falls (Split x y) shape pairs apart = (
+  (λ no. absurd (false≢true no)),
+  (λ closing. absurd ((IsRightClosing-none r).0 closing x y (record { first = shape.0.tail; second = shape.1.tail; different = apart.0; share = apart.2; agree = apart.1 }))),
+)
 
 -- what is said of closing on the left is true where its conditions are met
 pub IsLeftClosing-said : {r : LocalRule} → IsRule r → (backward : List (Option ℕ)) → AllFall Left r backward → (e : SideEvidence) → IsSideShape r e
-    → OfAhead e (λ n. EachBelow (pair_count r) (IsAheadPair (IsFirstOfLeft r) backward n)) → OfSplit e (AreSplit AgreeRight r) → IsTrue (says_closing e) ↔ IsLeftClosing r
-IsLeftClosing-said rule backward back (Ahead n) shape pairs apart = ((λ _. IsLeftClosing-ahead rule (ahead-claimed Left rule backward back n shape pairs)), (λ _. refl))
-IsLeftClosing-said {r} rule backward back (Split x y) shape pairs apart =
-    ((λ no. absurd (false≢true no)), (λ closing. absurd ((IsLeftClosing-none r).0 closing x y (IsLeftSplit-apart shape.0 shape.1 apart))))
+    → OfAhead e (λ n. EachBelow (pair_count r) (IsAheadPair (IsFirstOfLeft r) backward n)) → OfSplit e (AreSplit AgreeRight r)
+    → IsTrue (says_closing e) ↔ IsLeftClosing r
+IsLeftClosing-said rule backward back (Ahead n) shape pairs apart = ((λ _. IsLeftClosing-ahead rule (ahead-claims Left {claim = claim backward} rule back n shape.0 pairs)), (λ _. refl))
+IsLeftClosing-said {r} rule backward back (Split x y) shape pairs apart = (
+  (λ no. absurd (false≢true no)),
+  (λ closing. absurd ((IsLeftClosing-none r).0 closing x y (record { first = shape.0.tail; second = shape.1.tail; different = apart.0; share = apart.2; agree = apart.1 }))),
+)

@@ -37,7 +37,8 @@ one_twin_cause (OtherRings _ _ other _) (SameWords _ _ same) = absurd (other sam
 one_twin_cause (OtherRings _ _ _ _) (OtherRings _ _ _ _) = refl
 
 -- two configurations are no split for one cause alone
-one_split_cause : {r : LocalRule} {Agree : TailConfig → TailConfig → Type 0} {x y : TailConfig} {a b : SplitCause} → IsSplitBreach r Agree x y a → IsSplitBreach r Agree x y b → a ≡ b
+one_split_cause : {r : LocalRule} {Agree : TailConfig → TailConfig → Type 0} {x y : TailConfig} {a b : SplitCause} → IsSplitBreach r Agree x y a
+    → IsSplitBreach r Agree x y b → a ≡ b
 one_split_cause (SameCells _) (SameCells _) = refl
 one_split_cause (SameCells none) (Apart other _) = absurd (none other)
 one_split_cause (SameCells none) (OtherImages other _ _) = absurd (none other)

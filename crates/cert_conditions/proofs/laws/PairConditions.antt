@@ -7,7 +7,8 @@ use Rattle.cert_conditions.specs.Pairs.{FirstIsListed, StepsAreListed}
 use Rattle.cert_conditions.proofs.laws.StepConditions.{at_listed}
 
 -- a list of pairs of two different nodes that has the first pairs and the steps of its own is a pair list
-pub IsPairList-met : {r : LocalRule} → IsRule r → (pairs : List ℕ) → All (λ p. p < pair_count r) pairs → EachBelow (pair_count r) (FirstIsListed r pairs)
+pub IsPairList-met : {r : LocalRule} → IsRule r → (pairs : List ℕ) → All (λ p. p < pair_count r) pairs
+    → EachBelow (pair_count r) (FirstIsListed r pairs)
     → EachBelow (length pairs) (λ i. first_of r (slice_index pairs i) ≢ second_of r (slice_index pairs i))
     → EachBelow (length pairs) (λ i. StepsAreListed r pairs (slice_index pairs i)) → IsPairList r pairs
 IsPairList-met {r} rule pairs below firsts apart closed = record {

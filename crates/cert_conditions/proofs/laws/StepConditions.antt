@@ -6,7 +6,7 @@ use Rattle.word_image.proofs.Common.{bit_at, and_le_r, get_or_default, All-tail,
 use Rattle.word_image.proofs.laws.LastNodes.{IsLastNode-empty, IsLastNode-push}
 use Rattle.search_laws.proofs.Common.{IsLastSet-leads}
 use Rattle.cert_values.specs.declared.cert_version.CertVersion.{CertVersion}
-use Rattle.cert_values.specs.declared.cert_version.CertVersion.TheVariants.{One, Two, Three}
+use Rattle.cert_values.specs.declared.cert_version.CertVersion.TheVariants.{One, Two}
 use Rattle.cert_conditions.specs.Breaches.{EachBelow}
 use Rattle.cert_conditions.specs.Sets.{IsKept, HasPart, StepIsKept, LeadsTo}
 
@@ -17,8 +17,7 @@ at_listed P sets each set h = subst P (get_or_default sets h.0 0 set h.1 ∙ h.2
 -- what is asked of a step in some version gives it a listed part
 pub HasPart-kept : (version : CertVersion) (sets : List ℕ) (set : ℕ) → IsKept version sets set → HasPart sets set
 HasPart-kept One sets set listed = (set, listed, and_self set)
-HasPart-kept Two sets set kept = kept
-HasPart-kept Three sets set kept = kept
+HasPart-kept _ sets set kept = kept
 
 -- a place of a part of a set is one of the set
 pub IsBitSet-part : (s t u : ℕ) → bit_and s t ≡ s → IsBitSet s u → IsBitSet t u
@@ -39,7 +38,8 @@ abbrev StepsAreKept : LocalRule → List ℕ → Type 0
 StepsAreKept r sets = EachBelow (length sets) (λ i. EachBelow r.states (StepIsKept Two r sets (slice_index sets i)))
 
 -- where each step contains a listed set, a word with one letter more is covered
-IsCovered-push : {r : LocalRule} {sets w : List ℕ} → IsRule r → StepsAreKept r sets → IsCovered r sets w → (a : ℕ) → a < r.states → IsCovered r sets (w ++ a ∷ [])
+IsCovered-push : {r : LocalRule} {sets w : List ℕ} → IsRule r → StepsAreKept r sets → IsCovered r sets w → (a : ℕ) → a < r.states
+    → IsCovered r sets (w ++ a ∷ [])
 IsCovered-push {r} {sets} rule closed h a letter =
     let (after, step, kept) = at_listed (λ s. EachBelow r.states (StepIsKept Two r sets s)) sets closed h.set h.listed a letter in
     let (part, listed, is_part) = kept in
@@ -53,19 +53,22 @@ IsCovered-push {r} {sets} rule closed h a letter =
     }
 
 -- a covered word with more letters behind it is covered
-IsCovered-append : {r : LocalRule} {sets : List ℕ} → IsRule r → StepsAreKept r sets → (v w : List ℕ) → IsCovered r sets v → IsWord r.states w → IsCovered r sets (v ++ w)
+IsCovered-append : {r : LocalRule} {sets : List ℕ} → IsRule r → StepsAreKept r sets → (v w : List ℕ) → IsCovered r sets v → IsWord r.states w
+    → IsCovered r sets (v ++ w)
 IsCovered-append {r} {sets} rule closed v [] h word = subst (IsCovered r sets) (sym (append-nil v)) h
 IsCovered-append {r} {sets} rule closed v (a ∷ w) h word =
     subst (IsCovered r sets) (append_assoc v (a ∷ []) w)
     (IsCovered-append rule closed (v ++ a ∷ []) w (IsCovered-push rule closed h a (word 0 0 (omega arith))) (All-tail (λ b. b < r.states) a w word))
 
 -- the nodes of some listed set are last nodes of each word
-IsCovered-word : {r : LocalRule} {sets : List ℕ} → IsRule r → Contains sets (full_set r) → StepsAreKept r sets → (w : List ℕ) → IsWord r.states w → IsCovered r sets w
+IsCovered-word : {r : LocalRule} {sets : List ℕ} → IsRule r → Contains sets (full_set r) → StepsAreKept r sets → (w : List ℕ) → IsWord r.states w
+    → IsCovered r sets w
 IsCovered-word {r} rule full closed w word =
     IsCovered-append rule closed [] w (record { set = full_set r; listed = full; within = omega (arith, pow_pos (node_count r)); last = λ u below some. IsLastNode-empty r u below }) word
 
 -- listed sets that have the full set, no empty one, and all that is asked of their steps: every word has a preimage
-pub IsSurjective-sets : {r : LocalRule} (version : CertVersion) → IsRule r → (sets : List ℕ) → Contains sets (full_set r) → EachBelow (length sets) (λ i. slice_index sets i ≢ 0)
+pub IsSurjective-sets : {r : LocalRule} (version : CertVersion) → IsRule r → (sets : List ℕ) → Contains sets (full_set r)
+    → EachBelow (length sets) (λ i. slice_index sets i ≢ 0)
     → EachBelow (length sets) (λ i. EachBelow r.states (StepIsKept version r sets (slice_index sets i))) → IsSurjective r
 IsSurjective-sets {r} version rule sets full some closed w word =
     let kept : StepsAreKept r sets = λ i within a letter. let (after, step, is) = closed i within a letter in (after, step, HasPart-kept version sets after is) in

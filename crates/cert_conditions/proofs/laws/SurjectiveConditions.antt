@@ -13,9 +13,12 @@ use Rattle.cert_conditions.proofs.laws.PairConditions.{IsPairList-met}
 use Rattle.cert_conditions.proofs.laws.StepConditions.{IsSurjective-sets, IsOrphan-read}
 
 -- what is said of surjectivity is true where its conditions are met
-pub IsSurjective-said : {r : LocalRule} → IsRule r → (version : CertVersion) (e : SurjectiveEvidence) → IsSurjectiveShape version r e → OfSets e (λ sets. Contains sets (full_set r))
-    → OfSets e (λ sets. EachBelow (length sets) (λ i. slice_index sets i ≢ 0)) → OfSets e (λ sets. EachBelow (length sets) (λ i. EachBelow r.states (StepIsKept version r sets (slice_index sets i))))
-    → OfPairs e (λ pairs. EachBelow (pair_count r) (FirstIsListed r pairs)) → OfPairs e (λ pairs. EachBelow (length pairs) (λ i. first_of r (slice_index pairs i) ≢ second_of r (slice_index pairs i)))
+pub IsSurjective-said : {r : LocalRule} → IsRule r → (version : CertVersion) (e : SurjectiveEvidence) → IsSurjectiveShape version r e
+    → OfSets e (λ sets. Contains sets (full_set r))
+    → OfSets e (λ sets. EachBelow (length sets) (λ i. slice_index sets i ≢ 0))
+    → OfSets e (λ sets. EachBelow (length sets) (λ i. EachBelow r.states (StepIsKept version r sets (slice_index sets i))))
+    → OfPairs e (λ pairs. EachBelow (pair_count r) (FirstIsListed r pairs))
+    → OfPairs e (λ pairs. EachBelow (length pairs) (λ i. first_of r (slice_index pairs i) ≢ second_of r (slice_index pairs i)))
     → OfPairs e (λ pairs. EachBelow (length pairs) (λ i. StepsAreListed r pairs (slice_index pairs i)))
     → OfOrphan e (λ w. LeadsTo r (full_set r) w 0) → IsTrue (says_surjective e) ↔ IsSurjective r
 IsSurjective-said rule version (Sets sets) shape full some closed firsts apart steps read = ((λ _. IsSurjective-sets version rule sets full some closed), (λ _. refl))

@@ -5,7 +5,8 @@ use Rattle.ring_laws.proofs.FluxWindows.{FlowsAt, value-first_node, value-last}
 use Rattle.cert_conditions.specs.Sums.{Flows, flux_at}
 
 -- what flows on the word of a number flows at the number
-pub Flows-value : {r : LocalRule} → IsRule r → (weight : ℕ → ℕ) (phi : List ℤ) (v : ℕ) → v < r.states ^ r.width → FlowsAt weight r phi v ↔ Flows weight r phi (word_of r.states r.width v)
+pub Flows-value : {r : LocalRule} → IsRule r → (weight : ℕ → ℕ) (phi : List ℤ) (v : ℕ) → v < r.states ^ r.width
+    → FlowsAt weight r phi v ↔ Flows weight r phi (word_of r.states r.width v)
 Flows-value {r} rule weight phi v l =
     let k : ℕ = r.states in
     let w : List ℕ = word_of k r.width v in

@@ -4,7 +4,8 @@ use Rattle.word_image.proofs.Common.{All-head, All-tail, IsWord, hex_value}
 use Rattle.tail_config.proofs.Common.{Spells}
 
 -- a digit without a letter below k
-pub not_letters : (k : ℕ) (text w : List ℕ) (i : ℕ) → i < length text → ((a : ℕ) → hex_value (get_or text i 0) ≡ Some a → ¬ (a < k)) → Spells text w → ¬ IsWord k w
+pub not_letters : (k : ℕ) (text w : List ℕ) (i : ℕ) → i < length text → ((a : ℕ) → hex_value (get_or text i 0) ≡ Some a → ¬ (a < k)) → Spells text w
+    → ¬ IsWord k w
 not_letters k [] w i lt none spells word = absurd (omega arith)
 not_letters k (b ∷ text) [] i lt none spells word = absurd (omega (arith, ap length spells))
 not_letters k (b ∷ text) (a ∷ w) zero lt none spells word =

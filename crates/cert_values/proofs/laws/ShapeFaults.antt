@@ -1,5 +1,5 @@
 -- Bytes have one first fault, and the text of a certificate has none.
-use Rattle.std.proofs.Common.{◌≡◌, refl, sym, ap, ◌∙◌, subst, List, [], ◌∷◌, ◌++◌, ℕ, zero, suc, ◌<◌, ◌≤◌, ◌⊎◌, ⊎_elim, inl, inr, Result, Ok, Err, arith, codes, IfOk, IfErr, alloc_error}
+use Rattle.std.proofs.Common.{◌≡◌, refl, sym, ap, ◌∙◌, subst, List, [], ◌∷◌, ◌++◌, ℕ, zero, suc, ◌<◌, ◌≤◌, ⊎_elim, arith, codes}
 use Rattle.std.specs.Prelude.{⊤}
 use Rattle.word_image.proofs.Common.{AllByRecursion, recursion_from_All, cases_eq, none-some, LocalRule}
 use Rattle.serde_json.specs.Data.{Data, object, Members}
@@ -16,7 +16,7 @@ use Rattle.cert_values.specs.Versions.{number_of}
 use Rattle.cert_values.specs.CertificateTexts.{IsCertificateText, AreParts, IsJson, IsObject, HasVersion, HasRuleText, IsWhole}
 use Rattle.cert_values.specs.ShapeFaults.{IsShapeFault, IsFirstWithout, Passes, part_steps}
 use Rattle.cert_values.specs.ShapeFaults.IsShapeFault.{NoJson, NoObject, NoVersion, OtherVersion, NoRule, BadRule, BadPart}
-use Rattle.cert_values.proofs.laws.Uniqueness.{one_some, number_of-injective, IsWhole-unique, HasMember-unique, IsObject-unique, HasRuleText-unique, IsCertificateText-unique}
+use Rattle.cert_values.proofs.laws.Uniqueness.{one_some, number_of-injective, IsWhole-unique, HasMember-unique, IsObject-unique, HasRuleText-unique}
 
 -- the steps after the rule pass where the members say each part
 passes_all : {ms : Members} {c : Certificate} → AreParts ms c → (k : Key) → Passes c.version c.rule ms k
@@ -35,26 +35,23 @@ passes_all h _ = tt
 one_version : (bytes : List ℕ) {ms ns : Members} (v w : ℕ) → IsObject bytes ms → IsObject bytes ns → HasVersion ms v → HasVersion ns w → v ≡ w
 one_version bytes v w p q h k = HasMember-unique IsWhole IsWhole-unique (codes "version") v w (IsObject-unique bytes p q) h k
 
-one_text : (bytes : List ℕ) {ms ns : Members} (text other : List ℕ) → IsObject bytes ms → IsObject bytes ns → HasRuleText ms text → HasRuleText ns other → text ≡ other
+one_text : (bytes : List ℕ) {ms ns : Members} (text other : List ℕ) → IsObject bytes ms → IsObject bytes ns → HasRuleText ms text
+    → HasRuleText ns other → text ≡ other
 one_text bytes text other p q h k = HasRuleText-unique text other (IsObject-unique bytes p q) h k
 
--- the text of a certificate has no fault
-pub IsCertificateText-no_fault : {bytes : List ℕ} {c : Certificate} {f : ShapeFault} → IsCertificateText bytes c → IsShapeFault bytes f → ⊥
-IsCertificateText-no_fault {bytes} {c} h (NoJson none) = none (object h.members) h.json
-IsCertificateText-no_fault {bytes} {c} h (NoObject d json none) = none-some h.members (sym none ∙ ap as_object (one_some json.1 h.json.1))
-IsCertificateText-no_fault {bytes} {c} h (NoVersion ms json none) = none (number_of c.version) (subst (λ ms. HasVersion ms (number_of c.version)) (IsObject-unique bytes h.json json) h.version)
-IsCertificateText-no_fault {bytes} {c} h (OtherVersion ms v json version other) = other c.version (one_version bytes v (number_of c.version) json h.json version h.version)
-IsCertificateText-no_fault {bytes} {c} h (NoRule ms _ json version none) = none h.text (subst (λ ms. HasRuleText ms h.text) (IsObject-unique bytes h.json json) h.rule_text)
-IsCertificateText-no_fault {bytes} {c} h (BadRule ms _ text json version rule_text g wrong) =
-    IsRuleText-no_fault (subst (λ text. IsRuleText text c.rule) (one_text bytes h.text text h.json json h.rule_text rule_text) h.rule) wrong
-IsCertificateText-no_fault {bytes} {c} h (BadPart ms v text r k json version rule_text rule first) =
-    let versions : c.version ≡ v = number_of-injective c.version v (one_version bytes (number_of c.version) (number_of v) h.json json h.version version) in
-    let members = IsObject-unique bytes h.json json in
-    let rules = IsRuleText-unique (subst (λ text. IsRuleText text c.rule) (one_text bytes h.text text h.json json h.rule_text rule_text) h.rule) rule in
-    first.fails (subst (λ ms. Passes v r ms k) members (subst (λ r. Passes v r h.members k) rules (subst (λ v. Passes v c.rule h.members k) versions (passes_all h.parts k))))
+-- the members, the version and the rule that come before the parts are one each
+one_head : (bytes : List ℕ) {ms ns : Members} {v w : CertVersion} {text other : List ℕ} {r s : LocalRule} → IsObject bytes ms → IsObject bytes ns
+    → HasVersion ms (number_of v) → HasVersion ns (number_of w)
+    → HasRuleText ms text → HasRuleText ns other → IsRuleText text r → IsRuleText other s → (ms ≡ ns) × (v ≡ w) × (r ≡ s)
+one_head bytes {v = v} {w = w} {text = text} {other = other} {r = r} json also version later rule_text other_text rule other_rule = (
+  IsObject-unique bytes json also,
+  number_of-injective v w (one_version bytes (number_of v) (number_of w) json also version later),
+  IsRuleText-unique (subst (λ text. IsRuleText text r) (one_text bytes text other json also rule_text other_text) rule) other_rule,
+)
 
 -- the first of a list of which P isn't true is one
-first_of_list : {A : Type 0} (P : A → Type 0) (before other after rest : List A) (x y : A) → before ++ x ∷ after ≡ other ++ y ∷ rest → AllByRecursion P before → AllByRecursion P other → ¬ P x → ¬ P y → x ≡ y
+first_of_list : {A : Type 0} (P : A → Type 0) (before other after rest : List A) (x y : A) → before ++ x ∷ after ≡ other ++ y ∷ rest
+    → AllByRecursion P before → AllByRecursion P other → ¬ P x → ¬ P y → x ≡ y
 first_of_list P [] [] after rest x y e h k p q = cc
 first_of_list P [] (b ∷ other) after rest x y e h k p q = let same : x ≡ b = cc in absurd (p (subst P (sym same) k.0))
 first_of_list P (a ∷ before) [] after rest x y e h k p q = let same : a ≡ y = cc in absurd (q (subst P same h.0))
@@ -126,6 +123,13 @@ stage_fails {bytes} (BadRule ms v text json version rule_text g wrong) h =
     IsRuleText-no_fault (subst (λ text. IsRuleText text h.3) (one_text bytes h.2 text h.4 json h.6 rule_text) h.7) wrong
 stage_fails (BadPart ms v text r k json version rule_text rule first) h = h
 
+-- the text of a certificate has no fault
+pub IsCertificateText-no_fault : {bytes : List ℕ} {c : Certificate} {f : ShapeFault} → IsCertificateText bytes c → IsShapeFault bytes f → ⊥
+IsCertificateText-no_fault {bytes} {c} h (BadPart ms v text r k json version rule_text rule first) =
+    let head = one_head bytes h.json json h.version version h.rule_text rule_text h.rule rule in
+    first.fails (subst (λ ms. Passes v r ms k) head.0 (subst (λ r. Passes v r h.members k) head.2 (subst (λ v. Passes v c.rule h.members k) head.1 (passes_all h.parts k))))
+IsCertificateText-no_fault {bytes} {c} h a = stage_fails a (steps_before bytes 6 (suc (stage a)) (omega arith) (h.members, c.version, h.text, c.rule, h.json, h.version, h.rule_text, h.rule))
+
 -- no fault of the bytes comes at an earlier step than another
 not_before : {bytes : List ℕ} {f g : ShapeFault} (a : IsShapeFault bytes f) (b : IsShapeFault bytes g) → ¬ (stage a < stage b)
 not_before {bytes} a b less = stage_fails a (steps_before bytes (stage b) (suc (stage a)) (omega (arith, less)) (stage_passed b))
@@ -140,10 +144,8 @@ same_stage {bytes} (NoRule _ _ _ _ _) (NoRule _ _ _ _ _) same = refl
 same_stage {bytes} (BadRule ms _ text json _ rule_text f wrong) (BadRule ns _ other other_json _ other_text g other_wrong) same =
     ap shape.Rule (IsTextFault-unique (subst (λ text. IsTextFault text f) (one_text bytes text other json other_json rule_text other_text) wrong) other_wrong)
 same_stage {bytes} (BadPart ms v text r k json version rule_text rule first) (BadPart ns w other s l other_json other_version other_text other_rule other_first) same =
-    let versions : v ≡ w = number_of-injective v w (one_version bytes (number_of v) (number_of w) json other_json version other_version) in
-    let members = IsObject-unique bytes json other_json in
-    let rules = IsRuleText-unique (subst (λ text. IsRuleText text r) (one_text bytes text other json other_json rule_text other_text) rule) other_rule in
-    ap shape.Shape (IsFirstWithout-unique (subst (λ r. IsFirstWithout (Passes w r ns) part_steps k) rules (subst (λ ms. IsFirstWithout (Passes w r ms) part_steps k) members (subst (λ v. IsFirstWithout (Passes v r ms) part_steps k) versions first))) other_first)
+    let head = one_head bytes json other_json version other_version rule_text other_text rule other_rule in
+    ap shape.Shape (IsFirstWithout-unique (subst (λ r. IsFirstWithout (Passes w r ns) part_steps k) head.2 (subst (λ ms. IsFirstWithout (Passes w r ms) part_steps k) head.0 (subst (λ v. IsFirstWithout (Passes v r ms) part_steps k) head.1 first))) other_first)
 same_stage _ _ same = absurd (omega (arith, same))
 
 -- bytes have one first fault

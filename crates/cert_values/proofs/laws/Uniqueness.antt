@@ -1,5 +1,6 @@
 -- A JSON value says one thing, and bytes are the text of one certificate.
-use Rattle.std.proofs.Common.{◌≡◌, refl, sym, ap, ◌∙◌, subst, subst₂, List, [], ◌∷◌, length, map, ℕ, zero, suc, ℤ, Option, Some, None, slice_index, arith, codes}
+use Rattle.std.proofs.Common.{◌≡◌, refl, sym, ap, ap₂, ◌∙◌, subst, subst₂, List, [], ◌∷◌, length, map, ℕ, zero, suc, ℤ, Option, Some, None, slice_index, arith, codes}
+use Rattle.std.proofs.lemmas.Slice.Zip.{AllZip-long}
 use Rattle.word_image.proofs.Common.{AllZip, none-some, same_Some, LocalRule, hex_value}
 use Rattle.serde_json.specs.Data.{Data, null, Members, no_members, member}
 use Rattle.serde_json.specs.Find.{get_member, as_object, as_array, as_str}
@@ -54,7 +55,8 @@ IsClaimValue-unique d (Some m) None h k = absurd (not_null d m k h)
 IsClaimValue-unique d (Some m) (Some n) h k = ap Some (one_some h k)
 
 -- the lists of two arrays are one, where each value is related to one element at most
-one_zip : {A : Type 0} (R : Data → A → Type 0) → ((d : Data) (x y : A) → R d x → R d y → x ≡ y) → (ds : List Data) (xs ys : List A) → AllZip R ds xs → AllZip R ds ys → xs ≡ ys
+one_zip : {A : Type 0} (R : Data → A → Type 0) → ((d : Data) (x y : A) → R d x → R d y → x ≡ y) → (ds : List Data) (xs ys : List A) → AllZip R ds xs
+    → AllZip R ds ys → xs ≡ ys
 one_zip R one [] [] [] h k = refl
 one_zip R one [] [] (y ∷ ys) h k = absurd k
 one_zip R one [] (x ∷ xs) ys h k = absurd h
@@ -63,20 +65,15 @@ one_zip R one (d ∷ ds) (x ∷ xs) [] h k = absurd k
 one_zip R one (d ∷ ds) (x ∷ xs) (y ∷ ys) h k = let head : x ≡ y = one d x y h.0 k.0 in let rest : xs ≡ ys = one_zip R one ds xs ys h.1 k.1 in cc
 
 -- an array is one list, where each value is one element
-pub IsArrayOf-unique : {A : Type 0} (R : Data → A → Type 0) → ((d : Data) (x y : A) → R d x → R d y → x ≡ y) → (d : Data) (xs ys : List A) → IsArrayOf R d xs → IsArrayOf R d ys → xs ≡ ys
+pub IsArrayOf-unique : {A : Type 0} (R : Data → A → Type 0) → ((d : Data) (x y : A) → R d x → R d y → x ≡ y) → (d : Data) (xs ys : List A)
+    → IsArrayOf R d xs → IsArrayOf R d ys → xs ≡ ys
 IsArrayOf-unique R one d xs ys h k =
     one_zip R one (list_of k.0) xs ys (subst (λ ds. AllZip R (list_of ds) xs) (same_Some h.0 k.0 (ap as_array (sym h.1 ∙ k.1))) h.2) k.2
 
 -- two lists of the items of one array are of one length
 pub IsArrayOf-length : {A : Type 0} (R : Data → A → Type 0) (d : Data) (xs ys : List A) → IsArrayOf R d xs → IsArrayOf R d ys → length xs ≡ length ys
 IsArrayOf-length R d xs ys h k =
-    sym (length-zip R (list_of h.0) xs h.2) ∙ ap (λ ds. length (list_of ds)) (same_Some h.0 k.0 (ap as_array (sym h.1 ∙ k.1))) ∙ length-zip R (list_of k.0) ys k.2
-  where
-    length-zip : {A : Type 0} (R : Data → A → Type 0) (ds : List Data) (xs : List A) → AllZip R ds xs → length ds ≡ length xs
-    length-zip R [] [] h = refl
-    length-zip R [] (x ∷ xs) h = absurd h
-    length-zip R (d ∷ ds) [] h = absurd h
-    length-zip R (d ∷ ds) (x ∷ xs) h = ap suc (length-zip R ds xs h.1)
+    AllZip-long R (list_of h.0) xs h.2 ∙ ap (λ ds. length (list_of ds)) (same_Some h.0 k.0 (ap as_array (sym h.1 ∙ k.1))) ∙ sym (AllZip-long R (list_of k.0) ys k.2)
 
 -- the one key of an object and its value are one
 pub HasOnly-unique : (d : Data) {v u : Data} {k l : List ℕ} → HasOnly k v d → HasOnly l u d → (k ≡ l) × (v ≡ u)
@@ -91,65 +88,51 @@ HasOnlyBoth-unique d {v} {u} {w} {x} {k} {l} p q =
 pub not_both : (d : Data) {v u w : Data} {k l m : List ℕ} → HasOnly k v d → ¬ HasOnlyBoth l u m w d
 not_both d p q = absurd (omega (arith, ap members_len (one_some p q)))
 
--- an object with the one key has not the other
+-- what the value of the one key says is one
+value_at : {A : Type 0} (R : Data → A → Type 0) → ((d : Data) (x y : A) → R d x → R d y → x ≡ y) → (d : Data) {v u : Data} {k : List ℕ}
+    → HasOnly k v d → HasOnly k u d → (x y : A) → R v x → R u y → x ≡ y
+value_at R one d {v} p q x y h k = one v x y h (subst (λ u. R u y) (sym (HasOnly-unique d p q).1) k)
 
-pub sets_or_orphan : (d : Data) {v u : Data} → HasOnly (codes "sets") v d → ¬ HasOnly (codes "orphan") u d
-sets_or_orphan d p q = absurd (omega (arith, ap length (HasOnly-unique d p q).0))
-
-pub sets_or_pairs : (d : Data) {v u : Data} → HasOnly (codes "sets") v d → ¬ HasOnly (codes "pairs") u d
-sets_or_pairs d p q = absurd (omega (arith, ap length (HasOnly-unique d p q).0))
-
-pub pairs_or_orphan : (d : Data) {v u : Data} → HasOnly (codes "pairs") v d → ¬ HasOnly (codes "orphan") u d
-pairs_or_orphan d p q = absurd (omega (arith, ap length (HasOnly-unique d p q).0))
-
-pub flux_or_ring : (d : Data) {v u : Data} → HasOnly (codes "flux") v d → ¬ HasOnly (codes "ring") u d
-flux_or_ring d p q = absurd (omega (arith, ap (λ k. slice_index k 0) (HasOnly-unique d p q).0))
-
--- an array of one value and the same of another equal one are one list
-array_at : {A : Type 0} (R : Data → A → Type 0) → ((d : Data) (x y : A) → R d x → R d y → x ≡ y) → (d : Data) {v u : Data} {k : List ℕ} → HasOnly k v d → HasOnly k u d → (xs ys : List A) → IsArrayOf R v xs → IsArrayOf R u ys → xs ≡ ys
-array_at R one d {v} p q xs ys h k = IsArrayOf-unique R one v xs ys h (subst (λ u. IsArrayOf R u ys) (sym (HasOnly-unique d p q).1) k)
-
-word_at : (d : Data) {v u : Data} {k : List ℕ} → HasOnly k v d → HasOnly k u d → (w x : List ℕ) → IsDigits v w → IsDigits u x → w ≡ x
-word_at d {v} p q w x h k = IsDigits-unique v w x h (subst (λ u. IsDigits u x) (sym (HasOnly-unique d p q).1) k)
+array_at : {A : Type 0} (R : Data → A → Type 0) → ((d : Data) (x y : A) → R d x → R d y → x ≡ y) → (d : Data) {v u : Data} {k : List ℕ}
+    → HasOnly k v d → HasOnly k u d → (xs ys : List A) → IsArrayOf R v xs → IsArrayOf R u ys → xs ≡ ys
+array_at R one = value_at (IsArrayOf R) (IsArrayOf-unique R one)
 
 pub IsSurjectiveValue-unique : (d : Data) (e f : SurjectiveEvidence) → IsSurjectiveValue d e → IsSurjectiveValue d f → e ≡ f
 IsSurjectiveValue-unique d (Sets s) (Sets t) p q = ap Sets (array_at IsWhole IsWhole-unique d p.1 q.1 s t p.2 q.2)
 IsSurjectiveValue-unique d (Pairs s) (Pairs t) p q = ap Pairs (array_at IsWhole IsWhole-unique d p.1 q.1 s t p.2 q.2)
-IsSurjectiveValue-unique d (Orphan w) (Orphan v) p q = ap Orphan (word_at d p.1 q.1 w v p.2 q.2)
+IsSurjectiveValue-unique d (Orphan w) (Orphan v) p q = ap Orphan (value_at IsDigits IsDigits-unique d p.1 q.1 w v p.2 q.2)
 IsSurjectiveValue-unique d _ _ p q = absurd (omega (arith, ap length (HasOnly-unique d p.1 q.1).0))
 
 pub IsInjectiveValue-unique : (d : Data) (e f : InjectiveEvidence) → IsInjectiveValue d e → IsInjectiveValue d f → e ≡ f
 IsInjectiveValue-unique d (Window n c) (Window m b) p q =
     let values = HasOnlyBoth-unique d p.2 q.2 in
-    let same_n : n ≡ m = one_some p.4 (subst (λ v. IsWhole v m) (sym values.1) q.4) in
-    let same_c : c ≡ b = one_some p.3 (subst (λ v. IsWhole v b) (sym values.0) q.3) in
-    cc
+    ap₂ Window (one_some p.4 (rw values.1 q.4)) (one_some p.3 (rw values.0 q.3))
 IsInjectiveValue-unique d (Window n c) (Twins x y) p q = absurd (not_both d q.1 p.2)
 IsInjectiveValue-unique d (Twins x y) (Window n c) p q = absurd (not_both d p.1 q.2)
 IsInjectiveValue-unique d (Twins x y) (Twins u v) p q =
     let same : x ∷ y ∷ [] ≡ u ∷ v ∷ [] = array_at IsDigits IsDigits-unique d p.1 q.1 (x ∷ y ∷ []) (u ∷ v ∷ []) p.2 q.2 in cc
 
 pub IsSideValue-unique : (d : Data) (e f : SideEvidence) → IsSideValue d e → IsSideValue d f → e ≡ f
-IsSideValue-unique d (Ahead m) (Ahead n) p q = ap Ahead (one_some p.2 (subst (λ v. IsWhole v n) (sym (HasOnly-unique d p.1 q.1).1) q.2))
+IsSideValue-unique d (Ahead m) (Ahead n) p q = ap Ahead (value_at IsWhole IsWhole-unique d p.1 q.1 m n p.2 q.2)
 IsSideValue-unique d (Split t u) (Split x y) p q =
     let same : t ∷ u ∷ [] ≡ x ∷ y ∷ [] = array_at IsTailString IsTailString-unique d p.1 q.1 (t ∷ u ∷ []) (x ∷ y ∷ []) p.2 q.2 in cc
 IsSideValue-unique d _ _ p q = absurd (omega (arith, ap (λ k. slice_index k 0) (HasOnly-unique d p.1 q.1).0))
 
 pub IsSumValue-unique : (d : Data) (e f : SumEvidence) → IsSumValue d e → IsSumValue d f → e ≡ f
 IsSumValue-unique d (Flux s) (Flux t) p q = ap Flux (array_at IsSigned IsSigned-unique d p.1 q.1 s t p.2 q.2)
-IsSumValue-unique d (Flux s) (Ring v) p q = absurd (flux_or_ring d p.1 q.1)
-IsSumValue-unique d (Ring w) (Flux t) p q = absurd (flux_or_ring d q.1 p.1)
-IsSumValue-unique d (Ring w) (Ring v) p q = ap Ring (word_at d p.1 q.1 w v p.2 q.2)
+IsSumValue-unique d (Ring w) (Ring v) p q = ap Ring (value_at IsDigits IsDigits-unique d p.1 q.1 w v p.2 q.2)
+IsSumValue-unique d _ _ p q = absurd (omega (arith, ap (λ k. slice_index k 0) (HasOnly-unique d p.1 q.1).0))
 
 pub IsRanksValue-unique : (d : Data) (f b g c : List (Option ℕ)) → IsRanksValue d f b → IsRanksValue d g c → (f ≡ g) × (b ≡ c)
 IsRanksValue-unique d f b g c p q =
     let values = HasOnlyBoth-unique d p.2 q.2 in (
-      IsArrayOf-unique IsClaimValue IsClaimValue-unique p.1 f g p.4 (subst (λ v. IsArrayOf IsClaimValue v g) (sym values.1) q.4),
-      IsArrayOf-unique IsClaimValue IsClaimValue-unique p.0 b c p.3 (subst (λ v. IsArrayOf IsClaimValue v c) (sym values.0) q.3),
+      IsArrayOf-unique IsClaimValue IsClaimValue-unique p.1 f g p.4 (rw values.1 q.4),
+      IsArrayOf-unique IsClaimValue IsClaimValue-unique p.0 b c p.3 (rw values.0 q.3),
     )
 
 -- what the member of a key says is one
-pub HasMember-unique : {A : Type 0} (R : Data → A → Type 0) → ((d : Data) (x y : A) → R d x → R d y → x ≡ y) → {ms ns : Members} (k : List ℕ) (x y : A) → ms ≡ ns
+pub HasMember-unique : {A : Type 0} (R : Data → A → Type 0) → ((d : Data) (x y : A) → R d x → R d y → x ≡ y)
+    → {ms ns : Members} (k : List ℕ) (x y : A) → ms ≡ ns
     → HasMember ms k (λ d. R d x) → HasMember ns k (λ d. R d y) → x ≡ y
 HasMember-unique R one k x y same p q = one q.0 x y (subst (λ d. R d x) (one_some (subst (λ ms. get_member k ms ≡ Some p.0) same p.1) q.1) p.2) q.2
 
@@ -177,7 +160,8 @@ pub number_of-injective : (v w : CertVersion) → number_of v ≡ number_of w �
 number_of-injective v w same = same_Some v w (sym (version_of-number v) ∙ ap version_of same ∙ version_of-number w)
 
 -- the weights are one list
-HasWeights-unique : {version : CertVersion} {r : LocalRule} {ms : Members} (weights other : List ℕ) → HasWeights version r ms weights → HasWeights version r ms other → weights ≡ other
+HasWeights-unique : {version : CertVersion} {r : LocalRule} {ms : Members} (weights other : List ℕ) → HasWeights version r ms weights
+    → HasWeights version r ms other → weights ≡ other
 HasWeights-unique weights other (Own absent own) (Own missing also) = own ∙ sym also
 HasWeights-unique weights other (Own absent own) (Named names has are) = absurd (none-some has.0 (sym (absent names) ∙ has.1))
 HasWeights-unique weights other (Named names has are) (Own absent own) = absurd (none-some has.0 (sym (absent names) ∙ has.1))

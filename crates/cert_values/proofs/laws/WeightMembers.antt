@@ -1,7 +1,7 @@
 -- The weights of a certificate: read within their limits, and written exactly where they aren't the letters' own.
-use Rattle.std.proofs.Common.{◌≡◌, ℕ, ◌⊎◌, inl, inr, List, length, map, codes, bytes_eq, true, false, cond, refl, sym, ap, subst, ◌∙◌, ⊎_elim, arith}
+use Rattle.std.proofs.Common.{◌≡◌, ℕ, ◌⊎◌, inl, inr, List, map, codes, bytes_eq, true, sym, subst, ◌∙◌, ⊎_elim, arith}
 use Rattle.std.proofs.lemmas.Slice.Eq.{bytes_eq-Decides}
-use Rattle.word_image.proofs.Common.{false≢true, LocalRule, IsRule, AreWeights, own_weights}
+use Rattle.word_image.proofs.Common.{cases_Bool, false≢true, LocalRule, IsRule, AreWeights, own_weights}
 use Rattle.serde_json.specs.Data.{Members, no_members, member}
 use Rattle.word_image.proofs.laws.Weights.{AreWeights-own}
 use Rattle.cert_values.specs.declared.cert_version.CertVersion.{CertVersion}
@@ -12,19 +12,18 @@ use Rattle.cert_values.specs.CertificateTexts.HasWeights.{Named, Own}
 use Rattle.cert_values.specs.WrittenTexts.{array_from, whole_value, weights_members}
 
 -- weights that are read are within their limits
-pub IsWeightShape-has : {version : CertVersion} {r : LocalRule} {ms : Members} {weights : List ℕ} → IsRule r → HasWeights version r ms weights → IsWeightShape version r weights
+pub IsWeightShape-has : {version : CertVersion} {r : LocalRule} {ms : Members} {weights : List ℕ} → IsRule r → HasWeights version r ms weights
+    → IsWeightShape version r weights
 IsWeightShape-has rule (Named names has are) = record { each = are; own = λ none. absurd (false≢true (sym none ∙ names)) }
 IsWeightShape-has {r = r} rule (Own absent own) =
     let few = rule.shape.most_states in
     record { each = subst (AreWeights r.states) (sym own) (AreWeights-own (omega arith)); own = λ none. own }
 
 -- weights other than the letters' own come where the version names weights
-pub names_weights-other : {version : CertVersion} {r : LocalRule} {weights : List ℕ} → IsWeightShape version r weights → ¬ (weights ≡ own_weights r.states) → names_weights version ≡ true
+pub names_weights-other : {version : CertVersion} {r : LocalRule} {weights : List ℕ} → IsWeightShape version r weights
+    → ¬ (weights ≡ own_weights r.states) → names_weights version ≡ true
 names_weights-other {version} shape other =
-    elim (names_weights version) as (λ b. names_weights version ≡ b → b ≡ true) [
-      | true ↦ (λ is. refl)
-      | false ↦ (λ is. absurd (other (shape.own is)))
-    ] refl
+    ⊎_elim (λ yes. yes) (λ no. absurd (other (shape.own no))) (cases_Bool (names_weights version))
 
 -- the member of weights
 abbrev pub weights_member : List ℕ → Members
@@ -35,18 +34,7 @@ pub weights_members-cases : (r : LocalRule) (weights : List ℕ)
     → ((weights ≡ own_weights r.states) × (weights_members r weights ≡ no_members)) ⊎ ((¬ (weights ≡ own_weights r.states)) × (weights_members r weights ≡ weights_member weights))
 weights_members-cases r weights =
     let same = bytes_eq-Decides weights (own_weights r.states) in
-    elim (bytes_eq weights (own_weights r.states)) as
-    (λ b. bytes_eq weights (own_weights r.states) ≡ b
-    → ((weights ≡ own_weights r.states) × (cond b no_members (weights_member weights) ≡ no_members)) ⊎ ((¬ (weights ≡ own_weights r.states)) × (cond b no_members (weights_member weights) ≡ weights_member weights))) [
-      | true ↦ (λ is. inl (same.0 is, refl))
-      | false ↦ (λ is. inr ((λ own. false≢true (sym is ∙ same.1 own)), refl))
-    ] refl
-
--- no member of weights is written where the weights are the own ones of as many letters
-pub weights_members-own : {version : CertVersion} {r : LocalRule} {weights : List ℕ} → IsWeightShape version r weights → weights ≡ own_weights (length weights) → weights_members r weights ≡ no_members
-weights_members-own {r = r} {weights = weights} shape own =
-    ⊎_elim (λ (same, none). none) (λ (other, named). absurd (other (own ∙ ap own_weights (shape.each).each_letter))) (weights_members-cases r weights)
-
-pub weights_members-other : {version : CertVersion} {r : LocalRule} {weights : List ℕ} → IsWeightShape version r weights → ¬ (weights ≡ own_weights (length weights)) → weights_members r weights ≡ weights_member weights
-weights_members-other {r = r} {weights = weights} shape other =
-    ⊎_elim (λ (same, none). absurd (other (same ∙ ap own_weights (sym (shape.each).each_letter)))) (λ (apart, named). named) (weights_members-cases r weights)
+    ⊎_elim
+    (λ yes. inl (same.0 yes, rw yes))
+    (λ no. inr ((λ own. false≢true (sym no ∙ same.1 own)), rw no))
+    (cases_Bool (bytes_eq weights (own_weights r.states)))

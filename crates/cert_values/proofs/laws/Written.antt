@@ -80,7 +80,8 @@ IsSigned-signed (pos n) limits =
 IsSigned-signed (negsuc n) limits = refl
 
 -- evidence for surjective is read from its value
-IsSurjectiveValue-written : {r : LocalRule} → IsRule r → (version : CertVersion) (e : SurjectiveEvidence) → IsSurjectiveShape version r e → IsSurjectiveValue (surjective_value e) e
+IsSurjectiveValue-written : {r : LocalRule} → IsRule r → (version : CertVersion) (e : SurjectiveEvidence) → IsSurjectiveShape version r e
+    → IsSurjectiveValue (surjective_value e) e
 IsSurjectiveValue-written {r} rule version (Sets sets) shape =
     (array_from (map whole_value sets), refl, IsArrayOf-values IsWhole (λ set. set ≤ 2 ^ node_count r - 1) whole_value (λ n h. refl) sets shape)
 IsSurjectiveValue-written {r} rule version (Pairs pairs) shape =

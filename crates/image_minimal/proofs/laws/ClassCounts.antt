@@ -15,7 +15,8 @@ class_count-le parents =
     omega (arith, few, length-map-range_with_len f 0 (length parents))
 
 -- the number of classes after a number has another parent
-class_count-set : (parents : List ℕ) (i parent : ℕ) → i < length parents → class_count (set parents i parent) + root_mark i (slice_index parents i) ≡ class_count parents + root_mark i parent
+class_count-set : (parents : List ℕ) (i parent : ℕ) → i < length parents
+    → class_count (set parents i parent) + root_mark i (slice_index parents i) ≡ class_count parents + root_mark i parent
 class_count-set parents i parent inside =
     let n : ℕ = length parents in
     let new : List ℕ = set parents i parent in
@@ -29,21 +30,18 @@ class_count-set parents i parent inside =
     let read : (x : ℕ) → x < n → get_or marks x 0 ≡ f x = λ x l. get_or-map-range_with_len f 0 n x x 0 l (omega arith) in
     let reread : (x : ℕ) → x < n → get_or changed x 0 ≡ g x = λ x l. get_or-map-range_with_len g 0 (length new) x x 0 (omega (arith, l, long)) (omega arith) in
     let here : root_mark i parent ≡ get_or changed i 0 = ap (root_mark i) (sym (get_or-set_same parents i parent 0 inside)) ∙ sym (reread i inside) in
-    let others : (x : ℕ) → x < length marks → x ≢ i → get_or marks x 0 ≡ get_or changed x 0 = λ x l other.
-    read x (omega (arith, l, count)) ∙ ap (root_mark x) (sym (get_or-set_other parents i x parent 0 other)) ∙ sym (reread x (omega (arith, l, count))) in
+    let others : (x : ℕ) → x < length marks → x ≢ i → get_or marks x 0 ≡ get_or changed x 0 = grind (arith, get_or-set_other) in
     let same : set marks i (root_mark i parent) ≡ changed =
     ext_get_or 0 (set marks i (root_mark i parent)) changed (length-set marks i (root_mark i parent) ∙ count ∙ sym long ∙ sym also)
     (each-set (λ x mark. mark ≡ get_or changed x 0) marks i 0 (root_mark i parent) (omega (arith, inside, count)) others here) in
     omega (arith, ap (sum_by (λ m. m)) same, sum_by-set (λ m. m) marks i (root_mark i parent) 0 (omega (arith, inside, count)), read i inside)
 
 -- a number with a lesser parent is no root
-pub class_count-lower : (parents : List ℕ) (i parent : ℕ) → i < length parents → parent < i → class_count (set parents i parent) + root_mark i (slice_index parents i) ≡ class_count parents
-class_count-lower parents i parent inside less =
-    let none : root_mark i parent ≡ 0 = ap (λ b. if b then 1 else 0) (ne_eqb parent i (λ same. omega (arith, same, less))) in
-    omega (arith, none, class_count-set parents i parent inside)
+pub class_count-lower : (parents : List ℕ) (i parent : ℕ) → i < length parents → parent < i
+    → class_count (set parents i parent) + root_mark i (slice_index parents i) ≡ class_count parents
+class_count-lower parents i parent inside less = grind (arith, ne_eqb, class_count-set)
 
 -- a root that gets a lesser parent is a root no more
-pub class_count-root : (parents : List ℕ) (i parent : ℕ) → i < length parents → slice_index parents i ≡ i → parent < i → class_count (set parents i parent) + 1 ≡ class_count parents
-class_count-root parents i parent inside root less =
-    let one : root_mark i (slice_index parents i) ≡ 1 = ap (λ b. if b then 1 else 0) (eq-eqb (slice_index parents i) i root) in
-    omega (arith, one, class_count-lower parents i parent inside less)
+pub class_count-root : (parents : List ℕ) (i parent : ℕ) → i < length parents → slice_index parents i ≡ i → parent < i
+    → class_count (set parents i parent) + 1 ≡ class_count parents
+class_count-root parents i parent inside root less = grind (arith, eq-eqb, class_count-lower)

@@ -15,7 +15,8 @@ listed_also {x = x} {y} a b w within =
     subst (Contains y) (sym (IsLeastAlike-one least (b.least j v stands) alike)) (Contains-slice_get y j v stands)
 
 -- alike words of a list have one place
-alike_place : {r : LocalRule} {x : List (List ℕ)} → IsClassList r x → (i j : ℕ) (v w : List ℕ) → slice_get x i ≡ Some v → slice_get x j ≡ Some w → Alike r v w → i ≡ j
+alike_place : {r : LocalRule} {x : List (List ℕ)} → IsClassList r x → (i j : ℕ) (v w : List ℕ) → slice_get x i ≡ Some v → slice_get x j ≡ Some w
+    → Alike r v w → i ≡ j
 alike_place {x = x} a i j v w at also alike = one_place word_cmp_total x (IsAscending-sorted x a.ascending) i j w (subst (λ u. slice_get x i ≡ Some u) (IsLeastAlike-one (a.least i v at) (a.least j w also) alike) at) also
 
 -- one class comes after a class on a letter
@@ -31,7 +32,8 @@ orphan_on {r} rule w z word orphan =
     (IsOrphan-is_dead rule (IsLastSet-orphan rule orphan) z word).1 ((is_dead-unread rule z set 0 unread (pow_pos (node_count r))).1 (λ u l some. absurd (IsBitSet-zero u some)))
 
 -- where there is an orphan, a rule isn't surjective, and one class is that of the orphans
-IsDeadClass-unique : {r : LocalRule} {x : List (List ℕ)} → IsRule r → IsClassList r x → (c d : Option ℕ) → IsDeadClass r x c → IsDeadClass r x d → c ≡ d
+IsDeadClass-unique : {r : LocalRule} {x : List (List ℕ)} → IsRule r → IsClassList r x → (c d : Option ℕ) → IsDeadClass r x c → IsDeadClass r x d
+    → c ≡ d
 IsDeadClass-unique rule a None None all also = refl
 IsDeadClass-unique rule a None (Some j) all (w, at, orphan) = let (x, preimage) = all w orphan.word in absurd (orphan.none x preimage)
 IsDeadClass-unique rule a (Some i) None (w, at, orphan) all = let (x, preimage) = all w orphan.word in absurd (orphan.none x preimage)
@@ -40,9 +42,7 @@ IsDeadClass-unique rule a (Some i) (Some j) (v, at, orphan) (w, also, other) = a
 -- each place of a table is that of a row and a column
 pub table_place : (n k e : ℕ) → e < n * k → (e / k < n) × (e % k < k) × (e ≡ e / k * k + e % k)
 table_place n zero e l = absurd (omega (arith, mul-zero n, l))
-table_place n (suc k) e l =
-    let some : 0 < suc k = omega arith in
-    ((div-lt_iff_lt-mul {k = suc k} {x = e} {y = n} some).1 l, mod-lt e some, omega (arith, div-add-mod e (suc k), mul_comm (suc k) (e / suc k)))
+table_place n (suc k) e l = grind (arith, div-lt_iff_lt-mul, mod-lt, div-add-mod, mul_comm)
 
 -- a rule has at most one least automaton
 pub IsLeastAutomaton-unique : {r : LocalRule} {a b : Automaton} → IsRule r → IsLeastAutomaton r a → IsLeastAutomaton r b → a ≡ b

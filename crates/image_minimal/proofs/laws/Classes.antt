@@ -5,7 +5,8 @@ use Rattle.image_minimal.proofs.laws.Closures.{Alike-closure, IsClosure-empty}
 use Rattle.image_minimal.proofs.laws.ClosedSteps.{LeadsToClosure, IsLastClosure-leads, LeadsToClosure-some}
 
 -- words are alike exactly where they lead to one closure
-Alike-leads : {r : LocalRule} {x y : List ℕ} {closure other : ℕ} → IsRule r → LeadsToClosure r x closure → LeadsToClosure r y other → (Alike r x y ↔ (closure ≡ other))
+Alike-leads : {r : LocalRule} {x y : List ℕ} {closure other : ℕ} → IsRule r → LeadsToClosure r x closure → LeadsToClosure r y other
+    → (Alike r x y ↔ (closure ≡ other))
 Alike-leads rule of_x of_y =
     let a = IsLastClosure-leads rule of_x in
     let b = IsLastClosure-leads rule of_y in
@@ -18,7 +19,8 @@ pub record AreClassWords (r : LocalRule) (classes : List ℕ) (words : List (Lis
   pub list : IsClassList r words
 
 -- where all edges are followed there are words of the classes
-pub AreClassWords-closed : {r : LocalRule} {closures classes : List ℕ} {e : ℕ} → IsRule r → AreClosures r closures → IsClassSearch r classes e → length classes * r.states ≤ e
+pub AreClassWords-closed : {r : LocalRule} {closures classes : List ℕ} {e : ℕ} → IsRule r → AreClosures r closures → IsClassSearch r classes e
+    → length classes * r.states ≤ e
     → (words : List (List ℕ)) × AreClassWords r classes words
 AreClassWords-closed {r} {closures} {classes} {e} rule have x closed =
     let q = x.queue in
@@ -30,10 +32,7 @@ AreClassWords-closed {r} {closures} {classes} {e} rule have x closed =
       words,
       record {
         long = sym (length-search x) ∙ long;
-        leads = λ i s w at also.
-            let (y, stands, first) = place i w also in
-            let here : slice_get classes i ≡ Some y.state = subst (λ l. slice_get l i ≡ Some y.state) x.lists (mapped_at (λ z. z.state) x.tree i y stands) in
-            subst (LeadsToClosure r w) (slice_get-unique classes i y.state s here at) first.leads;
+        leads = grind (arith, mapped_at, LeadsToClosure, slice_get-unique);
         list = record {
           least = λ i w at.
               let (y, stands, first) = place i w at in
@@ -57,14 +56,16 @@ AreClassWords-closed {r} {closures} {classes} {e} rule have x closed =
     )
 
 -- the word of a class
-word_at : {r : LocalRule} {classes : List ℕ} {words : List (List ℕ)} → AreClassWords r classes words → (i s : ℕ) → slice_get classes i ≡ Some s → (w : List ℕ) × (slice_get words i ≡ Some w) × LeadsToClosure r w s
+word_at : {r : LocalRule} {classes : List ℕ} {words : List (List ℕ)} → AreClassWords r classes words → (i s : ℕ) → slice_get classes i ≡ Some s
+    → (w : List ℕ) × (slice_get words i ≡ Some w) × LeadsToClosure r w s
 word_at {classes = classes} {words} c i s at =
     let w = get_or words i [] in
     let stands = slice_get-get_or words i [] (omega (arith, sym c.long, slice_get_within classes i s at)) in
     (w, stands, c.leads i s w at stands)
 
 -- a closed step from one class to another
-pub IsNextClass-step : {r : LocalRule} {classes : List ℕ} {words : List (List ℕ)} → IsRule r → AreClassWords r classes words → (i a j from to : ℕ) → slice_get classes i ≡ Some from → slice_get classes j ≡ Some to
+pub IsNextClass-step : {r : LocalRule} {classes : List ℕ} {words : List (List ℕ)} → IsRule r → AreClassWords r classes words → (i a j from to : ℕ)
+    → slice_get classes i ≡ Some from → slice_get classes j ≡ Some to
     → a < r.states → IsClosedStep r from a to → IsNextClass r words i a j
 IsNextClass-step rule c i a j from to at also letter step =
     let (v, at_v, of_v) = word_at c i from at in
@@ -78,7 +79,8 @@ IsOrphan-leads rule leads =
     iff_then (IsOrphan-last rule h.last) (IsClosure-empty h.last.last.within h.closes)
 
 -- the place of the empty set is the class of the orphans
-pub IsDeadClass-place : {r : LocalRule} {closures classes : List ℕ} {words : List (List ℕ)} → IsRule r → AreClosures r closures → AreClassWords r classes words → (dead : Option ℕ) → IsPlaceOf classes 0 dead → IsDeadClass r words dead
+pub IsDeadClass-place : {r : LocalRule} {closures classes : List ℕ} {words : List (List ℕ)} → IsRule r → AreClosures r closures
+    → AreClassWords r classes words → (dead : Option ℕ) → IsPlaceOf classes 0 dead → IsDeadClass r words dead
 IsDeadClass-place {r} {classes = classes} rule have c None at = λ v word.
     let (end, leads) = LeadsToClosure-some have v word in
     let (i, w, stands, alike) = c.list.all v word in

@@ -30,7 +30,8 @@ IsLastClosure-leads {r} {w} {closure} rule = Leads-induct (IsLastClosure r) (rec
     }) w closure
 
 -- a step to a set is a closed step to its closure
-pub closed_step : {r : LocalRule} {closures : List ℕ} {to : ℕ} (set a : ℕ) → AreClosures r closures → IsStep r set a to → IsClosedStep r set a (slice_index closures to)
+pub closed_step : {r : LocalRule} {closures : List ℕ} {to : ℕ} (set a : ℕ) → AreClosures r closures → IsStep r set a to
+    → IsClosedStep r set a (slice_index closures to)
 closed_step {to = to} set a h step = record { to = to; step = step; closure = h.closure to (omega arith) step.within }
 
 -- where each set of nodes has a closure, a word leads from each set to some set by closed steps
@@ -41,5 +42,6 @@ closed_walk {r} {closures} h (a ∷ w) set =
     let (end, rest) = closed_walk h w (slice_index closures next) in
     (end, (slice_index closures next, closed_step set a h step, rest))
 
-pub LeadsToClosure-some : {r : LocalRule} {closures : List ℕ} → AreClosures r closures → (w : List ℕ) → IsWord r.states w → (closure : ℕ) × LeadsToClosure r w closure
+pub LeadsToClosure-some : {r : LocalRule} {closures : List ℕ} → AreClosures r closures → (w : List ℕ) → IsWord r.states w
+    → (closure : ℕ) × LeadsToClosure r w closure
 LeadsToClosure-some {r} h w word = let (end, walk) = closed_walk h w (full_set r) in (end, record { walk = walk; word = word })

@@ -22,10 +22,7 @@ with_node set u = bit_or set (2 ^ u)
 
 -- a set with one node more has that node, and those of the set
 pub IsBitSet-with : (set u v : ℕ) → IsBitSet (with_node set u) v ↔ (IsBitSet set v ⊎ (v ≡ u))
-IsBitSet-with set u v =
-    let either = IsBitSet-or set (2 ^ u) v in
-    let one = IsBitSet-pow u v in
-    ((λ some. ⊎_map (λ there. there) one.0 (either.0 some)), (λ some. either.1 (⊎_map (λ there. there) one.1 some)))
+IsBitSet-with set u v = grind (arith, IsBitSet-or, IsBitSet-pow, ⊎_map)
 
 -- where the set lacks the node, it is a greater number with it
 pub with_node-greater : (set u : ℕ) → ¬ IsBitSet set u → set < with_node set u
@@ -36,18 +33,14 @@ with_node-greater set u missing =
     (cases_eq (with_node set u) set)
 
 -- the nodes that the first n parts have in common, and the next one
-pub IsCommon-take : {count : ℕ} (Has : ℕ → ℕ → Type 0) (n set part : ℕ) → IsSetOf count (λ v. (u : ℕ) → u < n → Has u v) set → ((v : ℕ) → (IsBitSet part v ↔ Has n v))
+pub IsCommon-take : {count : ℕ} (Has : ℕ → ℕ → Type 0) (n set part : ℕ) → IsSetOf count (λ v. (u : ℕ) → u < n → Has u v) set
+    → ((v : ℕ) → (IsBitSet part v ↔ Has n v))
     → IsSetOf count (λ v. (u : ℕ) → u < n + 1 → Has u v) (bit_and set part)
-IsCommon-take Has n set part h same = record {
-  within = omega (arith, and_le_l set part, h.within);
-  nodes = λ v l. (
-    (λ some. let (before, last) = (IsBitSet-and set part v).0 some in below_more (λ u. Has u v) n ((h.nodes v l).0 before) ((same v).0 last)),
-    (λ all. (IsBitSet-and set part v).1 ((h.nodes v l).1 (λ u less. all u (omega (arith, less))), (same v).1 (all n (omega arith)))),
-  );
-}
+IsCommon-take Has n set part h same = grind (arith, and_le_l, IsBitSet-and, below_more)
 
 -- the next part has all nodes
-pub IsCommon-skip : {count set : ℕ} (Has : ℕ → ℕ → Type 0) (n : ℕ) → IsSetOf count (λ v. (u : ℕ) → u < n → Has u v) set → ((v : ℕ) → Has n v) → IsSetOf count (λ v. (u : ℕ) → u < n + 1 → Has u v) set
+pub IsCommon-skip : {count set : ℕ} (Has : ℕ → ℕ → Type 0) (n : ℕ) → IsSetOf count (λ v. (u : ℕ) → u < n → Has u v) set → ((v : ℕ) → Has n v)
+    → IsSetOf count (λ v. (u : ℕ) → u < n + 1 → Has u v) set
 IsCommon-skip Has n h every = IsSetOf-same (λ v _. ((λ all. below_more (λ u. Has u v) n all (every v)), (λ all u less. all u (omega (arith, less))))) h
 
 -- the closure of the set with a node that it lacks has a node
@@ -55,7 +48,8 @@ abbrev pub HasAbove : ℕ → List ℕ → ℕ → ℕ → Type 0
 HasAbove set closures u v = ¬ IsBitSet set u → IsBitSet (slice_index closures (with_node set u)) v
 
 -- of a set that isn't unread the closure is what those of the sets with one node more have in common
-pub IsClosure-shared : {r : LocalRule} {set shared : ℕ} {closures : List ℕ} → set < 2 ^ node_count r → ¬ IsUnreadSet r set → AreClosuresFrom r (set + 1) closures
+pub IsClosure-shared : {r : LocalRule} {set shared : ℕ} {closures : List ℕ} → set < 2 ^ node_count r → ¬ IsUnreadSet r set
+    → AreClosuresFrom r (set + 1) closures
     → IsNodeSet r (λ v. (u : ℕ) → u < node_count r → HasAbove set closures u v) shared → IsClosure r set shared
 IsClosure-shared {r} {set} {shared} {closures} small read above h =
     let more : (u : ℕ) → u < node_count r → ¬ IsBitSet set u → IsClosure r (with_node set u) (slice_index closures (with_node set u)) = λ u node missing.
@@ -65,10 +59,7 @@ IsClosure-shared {r} {set} {shared} {closures} small read above h =
       nodes = λ v l. (
         (λ some unread is within. ⊎_elim
             (λ (u, node, (there, missing)).
-            ((more u node missing).of.nodes v l).0 ((h.nodes v l).0 some u node missing) unread is (λ x below in_more. ⊎_elim
-            (λ in_set. within x below in_set)
-            (λ same. subst (IsBitSet unread) (sym same) there)
-            ((IsBitSet-with set u x).0 in_more)))
+            ((more u node missing).of.nodes v l).0 ((h.nodes v l).0 some u node missing) unread is (λ x below in_more. grind (arith, IsBitSet-with)))
             (λ back.
             let same : unread ≡ set = same_set (node_count r) unread set (IsUnreadSet-below is) small (λ u below. (back u below, within u below)) in
             absurd (read (subst (IsUnreadSet r) same is)))
@@ -80,7 +71,8 @@ IsClosure-shared {r} {set} {shared} {closures} small read above h =
     record { of = closure }
 
 -- the closure of one set more
-pub AreClosuresFrom-set : {r : LocalRule} {n closure : ℕ} {closures : List ℕ} → AreClosuresFrom r (n + 1) closures → n < 2 ^ node_count r → IsClosure r n closure
+pub AreClosuresFrom-set : {r : LocalRule} {n closure : ℕ} {closures : List ℕ} → AreClosuresFrom r (n + 1) closures → n < 2 ^ node_count r
+    → IsClosure r n closure
     → AreClosuresFrom r n (set closures n closure)
 AreClosuresFrom-set {r} {n} {closure} {closures} h small here = record {
   long = length-set closures n closure ∙ h.long;

@@ -1,34 +1,24 @@
 -- The closure of a set: two words are alike exactly where the sets of their last nodes have one closure.
 use Rattle.image_minimal.proofs.Common.{◌≡◌, ℕ, ◌^◌, ◌<◌, ◌↔◌, List, [], ◌∷◌, ◌++◌, Bool, true, false, refl, sym, ap, ◌∙◌, subst, subst₂, arith, pow_pos, iff_then, iff_sym, All-cons, LocalRule, IsRule, IsWord, IsOrphan, node_count, full_set, IsStep, IsLastSet, IsBitSet-full, IsSetOf-same, IsSetOf-unique, IsStep-some, Alike, IsWithin, IsUnreadSet, IsClosure}
+use Rattle.word_image.proofs.Common.{same_from_decides}
 use Rattle.image_minimal.proofs.laws.Unread.{is_dead, is_dead-unread, IsUnread-some, IsWord-unread, IsWithin-zero, IsOrphan-is_dead}
-
--- tests that hold alike are one
-same_tests : (a b : Bool) → ((a ≡ true) ↔ (b ≡ true)) → a ≡ b
-same_tests true b h = sym (h.0 refl)
-same_tests false true h = h.1 refl
-same_tests false false h = refl
 
 -- the same words lead from both sets to the empty set
 pub record AreReadAlike (r : LocalRule) (s t : ℕ) : Type 0 where
   pub dead : (z : List ℕ) → IsWord r.states z → is_dead r z s ≡ is_dead r z t
 
 -- the unread sets in which a set is are those in which its closure is
-IsWithin-closure : {r : LocalRule} {s closure : ℕ} → IsClosure r s closure → (unread : ℕ) → IsUnreadSet r unread → (IsWithin r closure unread ↔ IsWithin r s unread)
-IsWithin-closure c unread is = (
-  (λ within u l there. within u l ((c.of.nodes u l).1 (λ other _ inside. inside u l there))),
-  (λ within u l there. (c.of.nodes u l).0 there unread is within),
-)
+IsWithin-closure : {r : LocalRule} {s closure : ℕ} → IsClosure r s closure → (unread : ℕ) → IsUnreadSet r unread
+    → (IsWithin r closure unread ↔ IsWithin r s unread)
+IsWithin-closure c unread is = grind arith
 
 -- the same words are read from a set and from its closure
 pub AreReadAlike-closure : {r : LocalRule} {s closure : ℕ} → IsRule r → s < 2 ^ node_count r → IsClosure r s closure → AreReadAlike r closure s
-AreReadAlike-closure {r} {s} {closure} rule small c = record {
-  dead = λ z word.
-      let (unread, is) = IsUnread-some r z word in
-      same_tests (is_dead r z closure) (is_dead r z s) (iff_then (is_dead-unread rule z unread closure is c.of.within) (iff_then (IsWithin-closure c unread (z, is)) (iff_sym (is_dead-unread rule z unread s is small))));
-}
+AreReadAlike-closure {r} {s} {closure} rule small c = grind (arith, IsUnread-some, same_from_decides, is_dead-unread, IsWithin-closure)
 
 -- sets from which the same words are read have the same closure
-pub IsClosure-alike : {r : LocalRule} {s t closure : ℕ} → IsRule r → s < 2 ^ node_count r → t < 2 ^ node_count r → AreReadAlike r s t → IsClosure r s closure → IsClosure r t closure
+pub IsClosure-alike : {r : LocalRule} {s t closure : ℕ} → IsRule r → s < 2 ^ node_count r → t < 2 ^ node_count r → AreReadAlike r s t
+    → IsClosure r s closure → IsClosure r t closure
 IsClosure-alike {r} {s} {t} rule small also h c =
     let same : (unread : ℕ) → IsUnreadSet r unread → (IsWithin r s unread ↔ IsWithin r t unread) = λ unread (z, is).
     iff_then (iff_sym (is_dead-unread rule z unread s is small)) (subst (λ b. (b ≡ true) ↔ IsWithin r t unread) (sym (h.dead z (IsWord-unread r z unread is))) (is_dead-unread rule z unread t is also)) in
@@ -39,17 +29,19 @@ pub IsClosure-unique : {r : LocalRule} {s closure other : ℕ} → IsClosure r s
 IsClosure-unique first second = IsSetOf-unique first.of second.of
 
 -- steps on one letter lead from sets from which the same words are read to such sets
-pub AreReadAlike-step : {r : LocalRule} {s t a after also : ℕ} → a < r.states → AreReadAlike r s t → IsStep r s a after → IsStep r t a also → AreReadAlike r after also
+pub AreReadAlike-step : {r : LocalRule} {s t a after also : ℕ} → a < r.states → AreReadAlike r s t → IsStep r s a after → IsStep r t a also
+    → AreReadAlike r after also
 AreReadAlike-step {r} {s} {t} {a} letter h first second = record {
   dead = λ z word. subst₂ (λ x y. is_dead r z x ≡ is_dead r z y) (IsSetOf-unique (IsStep-some r s a).1 first) (IsSetOf-unique (IsStep-some r t a).1 second) (h.dead (a ∷ z) (All-cons (λ b. b < r.states) a z letter word));
 }
 
 -- two words are alike exactly where their last nodes have one closure
-pub Alike-closure : {r : LocalRule} {x y : List ℕ} {s t closure other : ℕ} → IsRule r → IsLastSet r x s → IsLastSet r y t → IsClosure r s closure → IsClosure r t other
+pub Alike-closure : {r : LocalRule} {x y : List ℕ} {s t closure other : ℕ} → IsRule r → IsLastSet r x s → IsLastSet r y t → IsClosure r s closure
+    → IsClosure r t other
     → (Alike r x y ↔ (closure ≡ other))
 Alike-closure {r} {x} {s = s} {t} rule first second of_s of_t = (
   (λ alike. IsClosure-unique (IsClosure-alike rule first.last.within second.last.within (record {
-    dead = λ z word. same_tests (is_dead r z s) (is_dead r z t) (iff_then (iff_sym (IsOrphan-is_dead rule first z word)) (iff_then (alike z word) (IsOrphan-is_dead rule second z word)));
+    dead = λ z word. same_from_decides (is_dead r z s) (is_dead r z t) (iff_sym (IsOrphan-is_dead rule first z word)) (iff_then (iff_sym (IsOrphan-is_dead rule second z word)) (iff_sym (alike z word)));
   }) of_s) of_t),
   (λ same z word.
       let dead = sym ((AreReadAlike-closure rule first.last.within of_s).dead z word) ∙ ap (is_dead r z) same ∙ (AreReadAlike-closure rule second.last.within of_t).dead z word in

@@ -1,9 +1,10 @@
 -- The words of links, and the words that come early enough after them: such a word leads both sets of a link to the empty set, or neither.
-use Rattle.image_minimal.proofs.Common.{◌≡◌, ℕ, suc, ◌+◌, ◌-◌, ◌*◌, ◌^◌, ◌<◌, ◌≤◌, List, [], ◌∷◌, ◌++◌, Some, Bool, cond, ltb, lt-ltb, le-ltb, sym, ap, ap₂, ◌∙◌, subst, arith, ⊎_elim, length, map, slice_get, pow_pos, mul-le-mul_left, mul-le-mul_right, mul-one, map-append, one-le-pow, All-head, All-tail, LocalRule, IsRule, IsWord, IsLastSet, IsLastSet-full, IsLastSet-step, value, value-append, node_count, slice_get-unique, Place, Leads-induct, word_number, word_number-snoc, spelled-within, TreeSpells-some, append_assoc, mapped_at, state-all, TreeSpells-cases, Leads-spelled, IsStep-some, Link, IsLinkSearch, link_place, link_places, SpellsLink}
+use Rattle.image_minimal.proofs.Common.{◌≡◌, ℕ, suc, ◌+◌, ◌-◌, ◌*◌, ◌^◌, ◌<◌, ◌≤◌, List, [], ◌∷◌, ◌++◌, Some, Bool, cond, ltb, lt-ltb, le-ltb, sym, ap, ap₂, ◌∙◌, arith, ⊎_elim, length, map, slice_get, pow_pos, mul-le-mul_left, mul-le-mul_right, mul-one, map-append, one-le-pow, All-head, All-tail, LocalRule, IsRule, IsWord, IsLastSet, IsLastSet-full, IsLastSet-step, value, value-append, node_count, slice_get-unique, Leads-induct, word_number, word_number-snoc, spelled-within, TreeSpells-some, append_assoc, mapped_at, state-all, TreeSpells-cases, Leads-spelled, IsStep-some, Link, IsLinkSearch, link_place, SpellsLink}
 use Rattle.image_minimal.proofs.laws.Unread.{is_dead}
 
 -- the word on the way to a link has the sets of the link on both sides
-pub IsLastSet-link : {r q : LocalRule} {links : List Link} {parents : List ℕ} {e i : ℕ} {w : List ℕ} → IsRule r → IsRule q → r.states ≡ q.states → IsLinkSearch r q links parents e
+pub IsLastSet-link : {r q : LocalRule} {links : List Link} {parents : List ℕ} {e i : ℕ} {w : List ℕ} → IsRule r → IsRule q → r.states ≡ q.states
+    → IsLinkSearch r q links parents e
     → SpellsLink links i w → (x : Link) → slice_get links i ≡ Some x → IsLastSet r w x.first × IsLastSet q w x.second
 IsLastSet-link {r} {q} {links} {i = i} {w} rule other states h reaches x at =
     Leads-induct (λ v p. IsLastSet r v p.0 × IsLastSet q v p.1) (IsLastSet-full r, IsLastSet-full q)
@@ -11,7 +12,8 @@ IsLastSet-link {r} {q} {links} {i = i} {w} rule other states h reaches x at =
     w (x.first, x.second) (Leads-spelled h.fills reaches (link_place x) (mapped_at link_place links i x at))
 
 -- the sets of a link are sets of nodes
-pub link-below : {r q : LocalRule} {links : List Link} {parents : List ℕ} {e : ℕ} → IsLinkSearch r q links parents e → (i : ℕ) (x : Link) → slice_get links i ≡ Some x
+pub link-below : {r q : LocalRule} {links : List Link} {parents : List ℕ} {e : ℕ} → IsLinkSearch r q links parents e → (i : ℕ) (x : Link)
+    → slice_get links i ≡ Some x
     → (x.first < 2 ^ node_count r) × (x.second < 2 ^ node_count q)
 link-below {r} {q} {links} h i x at =
     state-all h.fills (λ p. (p.0 < 2 ^ node_count r) × (p.1 < 2 ^ node_count q)) (omega (arith, pow_pos (node_count r)), omega (arith, pow_pos (node_count q)))
@@ -23,23 +25,21 @@ word_number-parts k u z = ap (value k) (map-append suc u z) ∙ value-append k (
 
 -- the number of a longer word grows with that of its front
 word_number-append : (k : ℕ) (u v z : List ℕ) → word_number k u ≤ word_number k v → word_number k (u ++ z) ≤ word_number k (v ++ z)
-word_number-append k u v z most =
-    let rows : word_number k u * k ^ length (map suc z) ≤ word_number k v * k ^ length (map suc z) = mul-le-mul_right (k ^ length (map suc z)) most in
-    omega (arith, word_number-parts k u z, word_number-parts k v z)
+word_number-append k u v z most = grind (arith, word_number, mul-le-mul_right, word_number-parts)
 
 -- a front has no greater number than the whole word
 word_number-front : (k : ℕ) (u z : List ℕ) → 1 ≤ k → word_number k u ≤ word_number k (u ++ z)
-word_number-front k u z some =
-    let grows : word_number k u * 1 ≤ word_number k u * k ^ length (map suc z) = mul-le-mul_left (word_number k u) (one-le-pow (length (map suc z)) k some) in
-    omega (arith, word_number-parts k u z, mul-one (word_number k u))
+word_number-front k u z some = grind (arith, word_number, mul-le-mul_left, one-le-pow, word_number-parts, mul-one)
 
 -- the edges whose words have no greater number have been followed
 abbrev pub AreEarly : ℕ → List Link → ℕ → ℕ → Type 0
 AreEarly k links e bound = (i a : ℕ) (v : List ℕ) (x : Link) → slice_get links i ≡ Some x → SpellsLink links i v → a < k → word_number k (v ++ a ∷ []) ≤ bound → i * k + a < e
 
 -- a word after the one on the way to a link leads both sets of the link to the empty set, or neither, if both together have no greater number
-pub same_end : {r q : LocalRule} {links : List Link} {parents : List ℕ} {e bound : ℕ} → IsRule r → IsLinkSearch r q links parents e → AreEarly r.states links e bound
-    → (z : List ℕ) → IsWord r.states z → (i : ℕ) (x : Link) (w : List ℕ) → slice_get links i ≡ Some x → SpellsLink links i w → word_number r.states (w ++ z) ≤ bound → is_dead r z x.first ≡ is_dead q z x.second
+pub same_end : {r q : LocalRule} {links : List Link} {parents : List ℕ} {e bound : ℕ} → IsRule r → IsLinkSearch r q links parents e
+    → AreEarly r.states links e bound
+    → (z : List ℕ) → IsWord r.states z → (i : ℕ) (x : Link) (w : List ℕ) → slice_get links i ≡ Some x → SpellsLink links i w
+    → word_number r.states (w ++ z) ≤ bound → is_dead r z x.first ≡ is_dead q z x.second
 same_end rule h early [] word i x w at spells most = h.even i x at
 same_end {r} {q} {links} {bound = bound} rule h early (a ∷ z) word i x w at spells most =
     let k = r.states in
@@ -64,14 +64,10 @@ same_end {r} {q} {links} {bound = bound} rule h early (a ∷ z) word i x w at sp
     ∙ second t
 
 -- the word on the way to a link is that of its parent, followed by its letter
-pub SpellsLink-parent : (links : List Link) (i : ℕ) (w : List ℕ) → SpellsLink links i w → 0 < i → (x : Link) → slice_get links i ≡ Some x → (v : List ℕ) × SpellsLink links x.parent v × (w ≡ v ++ x.letter ∷ [])
+pub SpellsLink-parent : (links : List Link) (i : ℕ) (w : List ℕ) → SpellsLink links i w → 0 < i → (x : Link) → slice_get links i ≡ Some x
+    → (v : List ℕ) × SpellsLink links x.parent v × (w ≡ v ++ x.letter ∷ [])
 SpellsLink-parent links i w reaches positive x at =
     ⊎_elim
     (λ none. absurd (omega (arith, none.0)))
-    (λ longer.
-    let place : longer.place ≡ link_place x = slice_get-unique (link_places links) i longer.place (link_place x) longer.stands (mapped_at link_place links i x at) in (
-      longer.front,
-      subst (λ (z : Place (ℕ × ℕ)). SpellsLink links z.parent longer.front) place longer.before,
-      longer.splits ∙ ap (λ (z : Place (ℕ × ℕ)). longer.front ++ z.letter ∷ []) place,
-    ))
+    (λ longer. grind (arith, slice_get-unique, mapped_at))
     (TreeSpells-cases reaches)

@@ -5,7 +5,8 @@ use Rattle.image_minimal.proofs.laws.Unread.{is_dead, IsOrphan-last, IsOrphan-is
 use Rattle.image_minimal.proofs.laws.LinkWords.{AreEarly, IsLastSet-link, same_end}
 
 -- a word is an orphan of both rules or of neither where all edges have been followed whose words have no greater number
-orphan_early : {r q : LocalRule} {links : List Link} {parents : List ℕ} {e bound : ℕ} → IsRule r → IsRule q → r.states ≡ q.states → IsLinkSearch r q links parents e
+orphan_early : {r q : LocalRule} {links : List Link} {parents : List ℕ} {e bound : ℕ} → IsRule r → IsRule q → r.states ≡ q.states
+    → IsLinkSearch r q links parents e
     → AreEarly r.states links e bound → (v : List ℕ) → (IsWord r.states v → word_number r.states v ≤ bound) → (IsOrphan r v ↔ IsOrphan q v)
 orphan_early {r} {q} {links} rule other states h early v most =
     let (root, at, alike) = unmapped_at link_place links 0 h.fills.first h.fills.root in
@@ -15,14 +16,17 @@ orphan_early {r} {q} {links} rule other states h early v most =
     ((λ orphan. (both orphan.word).0 orphan), (λ orphan. (both (subst (λ k. IsWord k v) (sym states) orphan.word)).1 orphan))
 
 -- where all edges are followed the two rules have the same orphans
-pub HaveSameOrphans-closed : {r q : LocalRule} {links : List Link} {parents : List ℕ} {e : ℕ} → IsRule r → IsRule q → r.states ≡ q.states → IsLinkSearch r q links parents e → length links * r.states ≤ e → HaveSameOrphans r q
+pub HaveSameOrphans-closed : {r q : LocalRule} {links : List Link} {parents : List ℕ} {e : ℕ} → IsRule r → IsRule q → r.states ≡ q.states
+    → IsLinkSearch r q links parents e → length links * r.states ≤ e → HaveSameOrphans r q
 HaveSameOrphans-closed {r} {q} {links} rule other states h closed v = orphan_early {bound = word_number r.states v} rule other states h
     (λ i a w x at _ letter _. omega (arith, edge-within r.states (link_places links) i (a + 1) (link_place x) (mapped_at link_place links i x at) (omega arith), ap (λ n. n * r.states) (length-map links link_place)))
     v (λ _. omega arith)
 
 -- where the next edge leads to two sets of which exactly one is empty, its word is the least that is an orphan of exactly one rule
-pub Separates-conflict : {r q : LocalRule} {links : List Link} {parents : List ℕ} {i a s t : ℕ} {w : List ℕ} {x : Link} → IsRule r → IsRule q → r.states ≡ q.states
-    → IsLinkSearch r q links parents (i * r.states + a) → SpellsLink links i w → slice_get links i ≡ Some x → a < r.states → IsStep r x.first a s → IsStep q x.second a t
+pub Separates-conflict : {r q : LocalRule} {links : List Link} {parents : List ℕ} {i a s t : ℕ} {w : List ℕ} {x : Link} → IsRule r → IsRule q
+    → r.states ≡ q.states
+    → IsLinkSearch r q links parents (i * r.states + a) → SpellsLink links i w → slice_get links i ≡ Some x → a < r.states → IsStep r x.first a s
+    → IsStep q x.second a t
     → ((s ≡ 0) × (t ≢ 0)) ⊎ ((t ≡ 0) × (s ≢ 0)) → Separates r q (w ++ a ∷ [])
 Separates-conflict {r} {q} {links} {i = i} {a} {s} {t} {w} {x} rule other states h reaches here letter one two uneven =
     let k = r.states in

@@ -11,7 +11,8 @@ abbrev pub is_dead : LocalRule → List ℕ → ℕ → Bool
 is_dead r z s = nat_eq (end_set r z s) 0
 
 -- from the last nodes of a word another leads to those of both in a row
-pub IsLastSet-end : {r : LocalRule} → IsRule r → (z : List ℕ) → IsWord r.states z → (w : List ℕ) (s : ℕ) → IsLastSet r w s → IsLastSet r (w ++ z) (end_set r z s)
+pub IsLastSet-end : {r : LocalRule} → IsRule r → (z : List ℕ) → IsWord r.states z → (w : List ℕ) (s : ℕ) → IsLastSet r w s
+    → IsLastSet r (w ++ z) (end_set r z s)
 IsLastSet-end rule [] word w s last = rw append-nil last
 IsLastSet-end {r} rule (a ∷ z) word w s last =
     let (after, step) = IsStep-some r s a in
@@ -34,8 +35,7 @@ IsBack-some r set a =
     let decide : (u : ℕ) → IsLedInto r set a u ⊎ ¬ IsLedInto r set a u = λ u.
     ⊎_elim
     (λ (b, letter, (labelled, none)). inr (λ has. none (has (next r u b) (b, letter, (labelled, refl)))))
-    (λ none. inl (λ v (b, letter, (labelled, ends)).
-    subst (IsBitSet set) ends (⊎_elim (λ some. some) (λ missing. absurd (none b letter (labelled, missing))) (IsBitSet-decide set (next r u b)))))
+    (λ none. grind (arith, IsBitSet-decide))
     (some_below (Out u) (out u) r.states) in
     let (before, back) = some_set (IsLedInto r set a) decide (node_count r) in
     (before, record { of = back })
@@ -58,7 +58,8 @@ IsUnreadSet-below {r} ([], none) = rw none (pow_pos (node_count r))
 IsUnreadSet-below (a ∷ z, (rest, (letter, back), unread)) = back.of.within
 
 -- a step leads into a set exactly from within the nodes from which all its edges do
-pub IsWithin-back : {r : LocalRule} {a t set before : ℕ} → IsRule r → (s : ℕ) → IsStep r s a t → IsBack r set a before → (IsWithin r t set ↔ IsWithin r s before)
+pub IsWithin-back : {r : LocalRule} {a t set before : ℕ} → IsRule r → (s : ℕ) → IsStep r s a t → IsBack r set a before
+    → (IsWithin r t set ↔ IsWithin r s before)
 IsWithin-back {r} {a} rule s step back = (
   (λ within u l in_s. (back.of.nodes u l).1 (λ v edge. let node = edge_below rule a u v edge in within v node ((step.nodes v node).1 (u, l, (in_s, edge))))),
   (λ within v l in_t. let (u, node, (in_s, edge)) = (step.nodes v l).0 in_t in (back.of.nodes u node).0 (within u node in_s) v edge),
@@ -82,11 +83,13 @@ IsOrphan-last {r} {w} {s} rule last = (
 )
 
 -- a word followed by another is an orphan exactly where the other leads from its last nodes to the empty set
-pub IsOrphan-is_dead : {r : LocalRule} {w : List ℕ} {s : ℕ} → IsRule r → IsLastSet r w s → (z : List ℕ) → IsWord r.states z → (IsOrphan r (w ++ z) ↔ (is_dead r z s ≡ true))
+pub IsOrphan-is_dead : {r : LocalRule} {w : List ℕ} {s : ℕ} → IsRule r → IsLastSet r w s → (z : List ℕ) → IsWord r.states z
+    → (IsOrphan r (w ++ z) ↔ (is_dead r z s ≡ true))
 IsOrphan-is_dead {r} {w} {s} rule last z word = iff_then (IsOrphan-last rule (IsLastSet-end rule z word w s last)) (eq-eqb (end_set r z s) 0, eqb-true (end_set r z s) 0)
 
 -- a word leads from a set to the empty set exactly where it is read from none of its nodes
-pub is_dead-unread : {r : LocalRule} → IsRule r → (z : List ℕ) (set s : ℕ) → IsUnread r z set → s < 2 ^ node_count r → ((is_dead r z s ≡ true) ↔ IsWithin r s set)
+pub is_dead-unread : {r : LocalRule} → IsRule r → (z : List ℕ) (set s : ℕ) → IsUnread r z set → s < 2 ^ node_count r
+    → ((is_dead r z s ≡ true) ↔ IsWithin r s set)
 is_dead-unread {r} rule [] set s same small = rw same (iff_then (eqb-true s 0, eq-eqb s 0) (IsWithin-zero r s small))
 is_dead-unread {r} rule (a ∷ z) set s (rest, (letter, back), unread) small =
     let (after, step) = IsStep-some r s a in

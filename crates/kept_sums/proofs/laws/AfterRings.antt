@@ -1,7 +1,7 @@
 -- A ring and the words round it and its image; the stage after it.
 use Rattle.std.proofs.Common.{◌≡◌, ℕ, ◌+◌, ◌*◌, ◌^◌, ◌<◌, ◌≤◌, List, length, take, set, ℤ, pos, subst, arith}
 use Rattle.kept_sums.proofs.laws.Integers.{factor-none}
-use Rattle.word_image.proofs.Common.{ints, range_with_len, All-map, length-map-range_with_len, LocalRule, IsRule, IsWord, IsWord-le, value, IsRing, ring_letters, ring_image, IsWord-ring_letters, value-below}
+use Rattle.word_image.proofs.Common.{range_with_len, All-map, length-map-range_with_len, LocalRule, IsRule, IsWord, IsWord-le, value, IsRing, ring_letters, ring_image, IsWord-ring_letters, value-below}
 use Rattle.ring_laws.proofs.Rings.{IsWord-ring_image, length-ring_letters}
 use Rattle.kept_sums.specs.Sums.{blocks}
 use Rattle.kept_sums.specs.Spans.{entry, gain_at, IsNarrowed, AreSmall}
@@ -28,34 +28,20 @@ IsRing-ring_image {r} rule {p} ring = let some = ring.some in record { word = Is
 -- the words round the image of a ring and those round the ring weigh the same exactly where the ring keeps the sum
 pub IsCondition-ring : {r : LocalRule} → IsRule r → (range : ℕ) (p : List ℕ) → r.states ^ range ≤ 16 → length p ≤ 16 → IsRing r.states p
     → IsCondition r range p (blocks r.states range (ring_image r p)) (blocks r.states range p)
-IsCondition-ring {r} rule range p few short ring =
-    let after = IsWord-blocks range (IsRing-ring_image rule ring) in
-    let before = IsWord-blocks range ring in
-    record {
-      x_word = after;
-      y_word = before;
-      short = record {
-        after_word = IsWord-le _ 16 _ few after;
-        before_word = IsWord-le _ 16 _ few before;
-        few_after = omega (arith, short, length-blocks r.states range (ring_image r p), length-ring_image r p);
-        few_before = omega (arith, short, length-blocks r.states range p);
-      };
-      keeps = λ weight. KeepsSumOf-gain range weight r p;
-    }
+IsCondition-ring rule range p few short ring =
+    grind (arith, length-blocks, length-ring_image, IsWord-blocks, IsRing-ring_image)
 
 -- the same of the two words in the other order
 pub IsCondition-swap : {r : LocalRule} {range : ℕ} {p x y : List ℕ} → IsCondition r range p x y → IsCondition r range p y x
-IsCondition-swap c = record {
-  x_word = c.y_word;
-  y_word = c.x_word;
-  short = let s = c.short in record { after_word = s.before_word; before_word = s.after_word; few_after = s.few_before; few_before = s.few_after };
-  keeps = λ weight. (λ kept. omega (arith, ints, (c.keeps weight).0 kept), λ none. (c.keeps weight).1 (omega (arith, ints)));
-}
+IsCondition-swap c = grind arith
 
 -- rows narrowed by a ring are a stage after it
-pub IsAfterRing-narrowed : {r : LocalRule} {range j : ℕ} {rows news : List (List ℤ)} {counts : List ℕ} {rings : List (List ℕ)} {x y : List ℕ} → IsRule r → (n : ℕ) (letters : List ℕ)
-    → IsStage r range rows counts rings → r.states ^ range ≤ 16 → IsCondition r range (take n letters) x y → j < 16 → ((i : ℕ) → j < i → i < 16 → gain_at (entry rows i) x y ≡ pos 0)
-    → IsNarrowed rows x y j news → AreSmall news → 1 ≤ n → n + 3 ≤ 2 * (r.width + range) → IsRing r.states (take n letters) → IsAfterRing r range rows (take n letters) news (set counts j n) (set rings j letters)
+pub IsAfterRing-narrowed : {r : LocalRule} {range j : ℕ} {rows news : List (List ℤ)} {counts : List ℕ} {rings : List (List ℕ)} {x y : List ℕ}
+    → IsRule r → (n : ℕ) (letters : List ℕ)
+    → IsStage r range rows counts rings → r.states ^ range ≤ 16 → IsCondition r range (take n letters) x y → j < 16
+    → ((i : ℕ) → j < i → i < 16 → gain_at (entry rows i) x y ≡ pos 0)
+    → IsNarrowed rows x y j news → AreSmall news → 1 ≤ n → n + 3 ≤ 2 * (r.width + range) → IsRing r.states (take n letters)
+    → IsAfterRing r range rows (take n letters) news (set counts j n) (set rings j letters)
 IsAfterRing-narrowed {r} {range} {j} {rows} {news} rule n letters stage few condition lies last narrowed small some fits ring = record {
   stage = IsStage-narrowed n letters stage few condition lies last narrowed small some fits ring;
   keep = λ i l. (condition.keeps (entry news i)).1 (gain_at-narrowed narrowed condition.short.after_word condition.short.before_word i l);

@@ -1,8 +1,7 @@
 -- How great the numbers of a crossed row may be, divided by their greatest common divisor: no greater than those of a small solution of the conditions so far.
-use Rattle.std.proofs.Common.{◌≡◌, ◌≢◌, ℕ, zero, suc, ◌+◌, ◌-◌, ◌*◌, ◌^◌, ◌<◌, ◌≤◌, List, [], length, set, slice_index, slice_index_or, get_or-set_other, ℤ, pos, ◌-ℤ◌, ◌*ℤ◌, sym, ap, subst, ◌∙◌, ⊎_elim, arith, unsigned_abs}
+use Rattle.std.proofs.Common.{◌≡◌, ◌≢◌, ℕ, zero, suc, ◌+◌, ◌-◌, ◌*◌, ◌^◌, ◌<◌, ◌≤◌, List, [], length, set, slice_index, slice_index_or, get_or-set_other, ℤ, pos, ◌-ℤ◌, ◌*ℤ◌, sym, ap, subst, ◌∙◌, ⊎_elim, arith, unsigned_abs, length-take, take_all}
 use Rattle.std.proofs.Math.Nat.{pow-suc, mul-le-mul, mul-le-mul_left, mul-le-mul_right, pos_of_dvd_of_pos, dvd-mul_left, dvd-mul_right}
 use Rattle.word_image.proofs.Common.{one-le-pow, eq_of_mul-eq-mul_left, cases_lt, at-set, cases_eq, ints, nat_tests, unsigned_abs-mul, LocalRule, IsRule, IsRing, ring_image}
-use Rattle.std.proofs.lemmas.List.{length-take, take_all}
 use Rattle.kept_sums.specs.Sums.{blocks, KeepsSumOf}
 use Rattle.kept_sums.specs.Rows.{at, IsDivisor}
 use Rattle.kept_sums.specs.Spans.{entry, gain_at, FitNarrowed}
@@ -18,7 +17,8 @@ use Rattle.kept_sums.proofs.laws.Siegel.{pick, product, SmallSolution, small_sol
 use Rattle.kept_sums.proofs.laws.Ranges.{pow-le-pow, exponent}
 
 -- in no shape is the bound of a small solution above 2^56
-pub limits : {r : LocalRule} → IsRule r → (range h e : ℕ) → 1 ≤ range → r.states ^ range ≤ 16 → h + 3 ≡ 2 * (r.width + range) → e ≤ r.states ^ range - r.states ^ (range - 1) + 1 → (2 * h) ^ e ≤ 2 ^ 56
+pub limits : {r : LocalRule} → IsRule r → (range h e : ℕ) → 1 ≤ range → r.states ^ range ≤ 16 → h + 3 ≡ 2 * (r.width + range)
+    → e ≤ r.states ^ range - r.states ^ (range - 1) + 1 → (2 * h) ^ e ≤ 2 ^ 56
 limits {r} rule range h e some few long most =
     let k : ℕ = r.states in
     let p : ℕ = k ^ (range - 1) in
@@ -63,7 +63,8 @@ least_part n m g y c z most some more whole part small =
     omega (arith, same, mul-le-mul_left g small, mul-le-mul_right c more)
 
 -- a row of which small weights are a multiple has at most its divisor times the greatest of them
-bounded_multiple : (n : ℕ) (weight : ℕ → ℤ) (m : ℤ) (cross : List ℤ) (g most b : ℕ) → 1 ≤ n → ((a : ℕ) → a < 16 → pos n *ℤ weight a ≡ m *ℤ at cross a) → ((a : ℕ) → unsigned_abs (weight a) ≤ most)
+bounded_multiple : (n : ℕ) (weight : ℕ → ℤ) (m : ℤ) (cross : List ℤ) (g most b : ℕ) → 1 ≤ n → ((a : ℕ) → a < 16 → pos n *ℤ weight a ≡ m *ℤ at cross a)
+    → ((a : ℕ) → unsigned_abs (weight a) ≤ most)
     → b < 16 → weight b ≢ pos 0 → IsDivisor cross g → (a : ℕ) → a < 16 → unsigned_abs (at cross a) ≤ g * most
 bounded_multiple n weight m cross g most b positive multiple small within some divisor a l =
     let size : (c : ℕ) → c < 16 → unsigned_abs m * unsigned_abs (at cross c) ≡ n * unsigned_abs (weight c) = λ c h.
@@ -91,7 +92,8 @@ crossed-pivot lead old gain e = rw e (omega (arith, ints))
 
 module _ {r : LocalRule} {range : ℕ} {rows : List (List ℤ)} {counts : List ℕ} {rings : List (List ℕ)} (rule : IsRule r) (some : 1 ≤ range) (few : r.states ^ range ≤ 16) (stage : IsStage r range rows counts rings) where
   -- the rings of a stage with n letters noted in a free place have a small solution that isn't 0 at one place more
-  pub noted_solution : (j n : ℕ) (others : List (List ℕ)) → j < 16 → IsFree r.states range j → n + 3 ≤ 2 * (r.width + range) → (i : ℕ) → i < 16 → slice_index (set counts j n) i ≡ 0
+  pub noted_solution : (j n : ℕ) (others : List (List ℕ)) → j < 16 → IsFree r.states range j → n + 3 ≤ 2 * (r.width + range) → (i : ℕ) → i < 16
+      → slice_index (set counts j n) i ≡ 0
       → SmallSolution 16 i (slice_index (set counts j n)) (λ m. blocks r.states range (ring_image r (ring_at (set counts j n) others m))) (λ m. blocks r.states range (ring_at (set counts j n) others m)) (2 ^ 56)
   noted_solution j n others within free fits i l none =
       let now : List ℕ = set counts j n in
@@ -117,7 +119,8 @@ module _ {r : LocalRule} {range : ℕ} {rows : List (List ℤ)} {counts : List �
       (omega (arith, most, limit))
 
   -- rows narrowed by two words that say of a short ring whether it keeps a sum fit
-  pub FitNarrowed-condition : (p x y : List ℕ) → IsRing r.states p → IsCondition r range p x y → length p + 3 ≤ 2 * (r.width + range) → (j : ℕ) → j < 16 → FitNarrowed rows x y j
+  pub FitNarrowed-condition : (p x y : List ℕ) → IsRing r.states p → IsCondition r range p x y → length p + 3 ≤ 2 * (r.width + range) → (j : ℕ)
+      → j < 16 → FitNarrowed rows x y j
   FitNarrowed-condition p x y ring condition short j within above i l cross crosses g divisor a n =
       let k : ℕ = r.states in
       let gain : ℕ → ℤ = λ m. gain_at (entry rows m) x y in

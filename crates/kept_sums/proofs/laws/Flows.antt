@@ -1,16 +1,15 @@
 -- Weights are kept exactly where they have a flux; and weights of letters from 0 on exactly where the rule conserves them.
-use Rattle.std.proofs.Common.{◌≡◌, ℕ, ◌+◌, ◌-◌, ◌*◌, ◌%◌, ◌<◌, ◌≤◌, ◌↔◌, List, [], ◌∷◌, length, take, drop, sum_by, slice_index, ℤ, pos, ◌-ℤ◌, refl, sym, ap, ap₂, ◌∙◌, arith, length-drop}
-use Rattle.std.proofs.Math.Nat.{mod-eq_of_lt}
-use Rattle.word_image.proofs.Common.{pow-zero, ints, All-take, All-drop, fill_by_all, LocalRule, IsRule, IsWord, IsRing, value, word_of, ring_letters, ring_image, IsConserving, word_of-value}
-use Rattle.std.proofs.lemmas.List.{length-take-le}
-use Rattle.kept_sums.specs.Sums.{sum_at, blocks, KeepsSumOf, IsKept}
+use Rattle.std.proofs.Common.{◌≡◌, ℕ, ◌+◌, ◌-◌, ◌*◌, ◌<◌, ◌≤◌, ◌↔◌, List, length, take, drop, ℤ, pos, ◌-ℤ◌, refl, sym, ap, ap₂, ◌∙◌, arith, length-drop, mod-eq_of_lt, length-take-le}
+use Rattle.word_image.proofs.Common.{pow-zero, ints, All-take, All-drop, fill_by_all, LocalRule, IsRule, IsWord, IsRing, value, word_of, ring_letters, IsConserving, word_of-value}
+use Rattle.kept_sums.specs.Sums.{blocks, KeepsSumOf, IsKept}
 use Rattle.kept_sums.specs.Fluxes.{IsFluxOf, window_gain}
 use Rattle.kept_sums.proofs.laws.Sums.{sum_at-pos}
 use Rattle.kept_sums.proofs.laws.Locals.{potential, window-potential, turn_sum-steps}
 use Rattle.kept_sums.proofs.laws.Densities.{gain-windows, KeepsSumOf-gain}
 
 -- weights whose sum each ring of at most 2 (m + range - 1) - 1 letters keeps have a flux
-pub IsFluxOf-short_rings : {r : LocalRule} → IsRule r → (range : ℕ) (weight : ℕ → ℤ) → 1 ≤ range → ((p : List ℕ) → IsRing r.states p → length p + 3 ≤ 2 * (r.width + range) → KeepsSumOf range weight r p)
+pub IsFluxOf-short_rings : {r : LocalRule} → IsRule r → (range : ℕ) (weight : ℕ → ℤ) → 1 ≤ range
+    → ((p : List ℕ) → IsRing r.states p → length p + 3 ≤ 2 * (r.width + range) → KeepsSumOf range weight r p)
     → (phi : ℕ → ℤ) × IsFluxOf range weight r phi
 IsFluxOf-short_rings {r} rule range weight some keep =
     let k : ℕ = r.states in
@@ -30,7 +29,8 @@ IsFluxOf-short_rings {r} rule range weight some keep =
     )
 
 -- weights that have a flux are kept
-pub IsKept-flux : {r : LocalRule} → IsRule r → (range : ℕ) (weight : ℕ → ℤ) (phi : ℕ → ℤ) → 1 ≤ range → IsFluxOf range weight r phi → IsKept range weight r
+pub IsKept-flux : {r : LocalRule} → IsRule r → (range : ℕ) (weight : ℕ → ℤ) (phi : ℕ → ℤ) → 1 ≤ range → IsFluxOf range weight r phi
+    → IsKept range weight r
 IsKept-flux {r} rule range weight phi some flux p ring =
     let d : ℕ = range + (r.width - 1) - 1 in
     let steps = turn_sum-steps (window_gain r range weight) (λ w. phi (value r.states w)) (pos 0) d p ring (λ w word long.
@@ -46,18 +46,11 @@ IsKept-short_rings rule range weight some keep = let flux = IsFluxOf-short_rings
 -- the words of one letter round a ring are its letters
 blocks-one : (k : ℕ) (p : List ℕ) → blocks k 1 p ≡ p
 blocks-one k p =
-    sym (fill_by_all (λ i. value k (ring_letters p (pos i) 1)) p (length p) 0 refl (λ i l.
-    let e : i + 0 ≡ i = omega arith in
-    let value_is : value k (slice_index p ((i + 0) % length p) ∷ []) ≡ slice_index p ((i + 0) % length p) = let one = ap (λ n. slice_index p ((i + 0) % length p) * n) (pow-zero k) in omega (arith, one) in
-    sym (value_is ∙ ap (λ j. slice_index p (j % length p)) e ∙ ap (slice_index p) (mod-eq_of_lt l))))
+    sym (fill_by_all (λ i. value k (ring_letters p (pos i) 1)) p (length p) 0 refl (grind (arith, pow-zero, mod-eq_of_lt)))
 
 -- weights of letters from 0 on are kept exactly where the rule conserves them
 pub IsKept-conserving : (weight : ℕ → ℕ) (r : LocalRule) → IsKept 1 (λ a. pos (weight a)) r ↔ IsConserving weight r
-IsKept-conserving weight r =
-    let total : (q : List ℕ) → sum_at (λ a. pos (weight a)) (blocks r.states 1 q) ≡ pos (sum_by weight q) = λ q. ap (sum_at (λ a. pos (weight a))) (blocks-one r.states q) ∙ sum_at-pos weight q in (
-      λ kept p ring. let before = total p in let after = total (ring_image r p) in let same = kept p ring in omega (arith, ints, before, after, same),
-      λ keep p ring. total p ∙ ap pos (keep p ring) ∙ sym (total (ring_image r p)),
-    )
+IsKept-conserving weight r = grind (arith, blocks-one, sum_at-pos)
 
 -- a sum that a rule keeps is kept at another offset, since a flux doesn't know it
 pub IsKept-at_offset : (r : LocalRule) (range : ℕ) (weight : ℕ → ℤ) (o : ℤ) → IsRule r → IsRule (record { states = r.states; width = r.width; offset = o; table = r.table }) → 1 ≤ range

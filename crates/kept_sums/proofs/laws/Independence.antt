@@ -23,17 +23,18 @@ count-least : (a : ℕ) → count a ≡ min a 1
 count-least a = grind (arith, nat_tests)
 
 -- places with a number of two kinds are as many as what grows with each place by as many
-places_with-both : (n : ℕ) (f g t : ℕ → ℕ) → t 0 ≡ 0 → ((i : ℕ) → i < n → count (f i) + count (g i) + t i ≡ t (suc i)) → places_with n f + places_with n g ≡ t n
+places_with-both : (n : ℕ) (f g t : ℕ → ℕ) → t 0 ≡ 0 → ((i : ℕ) → i < n → count (f i) + count (g i) + t i ≡ t (suc i))
+    → places_with n f + places_with n g ≡ t n
 unfolding places_with
 places_with-both zero f g t none step = omega arith
 places_with-both (suc n) f g t none step = omega (arith, places_with-both n f g t none (λ i l. step i (omega arith)), step n (omega arith))
 
 module _ {r : LocalRule} {range : ℕ} {rows : List (List ℤ)} {counts : List ℕ} {rings : List (List ℕ)} (rule : IsRule r) (few : r.states ^ range ≤ 16) (stage : IsStage r range rows counts rings) where
   -- no combination of the rows is trivial but that of no row
-  pub rows-independent : 1 ≤ range → (parts : ℕ → ℤ) → IsTrivial r.states range (combination parts rows) → (i : ℕ) → i < 16 → IsFree r.states range i → slice_index counts i ≡ 0 → parts i ≡ pos 0
+  pub rows-independent : 1 ≤ range → (parts : ℕ → ℤ) → IsTrivial r.states range (combination parts rows) → (i : ℕ) → i < 16 → IsFree r.states range i
+      → slice_index counts i ≡ 0 → parts i ≡ pos 0
   rows-independent some parts trivial i l free none =
       let states = rule.shape.least_states in
-      let grows : r.states ^ (range - 1) ≤ r.states ^ range = pow-le-pow_right (omega arith) {i = range - 1} {j = range} (omega arith) in
       let normal : IsNormal r.states range (combination parts rows) = λ a below. sum_to-none 16 (λ m. parts m *ℤ entry rows m a) (λ m l. factor-none (parts m) (entry rows m a)
       (⊎_elim (λ stands. let least = stands.free.least in stands.standing.begins a (omega arith)) (λ zeros. zeros a (omega arith)) (stands_or_zero (stage.places m l)))) in
       let nothing = IsNormal-trivial r.states range (combination parts rows) states some normal trivial i free.most in
@@ -75,7 +76,8 @@ module _ {r : LocalRule} {range : ℕ} {rows : List (List ℤ)} {counts : List �
       }
 
   -- no combination of the conditions of the rings holds of all normal weights but that of no condition
-  pub rings-independent : (parts : ℕ → ℤ) → ((weight : ℕ → ℤ) → IsNormal r.states range weight → sum_to 16 (λ i. parts i *ℤ ring_gain r range counts rings weight i) ≡ pos 0)
+  pub rings-independent : (parts : ℕ → ℤ)
+      → ((weight : ℕ → ℤ) → IsNormal r.states range weight → sum_to 16 (λ i. parts i *ℤ ring_gain r range counts rings weight i) ≡ pos 0)
       → (i : ℕ) → i < 16 → 1 ≤ slice_index counts i → parts i ≡ pos 0
   rings-independent parts vanish i l some =
       let needed = ring-needed i l some in

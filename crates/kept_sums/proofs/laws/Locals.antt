@@ -1,5 +1,5 @@
 -- A number for each window of d + 1 letters: where its sum is 0 round each ring of at most 2 d + 1 letters, it is 0 round every ring (Hattori and Takesue 1991).
-use Rattle.std.proofs.Common.{◌≡◌, ℕ, suc, ◌+◌, ◌-◌, ◌*◌, ◌≤◌, List, ◌++◌, length, take, drop, replicate, ℤ, pos, ◌+ℤ◌, ◌-ℤ◌, ◌*ℤ◌, sym, ap, ◌∙◌, arith, length-drop, drop-drop}
+use Rattle.std.proofs.Common.{◌≡◌, ℕ, suc, ◌+◌, ◌-◌, ◌*◌, ◌≤◌, List, ◌++◌, length, take, drop, replicate, ℤ, pos, ◌+ℤ◌, ◌-ℤ◌, ◌*ℤ◌, sym, ap, ◌∙◌, arith, length-drop}
 use Rattle.word_image.proofs.Common.{ints, IsWord, IsRing, ring_letters}
 use Rattle.ring_laws.proofs.Rings.{length-ring_letters, slice_range-ring_letters}
 use Rattle.ring_laws.proofs.Walks.{IsWindowSum, ring-steps, window-short_rings}
@@ -24,9 +24,7 @@ IsWindowSum-walk h d = record {
       let n : ℕ = length (drop 1 x) - d in
       let next : length x - d ≡ suc n = omega (arith, length-drop 1 x) in
       ap (λ m. sum_to m number) next ∙ sum_to-ends n number
-      ∙ ap (λ (z : ℤ). number 0 +ℤ z) (sum_to-agree n (λ i _.
-      let turned : i + 1 ≡ 1 + i = omega arith in
-      ap (λ y. h (take (d + 1) y)) (ap (λ j. drop j x) turned ∙ sym (drop-drop i 1 x))));
+      ∙ ap (λ (z : ℤ). number 0 +ℤ z) (sum_to-agree n (grind arith));
 }
 
 -- a ring has the windows of its letters, read on for d letters
@@ -36,8 +34,7 @@ turn_sum-walk h d p =
     let all : length p ≡ length x - d = omega (arith, length-ring_letters p (pos 0) (length p + d)) in
     sum_to-agree (length p) (λ i l.
     let here : pos i ≡ pos i +ℤ pos 0 = omega (arith, ints) in
-    let wide : i + (d + 1) - i ≡ d + 1 = omega arith in
-    ap h (ap (λ o. ring_letters p o (d + 1)) here ∙ sym (slice_range-ring_letters p (pos 0) (length p + d) i (d + 1) (omega arith)) ∙ ap (λ n. take n (drop i x)) wide))
+    ap h (ap (λ o. ring_letters p o (d + 1)) here ∙ sym (slice_range-ring_letters p (pos 0) (length p + d) i (d + 1) (omega arith)) ∙ ap (λ n. take n (drop i x)) (omega arith)))
     ∙ ap (λ n. sum_to n (λ i. h (take (d + 1) (drop i x)))) all
 
 -- what the walk from a word of d letters meets that reads d letters 0
@@ -50,6 +47,7 @@ pub window-potential : (k : ℕ) (h : List ℕ → ℤ) (d : ℕ) → 1 ≤ k �
 window-potential k h d some wide vanish = window-short_rings k some wide (IsWindowSum-walk h d) (λ p ring short. sym (turn_sum-walk h d p) ∙ vanish p ring short)
 
 -- where the number of each window is one number and the difference of two words within it, their sum round a ring says only how many letters it has
-pub turn_sum-steps : {k : ℕ} (h phi : List ℕ → ℤ) (constant : ℤ) (d : ℕ) (p : List ℕ) → IsRing k p → ((w : List ℕ) → IsWord k w → length w ≡ d + 1 → h w ≡ constant +ℤ (phi (take d w) -ℤ phi (drop 1 w)))
+pub turn_sum-steps : {k : ℕ} (h phi : List ℕ → ℤ) (constant : ℤ) (d : ℕ) (p : List ℕ) → IsRing k p
+    → ((w : List ℕ) → IsWord k w → length w ≡ d + 1 → h w ≡ constant +ℤ (phi (take d w) -ℤ phi (drop 1 w)))
     → turn_sum h d p ≡ pos (length p) *ℤ constant
 turn_sum-steps h phi constant d p ring differences = turn_sum-walk h d p ∙ ring-steps phi constant (IsWindowSum-walk h d) differences p ring

@@ -1,21 +1,16 @@
 -- Words of which there are at most 16 have at most 4 letters.
-use Rattle.std.proofs.Common.{◌≡◌, ℕ, suc, ◌+◌, ◌*◌, ◌^◌, ◌<◌, ◌≤◌, ap, ◌∙◌, ⊎_elim, arith, pow-suc}
-use Rattle.word_image.proofs.Common.{pow-le-pow_left, pow-le-pow_right, cases_lt, LocalRule, IsRule}
+use Rattle.std.proofs.Common.{◌≡◌, ℕ, suc, ◌+◌, ◌*◌, ◌^◌, ◌<◌, ◌≤◌, ap, ◌∙◌, arith, pow-suc}
+use Rattle.word_image.proofs.Common.{pow-le-pow_left, pow-le-pow_right, LocalRule, IsRule}
 
 -- a power grows with its base and with its exponent
 pub pow-le-pow : (b e base top : ℕ) → b ≤ base → e ≤ top → 1 ≤ base → b ^ e ≤ base ^ top
 pow-le-pow b e base top one two some =
     let first : b ^ e ≤ base ^ e = pow-le-pow_left one e in
-    let second : base ^ e ≤ base ^ top = pow-le-pow_right some {i = e} {j = top} two in
-    omega arith
+    grind (arith, pow-le-pow_right)
 
 -- a power that is at most 16 has a small exponent
 pub exponent : (b c k n : ℕ) → 1 ≤ b → b ≤ k → 16 < b ^ c → k ^ n ≤ 16 → n < c
-exponent b c k n some least more few =
-    ⊎_elim
-    (λ (less : n < c). less)
-    (λ (most : c ≤ n). absurd (omega (arith, pow-le-pow b c k n least most (omega arith))))
-    (cases_lt n c)
+exponent b c k n some least more few = grind (arith, pow-le-pow)
 
 -- words of which there are at most 16 have at most 4 letters
 pub few : (k range : ℕ) → 2 ≤ k → k ^ range ≤ 16 → range ≤ 4

@@ -1,9 +1,7 @@
 -- Fewer conditions on integers than there are integers have a small solution that isn't 0 (Siegel 1929, after Thue).
-use Rattle.std.proofs.Common.{◌≡◌, ◌≢◌, ℕ, zero, suc, ◌+◌, ◌-◌, ◌*◌, ◌/◌, ◌%◌, ◌<◌, ◌≤◌, List, length, sum_by, ℤ, pos, ◌-ℤ◌, refl, sym, ap, ap₂, ◌∙◌, ⊎_elim, arith, ◌==◌, if◌then◌else◌, unsigned_abs}
-use Rattle.std.proofs.Math.Nat.{mul-le-mul, mul-le-mul_right, div-add-mod}
+use Rattle.std.proofs.Common.{◌≡◌, ◌≢◌, ℕ, zero, suc, ◌+◌, ◌-◌, ◌*◌, ◌/◌, ◌%◌, ◌<◌, ◌≤◌, List, length, sum_by, ℤ, pos, ◌-ℤ◌, refl, sym, ap, ap₂, ◌∙◌, ⊎_elim, arith, ◌==◌, if◌then◌else◌, unsigned_abs, mul-le-mul, mul-le-mul_right}
 use Rattle.std.proofs.Math.Arith.{mod-mul}
-use Rattle.std.proofs.lemmas.Nat.{same_from_place, div_below, mod_below}
-use Rattle.word_image.proofs.Common.{but, but_there, but_else, but_cases, cases_eq, cases_lt, ints, nat_tests, sum_by-le, twice_below}
+use Rattle.word_image.proofs.Common.{but, but_there, cases_eq, cases_lt, ints, nat_tests, sum_by-le, twice_below, same_from_place}
 use Rattle.kept_sums.specs.Spans.{gain_at}
 use Rattle.kept_sums.proofs.laws.Sums.{sum_at-sub, sum_at-pos}
 
@@ -40,7 +38,8 @@ number-below zero base digits below = omega arith
 number-below (suc n) base digits below = omega (arith, number-below n base digits (λ a l. below a (omega arith)), mul-le-mul_right (product n base) (below n (omega arith)))
 
 -- one number, one digit at each place
-number-digits : (n : ℕ) (base one other : ℕ → ℕ) → ((a : ℕ) → a < n → one a < base a) → ((a : ℕ) → a < n → other a < base a) → number n base one ≡ number n base other → (a : ℕ) → a < n → one a ≡ other a
+number-digits : (n : ℕ) (base one other : ℕ → ℕ) → ((a : ℕ) → a < n → one a < base a) → ((a : ℕ) → a < n → other a < base a)
+    → number n base one ≡ number n base other → (a : ℕ) → a < n → one a ≡ other a
 unfolding number
 number-digits zero base one other below less same a l = absurd (omega arith)
 number-digits (suc n) base one other below less same a l =
@@ -54,7 +53,8 @@ abbrev digit : (ℕ → ℕ) → ℕ → ℕ → ℕ
 digit base v a = v / product a base % base a
 
 -- numbers that differ apart from multiples of the product differ in a digit
-differ : (n : ℕ) (base : ℕ → ℕ) → ((a : ℕ) → 1 ≤ base a) → (v u : ℕ) → v % product n base ≢ u % product n base → (a : ℕ) × (a < n) × (digit base v a ≢ digit base u a)
+differ : (n : ℕ) (base : ℕ → ℕ) → ((a : ℕ) → 1 ≤ base a) → (v u : ℕ) → v % product n base ≢ u % product n base
+    → (a : ℕ) × (a < n) × (digit base v a ≢ digit base u a)
 unfolding product
 differ zero base some v u other = absurd (other (omega arith))
 differ (suc n) base some v u other =
@@ -71,7 +71,8 @@ abbrev code : ℕ → (ℕ → ℕ) → List ℕ → List ℕ → ℕ
 code top w x y = sum_by w x + (top - sum_by w y)
 
 -- one code, one gain
-gain-code : (h t : ℕ) (w v : ℕ → ℕ) → ((a : ℕ) → w a ≤ t) → ((a : ℕ) → v a ≤ t) → (x y : List ℕ) → length y ≤ h → code (h * t) w x y ≡ code (h * t) v x y
+gain-code : (h t : ℕ) (w v : ℕ → ℕ) → ((a : ℕ) → w a ≤ t) → ((a : ℕ) → v a ≤ t) → (x y : List ℕ) → length y ≤ h
+    → code (h * t) w x y ≡ code (h * t) v x y
     → gain_at (λ a. pos (w a) -ℤ pos (v a)) x y ≡ pos 0
 gain-code h t w v one two x y short same =
     omega (arith, ints, sum_at-sub (λ a. pos (w a)) (λ a. pos (v a)) x, sum_at-sub (λ a. pos (w a)) (λ a. pos (v a)) y, sum_by-le w t y (λ i d l. one _), sum_by-le v t y (λ i d l. two _), mul-le-mul_right t short, sum_at-pos w x, sum_at-pos w y, sum_at-pos v x, sum_at-pos v y, same)
@@ -107,27 +108,24 @@ abbrev weights : ℕ → ℕ → (ℕ → ℕ) → ℕ → ℕ → ℕ
 weights n i base v = but (digit base v) i (v / product n base)
 
 -- of numbers below t + 1 times the product the weights are at most t
-weights-most : (n i t v a : ℕ) (base : ℕ → ℕ) → ((b : ℕ) → 1 ≤ base b) → ((b : ℕ) → base b ≤ t + 1) → v < (t + 1) * product n base → weights n i base v a ≤ t
-weights-most n i t v a base some few less =
-    ⊎_elim
-    (λ here. let top_digit = div_below v (product n base) (t + 1) (product-positive n base some) less in omega (arith, here.1, top_digit))
-    (λ there. let below = mod_below (v / product a base) (base a) (some a) in omega (arith, there.1, below, few a))
-    (but_cases (digit base v) i (v / product n base) a)
+weights-most : (n i t v a : ℕ) (base : ℕ → ℕ) → ((b : ℕ) → 1 ≤ base b) → ((b : ℕ) → base b ≤ t + 1) → v < (t + 1) * product n base
+    → weights n i base v a ≤ t
+weights-most n i t v a base some few less = grind arith
 
 -- different numbers have different weights, where place i has no digit
-weights-differ : (n i : ℕ) (base : ℕ → ℕ) (v u : ℕ) → i < n → ((a : ℕ) → 1 ≤ base a) → base i ≡ 1 → u < v → (a : ℕ) × (a < n) × (weights n i base v a ≢ weights n i base u a)
+weights-differ : (n i : ℕ) (base : ℕ → ℕ) (v u : ℕ) → i < n → ((a : ℕ) → 1 ≤ base a) → base i ≡ 1 → u < v
+    → (a : ℕ) × (a < n) × (weights n i base v a ≢ weights n i base u a)
 weights-differ n i base v u l some one order =
     ⊎_elim
     (λ (equal : v / product n base ≡ u / product n base).
-    let found = differ n base some v u (λ rest. absurd (omega (arith, order, ap (λ m. product n base * m) equal, rest, div-add-mod v (product n base), div-add-mod u (product n base)))) in
-    let single : (m : ℕ) → digit base m i ≡ 0 = λ m. rw one (omega arith) in
-    let apart : found.0 ≢ i = λ e. found.2 (rw e (single v ∙ sym (single u))) in
-    (found.0, found.1, λ e. found.2 (sym (but_else (digit base v) i _ found.0 apart) ∙ e ∙ but_else (digit base u) i _ found.0 apart)))
+    let found = differ n base some v u (λ rest. absurd (omega (arith, ap (λ m. product n base * m) equal))) in
+    grind arith)
     (λ (other : v / product n base ≢ u / product n base). (i, l, λ e. other (sym (but_there (digit base v) i _ i refl) ∙ e ∙ but_there (digit base u) i _ i refl)))
     (cases_eq (v / product n base) (u / product n base))
 
 -- conditions of words of at most h letters, one for each place where g isn't 0, have a solution there and at one place more
-pub small_solution : (n h i limit : ℕ) (g : ℕ → ℕ) (x y : ℕ → List ℕ) → i < n → 1 ≤ h → g i ≡ 0 → ((a : ℕ) → a < n → 1 ≤ g a → (length (x a) ≤ h) × (length (y a) ≤ h))
+pub small_solution : (n h i limit : ℕ) (g : ℕ → ℕ) (x y : ℕ → List ℕ) → i < n → 1 ≤ h → g i ≡ 0
+    → ((a : ℕ) → a < n → 1 ≤ g a → (length (x a) ≤ h) × (length (y a) ≤ h))
     → product n (λ a. pick (g a) 1 (2 * h)) ≤ limit → SmallSolution n i g x y limit
 small_solution n h i limit g x y l some none short enough =
     let t : ℕ = product n (λ a. pick (g a) 1 (2 * h)) in
@@ -141,20 +139,18 @@ small_solution n h i limit g x y l some none short enough =
     let most : (v a : ℕ) → v < all → w v a ≤ t = λ v a. weights-most n i t v a base some_base (λ b. omega (arith, pick-most (g b) t)) in
     let below : (v : ℕ) → v < all → (a : ℕ) → a < n → codes v a < top a = λ v less a k.
     code-below (g a) h t _ _ (λ noted. omega (arith, sum_by-le (w v) t (x a) (λ m d j. most v _ less), mul-le-mul_right t (short a k noted).0)) in
-    let fewer : product n top < all = omega (arith, product-positive n base some_base, product-le n top (λ a. pick (g a) 1 (2 * h)) base (λ a. base-le (g a) h t some)) in
-    let (u, v, order, last, same) = twice_below (product n top) (λ m. number n top (codes m)) (λ m k. number-below n top (codes m) (below m (omega (arith, fewer)))) in
-    let v_within : v < all = omega (arith, fewer, last) in
-    let u_within : u < all = omega (arith, v_within, order) in
+    let fewer : product n top < all = grind (arith, product-positive, product-le) in
+    let (u, v, order, last, same) = twice_below (product n top) (λ m. number n top (codes m)) (λ m k. number-below n top (codes m) (below m (omega arith))) in
+    let v_within : v < all = omega arith in
+    let u_within : u < all = omega arith in
     let differs = weights-differ n i base v u l some_base no_digit order in
     record {
       weight = λ a. pos (w v a) -ℤ pos (w u a);
-      small = λ a. omega (arith, ints, most v a v_within, most u a u_within, enough);
-      outside = λ a apart nothing.
-          let zeroth : (m : ℕ) → w m a ≡ 0 = λ m. but_else (digit base m) i _ a apart ∙ (let one : base a ≡ 1 = ap (λ k. pick k 0 t + 1) nothing in rw one (omega arith)) in
-          ap₂ (λ (p q : ℕ). pos p -ℤ pos q) (zeroth v) (zeroth u);
+      small = λ a. omega (arith, ints, most v a v_within, most u a u_within);
+      outside = grind arith;
       place = differs.0;
       within = differs.1;
-      some = λ nothing. differs.2 (omega (arith, ints, nothing));
+      some = λ nothing. differs.2 (omega (arith, ints));
       solves = λ a k noted.
           let digits = number-digits n top (codes u) (codes v) (below u u_within) (below v v_within) same a k in
           gain-code h t (w v) (w u) (λ b. most v b v_within) (λ b. most u b u_within) (x a) (y a) (short a k noted).1 (picked (g a) _ _ noted (sym digits));

@@ -69,7 +69,8 @@ crossed_part : (part lead old gain other : ℤ) → part *ℤ ((lead *ℤ old) -
 crossed_part part lead old gain other = omega (arith, ints, mul-sub part (lead *ℤ old) (gain *ℤ other), mul-swap part lead old, mul-assoc part gain other)
 
 -- the cross of weights with a number is linear
-IsLinear-cross : {k a : ℕ} (lead other : ℤ) (x y : List ℕ) → a < k → IsWord k x → IsWord k y → IsLinear k (λ f. (lead *ℤ f a) -ℤ (gain_at f x y *ℤ other))
+IsLinear-cross : {k a : ℕ} (lead other : ℤ) (x y : List ℕ) → a < k → IsWord k x → IsWord k y
+    → IsLinear k (λ f. (lead *ℤ f a) -ℤ (gain_at f x y *ℤ other))
 IsLinear-cross {a = a} lead other x y l one two =
     let gain = IsLinear-gain x y one two in
     record {
@@ -79,8 +80,10 @@ IsLinear-cross {a = a} lead other x y l one two =
     }
 
 -- weights that gain nothing are combined of the crosses of the rows with one of them
-pub spanned_crosses : {k : ℕ} {rows : List (List ℤ)} {weight : ℕ → ℤ} (lead j : ℕ) (x y : List ℕ) → IsWord k x → IsWord k y → gain_at weight x y ≡ pos 0 → (spanned : IsSpanned k rows weight)
-    → (a : ℕ) → a < k → pos (lead * spanned.times) *ℤ weight a ≡ sum_to 16 (λ i. spanned.parts i *ℤ ((pos lead *ℤ entry rows i a) -ℤ (gain_at (entry rows i) x y *ℤ entry rows j a)))
+pub spanned_crosses : {k : ℕ} {rows : List (List ℤ)} {weight : ℕ → ℤ} (lead j : ℕ) (x y : List ℕ) → IsWord k x → IsWord k y
+    → gain_at weight x y ≡ pos 0 → (spanned : IsSpanned k rows weight)
+    → (a : ℕ) → a < k
+    → pos (lead * spanned.times) *ℤ weight a ≡ sum_to 16 (λ i. spanned.parts i *ℤ ((pos lead *ℤ entry rows i a) -ℤ (gain_at (entry rows i) x y *ℤ entry rows j a)))
 spanned_crosses {rows = rows} {weight} lead j x y one two none spanned a l =
     let t : ℤ = pos spanned.times in
     let here : pos lead *ℤ weight a ≡ (pos lead *ℤ weight a) -ℤ (gain_at weight x y *ℤ entry rows j a) = rw none (omega (arith, ints)) in
@@ -89,7 +92,7 @@ spanned_crosses {rows = rows} {weight} lead j x y one two none spanned a l =
 -- weights that gain nothing are a combination of the narrowed rows where they are one of the rows
 pub IsSpanned-narrowed : {k j : ℕ} {rows news : List (List ℤ)} {x y : List ℕ} {weight : ℕ → ℤ} → k ≤ 16 → IsWord k x → IsWord k y
     → IsNarrowed rows x y j news → gain_at weight x y ≡ pos 0 → IsSpanned k rows weight → IsSpanned k news weight
-IsSpanned-narrowed {k} {j} {rows} {news} {x} {y} {weight} few one two narrowed none spanned =
+IsSpanned-narrowed {k} {j} {rows} {news} {x} {y} few one two narrowed none spanned =
     let (share, cross) = chosen_below ℕ (λ i s. (a : ℕ) → a < 16 → pos s *ℤ entry news i a ≡ (pos narrowed.lead *ℤ entry rows i a) -ℤ (gain_at (entry rows i) x y *ℤ entry rows j a)) 16 0
     (λ i l. ((narrowed.each i l).share, (narrowed.each i l).cross)) in
     record {
@@ -98,9 +101,7 @@ IsSpanned-narrowed {k} {j} {rows} {news} {x} {y} {weight} few one two narrowed n
       parts = λ i. spanned.parts i *ℤ pos (share i);
       sums = λ a l.
           spanned_crosses narrowed.lead j x y one two none spanned a l
-          ∙ sum_to-agree 16 (λ i h.
-          ap (λ (z : ℤ). spanned.parts i *ℤ z) (sym (cross i h a (omega arith)))
-          ∙ sym (mul-assoc (spanned.parts i) (pos (share i)) (entry news i a)));
+          ∙ sum_to-agree 16 (grind (arith, mul-assoc));
     }
 
 -- a row of zeros gains nothing
@@ -109,7 +110,8 @@ gain_at-zero rows i x y one two none = linear-none (IsLinear-gain x y one two) n
 
 module _ {rows news : List (List ℤ)} {x y : List ℕ} {j : ℕ} (narrowed : IsNarrowed rows x y j news) where
   -- a linear function gives a narrowed row 0 where both parts of the cross come to one number
-  linear-cross : {F : (ℕ → ℤ) → ℤ} → IsLinear 16 F → (i : ℕ) → i < 16 → pos narrowed.lead *ℤ F (entry rows i) ≡ gain_at (entry rows i) x y *ℤ F (entry rows j) → F (entry news i) ≡ pos 0
+  linear-cross : {F : (ℕ → ℤ) → ℤ} → IsLinear 16 F → (i : ℕ) → i < 16
+      → pos narrowed.lead *ℤ F (entry rows i) ≡ gain_at (entry rows i) x y *ℤ F (entry rows j) → F (entry news i) ≡ pos 0
   linear-cross {F} linear i l same =
       let row = narrowed.each i l in
       let gain : ℤ = gain_at (entry rows i) x y in
@@ -119,7 +121,8 @@ module _ {rows news : List (List ℤ)} {x y : List ℕ} {j : ℕ} (narrowed : Is
       ∙ omega (arith, ints, linear.scaled (pos narrowed.lead) (entry rows i), linear.scaled gain (entry rows j), same))
 
   -- a linear function gives a narrowed row 0 where both parts of the cross are 0
-  pub linear-narrowed : {F : (ℕ → ℤ) → ℤ} → IsLinear 16 F → (i : ℕ) → i < 16 → F (entry rows i) ≡ pos 0 → gain_at (entry rows i) x y *ℤ F (entry rows j) ≡ pos 0 → F (entry news i) ≡ pos 0
+  pub linear-narrowed : {F : (ℕ → ℤ) → ℤ} → IsLinear 16 F → (i : ℕ) → i < 16 → F (entry rows i) ≡ pos 0
+      → gain_at (entry rows i) x y *ℤ F (entry rows j) ≡ pos 0 → F (entry news i) ≡ pos 0
   linear-narrowed linear i l none nothing = linear-cross linear i l (factor-none (pos narrowed.lead) _ none ∙ sym nothing)
 
   -- narrowed rows gain nothing by the words by which they are narrowed
@@ -135,7 +138,8 @@ module _ {rows news : List (List ℤ)} {x y : List ℕ} {j : ℕ} (narrowed : Is
   IsZero-pivot l a h = linear-cross (IsLinear-at h) j l (rw narrowed.gains refl)
 
   -- rows that stand go on standing, where none after row j gains
-  pub IsStanding-narrowed : j < 16 → ((i : ℕ) → j < i → i < 16 → gain_at (entry rows i) x y ≡ pos 0) → IsStanding rows j → (i : ℕ) → i < 16 → i ≢ j → IsStanding rows i → IsStanding news i
+  pub IsStanding-narrowed : j < 16 → ((i : ℕ) → j < i → i < 16 → gain_at (entry rows i) x y ≡ pos 0) → IsStanding rows j → (i : ℕ) → i < 16 → i ≢ j
+      → IsStanding rows i → IsStanding news i
   IsStanding-narrowed within last pivot i l other stands =
       let row = narrowed.each i l in
       let beside : entry rows j i ≡ pos 0 = stands.alone j within (λ e. other (sym e)) in

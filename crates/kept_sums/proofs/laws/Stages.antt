@@ -1,7 +1,6 @@
 -- Stages: the first one, and that after a ring whose sum some row doesn't keep.
-use Rattle.std.proofs.Common.{◌≡◌, ◌≢◌, ℕ, suc, ◌+◌, ◌-◌, ◌*◌, ◌^◌, ◌<◌, ◌≤◌, List, [], length, take, set, slice_index, get_or-set_other, get_or-set_same, ℤ, pos, sym, ap, ap₂, subst, ◌∙◌, ⊎_elim, ◌⊎◌, inl, inr, arith, ◌<ℤ◌}
+use Rattle.std.proofs.Common.{◌≡◌, ◌≢◌, ℕ, suc, ◌+◌, ◌-◌, ◌*◌, ◌^◌, ◌<◌, ◌≤◌, List, [], length, take, set, slice_index, get_or-set_other, get_or-set_same, ℤ, pos, sym, ap, ap₂, subst, ◌∙◌, ⊎_elim, ◌⊎◌, inl, inr, arith, ◌<ℤ◌, length-set}
 use Rattle.word_image.proofs.Common.{cases_lt, cases_eq, ints, at-set, LocalRule, IsWord, IsRing}
-use Rattle.std.proofs.lemmas.List.{length-set}
 use Rattle.kept_sums.specs.Sums.{KeepsSumOf}
 use Rattle.kept_sums.specs.Spans.{entry, gain_at, IsNarrowed, AreSmall}
 use Rattle.kept_sums.specs.Stages.{IsFree, ring_at, IsStanding, IsZero, IsPlace, NotedKeep, IsStage, IsCondition}
@@ -14,15 +13,9 @@ abbrev pub free_before : ℕ → ℕ → ℕ → ℕ
 free_before k range i = (i - k ^ (range - 1)) - (i - k ^ range)
 
 -- with a free place there is one more of them, and with another place there are as many
-pub free_more : (k range i : ℕ) → (IsFree k range i × (free_before k range (suc i) ≡ suc (free_before k range i))) ⊎ ((¬ IsFree k range i) × (free_before k range (suc i) ≡ free_before k range i))
-free_more k range i =
-    ⊎_elim
-    (λ (below : i < k ^ (range - 1)). inr ((λ free. let least = free.least in absurd (omega arith)), omega arith))
-    (λ (least : k ^ (range - 1) ≤ i). ⊎_elim
-    (λ (most : i < k ^ range). inl (record { least = least; most = most }, omega arith))
-    (λ (above : k ^ range ≤ i). inr ((λ free. let most = free.most in absurd (omega arith)), omega arith))
-    (cases_lt i (k ^ range)))
-    (cases_lt i (k ^ (range - 1)))
+pub free_more : (k range i : ℕ)
+    → (IsFree k range i × (free_before k range (suc i) ≡ suc (free_before k range i))) ⊎ ((¬ IsFree k range i) × (free_before k range (suc i) ≡ free_before k range i))
+free_more k range i = grind arith
 
 -- what is positive isn't 0
 pub not_both : (x : ℤ) → pos 0 <ℤ x → x ≢ pos 0
@@ -51,21 +44,25 @@ module _ {k range : ℕ} {rows : List (List ℤ)} {counts : List ℕ} {rings : L
       (free_more k range i)
 
 -- a ring that is noted in a place
-pub ring_at-here : (counts : List ℕ) (rings : List (List ℕ)) (j n : ℕ) (letters : List ℕ) → j < length counts → j < length rings → ring_at (set counts j n) (set rings j letters) j ≡ take n letters
+pub ring_at-here : (counts : List ℕ) (rings : List (List ℕ)) (j n : ℕ) (letters : List ℕ) → j < length counts → j < length rings
+    → ring_at (set counts j n) (set rings j letters) j ≡ take n letters
 ring_at-here counts rings j n letters l h = ap₂ (λ (m : ℕ) (xs : List ℕ). take m xs) (get_or-set_same counts j n 0 l) (get_or-set_same rings j letters [] h)
 
 -- the rings of other places stay
-pub ring_at-other : (counts : List ℕ) (rings : List (List ℕ)) (j n : ℕ) (letters : List ℕ) (i : ℕ) → i ≢ j → ring_at (set counts j n) (set rings j letters) i ≡ ring_at counts rings i
+pub ring_at-other : (counts : List ℕ) (rings : List (List ℕ)) (j n : ℕ) (letters : List ℕ) (i : ℕ) → i ≢ j
+    → ring_at (set counts j n) (set rings j letters) i ≡ ring_at counts rings i
 ring_at-other counts rings j n letters i other = ap₂ (λ (m : ℕ) (xs : List ℕ). take m xs) (get_or-set_other counts j i n 0 other) (get_or-set_other rings j i letters [] other)
 
 module _ {r : LocalRule} {range : ℕ} {rows : List (List ℤ)} {counts : List ℕ} {rings : List (List ℕ)} (stage : IsStage r range rows counts rings) where
   -- a row that gains stands
-  pub Stands-gains : (x y : List ℕ) → IsWord 16 x → IsWord 16 y → (j : ℕ) → j < 16 → gain_at (entry rows j) x y ≢ pos 0 → Stands r.states range rows counts j
+  pub Stands-gains : (x y : List ℕ) → IsWord 16 x → IsWord 16 y → (j : ℕ) → j < 16 → gain_at (entry rows j) x y ≢ pos 0
+      → Stands r.states range rows counts j
   Stands-gains x y one two j l gains = ⊎_elim (λ stands. stands) (λ zeros. absurd (gains (gain_at-zero rows j x y one two zeros))) (stands_or_zero (stage.places j l))
 
   -- what keeps the sums of the noted rings and of one more keeps those that were noted before, and that of this one
   pub NotedKeep-set : (weight : ℕ → ℤ) (j n : ℕ) (letters : List ℕ) → j < 16 → 1 ≤ n
-      → slice_index counts j ≡ 0 → NotedKeep r range (set counts j n) (set rings j letters) weight → NotedKeep r range counts rings weight × KeepsSumOf range weight r (take n letters)
+      → slice_index counts j ≡ 0 → NotedKeep r range (set counts j n) (set rings j letters) weight
+      → NotedKeep r range counts rings weight × KeepsSumOf range weight r (take n letters)
   NotedKeep-set weight j n letters within some none keep = (
     λ i l noted.
         let other : i ≢ j = λ e. let at_j = ap (slice_index counts) e in absurd (omega arith) in
@@ -75,8 +72,10 @@ module _ {r : LocalRule} {range : ℕ} {rows : List (List ℤ)} {counts : List �
 
 -- the rows are narrowed by two words that say of a ring whether it keeps a sum, and the ring is noted
 pub IsStage-narrowed : {r : LocalRule} {range : ℕ} {rows news : List (List ℤ)} {counts : List ℕ} {rings : List (List ℕ)} {x y : List ℕ} {j : ℕ} (n : ℕ) (letters : List ℕ)
-    → IsStage r range rows counts rings → r.states ^ range ≤ 16 → IsCondition r range (take n letters) x y → j < 16 → ((i : ℕ) → j < i → i < 16 → gain_at (entry rows i) x y ≡ pos 0)
-    → IsNarrowed rows x y j news → AreSmall news → 1 ≤ n → n + 3 ≤ 2 * (r.width + range) → IsRing r.states (take n letters) → IsStage r range news (set counts j n) (set rings j letters)
+    → IsStage r range rows counts rings → r.states ^ range ≤ 16 → IsCondition r range (take n letters) x y → j < 16
+    → ((i : ℕ) → j < i → i < 16 → gain_at (entry rows i) x y ≡ pos 0)
+    → IsNarrowed rows x y j news → AreSmall news → 1 ≤ n → n + 3 ≤ 2 * (r.width + range) → IsRing r.states (take n letters)
+    → IsStage r range news (set counts j n) (set rings j letters)
 IsStage-narrowed {r} {range} {rows} {news} {counts} {rings} {x} {y} {j} n letters stage few condition within last narrowed small some fits ring =
     let pivot = Stands-gains stage x y condition.short.after_word condition.short.before_word j within (λ none. absurd (omega (arith, ints, none, narrowed.gains, narrowed.some))) in
     let here : slice_index (set counts j n) j ≡ n = get_or-set_same counts j n 0 (omega arith) in

@@ -1,6 +1,6 @@
 -- The first stage: each free place has the row that gives it the weight 1.
-use Rattle.std.proofs.Common.{◌≡◌, ◌≢◌, ℕ, ◌-◌, ◌^◌, ◌<◌, ◌≤◌, List, [], replicate, slice_index, slice_index_or, ℤ, pos, ◌*ℤ◌, sym, ap, ◌∙◌, ⊎_elim, ◌⊎◌, inl, inr, arith, unsigned_abs}
-use Rattle.word_image.proofs.Common.{ints, cases_lt, cases_eq, length-replicate, LocalRule, IsRule, slice_index-zeros}
+use Rattle.std.proofs.Common.{◌≡◌, ◌≢◌, ℕ, ◌-◌, ◌^◌, ◌<◌, ◌≤◌, List, [], replicate, slice_index_or, ℤ, pos, ◌*ℤ◌, sym, ap, ◌∙◌, ⊎_elim, ◌⊎◌, arith, unsigned_abs}
+use Rattle.word_image.proofs.Common.{ints, cases_lt, LocalRule, IsRule}
 use Rattle.kept_sums.specs.Sums.{sum_to}
 use Rattle.kept_sums.specs.Rows.{at, IsUnit, IsCombined}
 use Rattle.kept_sums.specs.Spans.{entry, IsSpanned}
@@ -14,12 +14,9 @@ pub record AreUnits (first size : ℕ) (rows : List (List ℤ)) : Type 0 where
   pub after : (i : ℕ) → size ≤ i → (a : ℕ) → entry rows i a ≡ pos 0
 
 -- a row has one number that isn't 0, at its place, or none
-unit_or_zero : {first size : ℕ} {rows : List (List ℤ)} → AreUnits first size rows → (i : ℕ) → ((first ≤ i) × (i < size) × IsUnit i (slice_index_or rows i [])) ⊎ ((a : ℕ) → entry rows i a ≡ pos 0)
-unit_or_zero {first} {size} units i =
-    ⊎_elim
-    (λ (l : i < first). inr (units.before i l))
-    (λ (l : first ≤ i). ⊎_elim (λ (h : i < size). inl (l, h, units.units i l h)) (λ (h : size ≤ i). inr (units.after i h)) (cases_lt i size))
-    (cases_lt i first)
+unit_or_zero : {first size : ℕ} {rows : List (List ℤ)} → AreUnits first size rows → (i : ℕ)
+    → ((first ≤ i) × (i < size) × IsUnit i (slice_index_or rows i [])) ⊎ ((a : ℕ) → entry rows i a ≡ pos 0)
+unit_or_zero units i = grind arith
 
 -- beside the places of the rows there are zeros
 off : {first size : ℕ} {rows : List (List ℤ)} → AreUnits first size rows → (i a : ℕ) → a ≢ i → entry rows i a ≡ pos 0
@@ -27,14 +24,11 @@ off units i a other = ⊎_elim (λ one. one.2.others a other) (λ none. none a) 
 
 -- the entries of unit rows are small
 small_at : {first size : ℕ} {rows : List (List ℤ)} → AreUnits first size rows → (i a : ℕ) → unsigned_abs (entry rows i a) ≤ 2 ^ 56
-small_at {rows = rows} units i a =
-    ⊎_elim
-    (λ (same : a ≡ i). ⊎_elim (λ one. omega (arith, ints, ap (entry rows i) same, one.2.one)) (λ zeros. omega (arith, ints, zeros a)) (unit_or_zero units i))
-    (λ other. omega (arith, ints, off units i a other))
-    (cases_eq a i)
+small_at {rows = rows} units i a = grind arith
 
 -- each normal weight is the sum of unit rows, each as often as the weight says
-spanned : {first size : ℕ} {rows : List (List ℤ)} → size ≤ 16 → AreUnits first size rows → (weight : ℕ → ℤ) → ((a : ℕ) → a < first → weight a ≡ pos 0) → IsSpanned size rows weight
+spanned : {first size : ℕ} {rows : List (List ℤ)} → size ≤ 16 → AreUnits first size rows → (weight : ℕ → ℤ) → ((a : ℕ) → a < first → weight a ≡ pos 0)
+    → IsSpanned size rows weight
 spanned {first} {size} {rows} few units weight normal = record {
   times = 1;
   some = omega arith;
@@ -62,30 +56,7 @@ combined_unit i row l unit = record {
 }
 
 -- rows of one number each are the first stage
-pub IsStage-start : (r : LocalRule) (range : ℕ) (rows : List (List ℤ)) → IsRule r → 1 ≤ range → r.states ^ range ≤ 16 → AreUnits (r.states ^ (range - 1)) (r.states ^ range) rows
+pub IsStage-start : (r : LocalRule) (range : ℕ) (rows : List (List ℤ)) → IsRule r → 1 ≤ range → r.states ^ range ≤ 16
+    → AreUnits (r.states ^ (range - 1)) (r.states ^ range) rows
     → IsStage r range rows (replicate 16 0) (replicate 16 (replicate 15 0))
-IsStage-start r range rows rule letter few units =
-    let none : (i : ℕ) → ¬ (1 ≤ slice_index (replicate 16 0) i) = λ i some. let e = slice_index-zeros 16 i in absurd (omega arith) in
-    record {
-      places = λ i l. record {
-        standing = λ free _.
-            let unit = units.units i free.least free.most in
-            record {
-              leads = let one : entry rows i i ≡ pos 1 = unit.one in omega (arith, ints);
-              begins = λ a h. off units i a (λ e. omega arith);
-              alone = λ m h other. off units m i (λ e. other (sym e));
-              combined = combined_unit i (slice_index_or rows i []) l unit;
-            };
-        dropped = λ some. absurd (none i some);
-        ring = λ some. absurd (none i some);
-        free = λ some. absurd (none i some);
-        past = λ outside a _. ⊎_elim (λ one. absurd (outside (record { least = one.0; most = one.1 }))) (λ none. none a) (unit_or_zero units i);
-      };
-      ends = λ i a l from h.
-          ⊎_elim (λ one. let below = one.1 in one.2.others a (λ e. omega arith)) (λ none. none a) (unit_or_zero units i);
-      complete = λ weight normal _. spanned few units weight normal;
-      short = λ i l. let e = slice_index-zeros 16 i in let wide = rule.shape.least_width in omega arith;
-      small = λ i l. record { small = λ a h. small_at units i a };
-      many_counts = length-replicate {A = ℕ} 16 0;
-      many_rings = length-replicate {A = List ℕ} 16 (replicate 15 0);
-    }
+IsStage-start r range rows rule letter few units = grind (arith, combined_unit, spanned)

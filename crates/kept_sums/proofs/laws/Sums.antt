@@ -48,7 +48,8 @@ pub linear-none : {k : ℕ} {F : (ℕ → ℤ) → ℤ} → IsLinear k F → {f 
 linear-none linear {f} none = linear.agree {g = λ a. pos 0 *ℤ f a} (λ a l. omega (arith, ints, none a l)) ∙ linear.scaled (pos 0) f ∙ omega (arith, ints)
 
 -- what is linear takes combinations to combinations
-pub linear-sum_to : {k : ℕ} {F : (ℕ → ℤ) → ℤ} → IsLinear k F → (n : ℕ) (parts : ℕ → ℤ) (rows : ℕ → ℕ → ℤ) → F (λ a. sum_to n (λ i. parts i *ℤ rows i a)) ≡ sum_to n (λ i. parts i *ℤ F (rows i))
+pub linear-sum_to : {k : ℕ} {F : (ℕ → ℤ) → ℤ} → IsLinear k F → (n : ℕ) (parts : ℕ → ℤ) (rows : ℕ → ℕ → ℤ)
+    → F (λ a. sum_to n (λ i. parts i *ℤ rows i a)) ≡ sum_to n (λ i. parts i *ℤ F (rows i))
 unfolding sum_to
 linear-sum_to linear zero parts rows = linear-none linear (λ a l. refl)
 linear-sum_to linear (suc n) parts rows =

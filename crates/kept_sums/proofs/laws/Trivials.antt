@@ -1,8 +1,6 @@
 -- Trivial weights: each rule keeps their sums; each weight is a normal one and a trivial one; only 0 is both.
-use Rattle.std.proofs.Common.{◌≡◌, ℕ, zero, suc, ◌+◌, ◌-◌, ◌/◌, ◌%◌, ◌^◌, ◌<◌, ◌≤◌, List, length, take, drop, ℤ, pos, ◌+ℤ◌, ◌-ℤ◌, ◌*ℤ◌, sym, ap, ap₂, subst, ◌∙◌, arith, mod-lt}
-use Rattle.std.proofs.Math.Nat.{pow-suc, mul-le-mul_left, mod-eq_of_lt}
-use Rattle.std.proofs.lemmas.Nat.{div_below}
-use Rattle.word_image.proofs.Common.{one-le-pow, pow-zero, zero-div, pow-le-pow_right, ints, LocalRule, IsRule, value, IsRing, ring_letters, ring_image, by_ends, value-front, value-tail, value-word_of}
+use Rattle.std.proofs.Common.{◌≡◌, ℕ, zero, suc, ◌+◌, ◌-◌, ◌/◌, ◌%◌, ◌^◌, ◌<◌, ◌≤◌, List, length, take, drop, ℤ, pos, ◌+ℤ◌, ◌-ℤ◌, ◌*ℤ◌, sym, ap, subst, ◌∙◌, arith, mod-lt, pow-suc, mul-le-mul_left, mod-eq_of_lt}
+use Rattle.word_image.proofs.Common.{one-le-pow, pow-zero, zero-div, pow-le-pow_right, ints, LocalRule, IsRule, value, IsRing, ring_letters, ring_image, by_ends, value-front, value-tail, value-word_of, div_below}
 use Rattle.kept_sums.specs.Sums.{sum_at, blocks, IsKept, sum_to}
 use Rattle.kept_sums.specs.Stages.{IsNormal, ring_at, NotedKeep, IsStage}
 use Rattle.kept_sums.specs.Fluxes.{IsFlowBy}
@@ -16,7 +14,8 @@ use Rattle.kept_sums.proofs.laws.Densities.{length-ring_image}
 use Rattle.kept_sums.proofs.laws.AfterRings.{IsRing-ring_image}
 
 -- on a ring trivial weights say how many letters it has
-trivial_sum : {k range : ℕ} {weight : ℕ → ℤ} → 1 ≤ range → (trivial : IsTrivial k range weight) → (p : List ℕ) → IsRing k p → sum_at weight (blocks k range p) ≡ pos (length p) *ℤ trivial.constant
+trivial_sum : {k range : ℕ} {weight : ℕ → ℤ} → 1 ≤ range → (trivial : IsTrivial k range weight) → (p : List ℕ) → IsRing k p
+    → sum_at weight (blocks k range p) ≡ pos (length p) *ℤ trivial.constant
 trivial_sum {k} {range} {weight} some trivial p ring =
     let next : range ≡ range - 1 + 1 = omega arith in
     sum_at-map weight (λ i. value k (ring_letters p (pos i) range)) (length p)
@@ -36,7 +35,8 @@ potential_of k zero weight v = pos 0
 potential_of k (suc d) weight v = (weight 0 -ℤ weight v) +ℤ potential_of k d weight (v / k)
 
 -- the weight of a word, by what the potential gives on the word and without its last letter
-potential-step : (k d : ℕ) (weight : ℕ → ℤ) (v : ℕ) → v < k ^ d → weight v ≡ weight 0 +ℤ (potential_of k d weight (v / k) -ℤ potential_of k d weight v)
+potential-step : (k d : ℕ) (weight : ℕ → ℤ) (v : ℕ) → v < k ^ d
+    → weight v ≡ weight 0 +ℤ (potential_of k d weight (v / k) -ℤ potential_of k d weight v)
 unfolding potential_of
 potential-step k zero weight v l = let none : v ≡ 0 = omega (arith, l, pow-zero k) in omega (arith, ints, ap weight none)
 potential-step zero (suc d) weight v l = absurd (omega (arith, l, pow-suc 0 d))
@@ -63,8 +63,7 @@ pub IsTrivial-part : (k range : ℕ) (weight : ℕ → ℤ) → 1 ≤ range → 
 IsTrivial-part k range weight some = record {
   constant = weight 0;
   phi = potential_of k (range - 1) weight;
-  is = λ w word long.
-      ap₂ (λ (x y : ℕ). weight 0 +ℤ (potential_of k (range - 1) weight x -ℤ potential_of k (range - 1) weight y)) (sym (value-front k (range - 1) w word (omega arith))) (sym (value-tail k (range - 1) w word (omega arith)));
+  is = grind (arith, value-front, value-tail);
 }
 
 -- what is left of weights without their trivial part is normal
@@ -75,11 +74,11 @@ IsNormal-part k range weight a l = omega (arith, ints, potential-step k (range -
 pub same_of_step : (k : ℕ) (phi : ℕ → ℤ) (d n : ℕ) → 1 ≤ k → n ≤ d → ((v : ℕ) → v < k ^ d → phi v ≡ phi (v / k)) → (v : ℕ) → v < k ^ n → phi v ≡ phi 0
 same_of_step k phi d zero some few step v l = let none : v ≡ 0 = omega (arith, pow-zero k) in ap phi none
 same_of_step k phi d (suc n) some few step v l =
-    let more : k ^ suc n ≤ k ^ d = pow-le-pow_right some {i = suc n} {j = d} few in
-    step v (omega arith) ∙ same_of_step k phi d n some (omega arith) step (v / k) (div_below v k (k ^ n) some (omega (arith, l, pow-suc k n)))
+    grind (arith, pow-le-pow_right, same_of_step k phi d n some (omega arith) step (v / k) (div_below v k (k ^ n) some (omega (arith, l, pow-suc k n))))
 
 -- weights that are normal and trivial are 0
-pub IsNormal-trivial : (k range : ℕ) (weight : ℕ → ℤ) → 2 ≤ k → 1 ≤ range → IsNormal k range weight → IsTrivial k range weight → (a : ℕ) → a < k ^ range → weight a ≡ pos 0
+pub IsNormal-trivial : (k range : ℕ) (weight : ℕ → ℤ) → 2 ≤ k → 1 ≤ range → IsNormal k range weight → IsTrivial k range weight → (a : ℕ)
+    → a < k ^ range → weight a ≡ pos 0
 IsNormal-trivial k range weight states some normal trivial a l =
     let d : ℕ = range - 1 in
     let phi = trivial.phi in
@@ -99,7 +98,8 @@ IsNormal-trivial k range weight states some normal trivial a l =
     omega (arith, ints, by.flows a below, constant, same (a / k) ends.0, same (a % k ^ d) ends.1)
 
 -- each kept weight is a rational combination of the rows and trivial weights
-pub IsSpannedUpToTrivial-kept : {r : LocalRule} {range : ℕ} {rows : List (List ℤ)} {counts : List ℕ} {rings : List (List ℕ)} → IsRule r → 1 ≤ range → IsStage r range rows counts rings
+pub IsSpannedUpToTrivial-kept : {r : LocalRule} {range : ℕ} {rows : List (List ℤ)} {counts : List ℕ} {rings : List (List ℕ)} → IsRule r → 1 ≤ range
+    → IsStage r range rows counts rings
     → (weight : ℕ → ℤ) → NotedKeep r range counts rings weight → IsSpannedUpToTrivial r.states range rows weight
 IsSpannedUpToTrivial-kept {r} {range} {rows} {counts} {rings} rule some stage weight keep =
     let k : ℕ = r.states in

@@ -1,11 +1,10 @@
 -- There is one answer: two have the same rows.
-use Rattle.std.proofs.Common.{◌≡◌, ◌≢◌, ℕ, ◌^◌, ◌<◌, ◌≤◌, List, [], slice_index_or, ℤ, pos, ◌-ℤ◌, ◌*ℤ◌, sym, ap, ◌∙◌, ⊎_elim, arith, ◌<ℤ◌, unsigned_abs}
-use Rattle.std.proofs.Math.Nat.{mul-le-mul_left}
+use Rattle.std.proofs.Common.{◌≡◌, ◌≢◌, ℕ, ◌^◌, ◌<◌, ◌≤◌, List, [], slice_index_or, ℤ, pos, ◌-ℤ◌, ◌*ℤ◌, sym, ap, ◌∙◌, ⊎_elim, arith, ◌<ℤ◌, unsigned_abs, mul-le-mul_left}
 use Rattle.word_image.proofs.Common.{cases_lt, cases_eq, ints, unsigned_abs-mul, LocalRule}
 use Rattle.kept_sums.specs.Rows.{at, IsCombined}
 use Rattle.kept_sums.specs.Spans.{entry, IsSpanned}
 use Rattle.kept_sums.specs.Stages.{IsNormal, ring_at, IsStanding, IsZero, NotedKeep, IsStage, AreKeptSums}
-use Rattle.kept_sums.proofs.laws.Integers.{other_factor, mul-sub, zero-of_times, zero-factor, factor-none, positive-of_times, times-positive, positive_is}
+use Rattle.kept_sums.proofs.laws.Integers.{other_factor, mul-sub, zero-of_times, zero-factor, factor-none, times-positive}
 use Rattle.kept_sums.proofs.laws.Spans.{sum_to-one, sum_to-none}
 use Rattle.kept_sums.proofs.laws.Combined.{multiple_of}
 use Rattle.kept_sums.proofs.laws.Stages.{Stands, stands_or_zero, not_both}
@@ -17,7 +16,8 @@ least_multiple one other t s some same combined =
     omega (arith, mul-le-mul_left s part.1, part.2)
 
 -- two rows are one where a multiple of each is one of the other
-same_row : (one other : List ℤ) (t s : ℕ) → 1 ≤ t → 1 ≤ s → ((a : ℕ) → a < 16 → pos t *ℤ at one a ≡ pos s *ℤ at other a) → IsCombined 16 one 1 → IsCombined 16 other 1
+same_row : (one other : List ℤ) (t s : ℕ) → 1 ≤ t → 1 ≤ s → ((a : ℕ) → a < 16 → pos t *ℤ at one a ≡ pos s *ℤ at other a) → IsCombined 16 one 1
+    → IsCombined 16 other 1
     → (a : ℕ) → a < 16 → at one a ≡ at other a
 same_row one other t s some more same first second a l =
     let below = least_multiple one other t s some same first in
@@ -27,19 +27,19 @@ same_row one other t s some more same first second a l =
 
 -- a product that is positive, of a number and a positive one
 factor-positive : (c x : ℤ) → pos 0 <ℤ x → pos 0 <ℤ (c *ℤ x) → (s : ℕ) × (1 ≤ s) × (c ≡ pos s)
-factor-positive c x above product =
-    let (n, some, is) = positive_is x above in
-    positive_is c (positive-of_times n c (omega (arith, ints, product, ap (λ (z : ℤ). c *ℤ z) is)))
+factor-positive c x above product = grind arith
 
 -- what weights that are combined of rows have where one of these stands
-spanned_at : {rows : List (List ℤ)} {weight : ℕ → ℤ} (spanned : IsSpanned 16 rows weight) (l : ℕ) → l < 16 → IsStanding rows l → pos spanned.times *ℤ weight l ≡ spanned.parts l *ℤ entry rows l l
+spanned_at : {rows : List (List ℤ)} {weight : ℕ → ℤ} (spanned : IsSpanned 16 rows weight) (l : ℕ) → l < 16 → IsStanding rows l
+    → pos spanned.times *ℤ weight l ≡ spanned.parts l *ℤ entry rows l l
 spanned_at {rows = rows} spanned l within standing =
     spanned.sums l within ∙ sum_to-one 16 (λ m. spanned.parts m *ℤ entry rows m l) l within (λ m h apart. factor-none (spanned.parts m) (entry rows m l) (standing.alone m h apart))
 
 module _ {r : LocalRule} {range : ℕ} {rows : List (List ℤ)} {counts : List ℕ} {rings : List (List ℕ)} (stage : IsStage r range rows counts rings) where
   -- a combination takes nothing of a row where the weights are 0 if it stands, and what is taken is 0 if it is one of zeros
   pub part-none : {weight : ℕ → ℤ} (spanned : IsSpanned 16 rows weight)
-      → (m : ℕ) → m < 16 → (x : ℤ) → (Stands r.states range rows counts m → weight m ≡ pos 0) → (IsZero rows m → x ≡ pos 0) → spanned.parts m *ℤ x ≡ pos 0
+      → (m : ℕ) → m < 16 → (x : ℤ) → (Stands r.states range rows counts m → weight m ≡ pos 0) → (IsZero rows m → x ≡ pos 0)
+      → spanned.parts m *ℤ x ≡ pos 0
   part-none spanned m l x stood none =
       ⊎_elim
       (λ stands. zero-factor (spanned.parts m) x
@@ -93,7 +93,8 @@ module _ {r : LocalRule} {range : ℕ} {rows others : List (List ℤ)} {counts o
 
 -- two standing rows of one place are one row
 pub same_standing : {r : LocalRule} {range : ℕ} {rows others : List (List ℤ)} {counts other_counts : List ℕ} {rings other_rings : List (List ℕ)}
-    → AreKeptSums r range rows counts rings → AreKeptSums r range others other_counts other_rings → (i : ℕ) → i < 16 → Stands r.states range rows counts i → (a : ℕ) → a < 16 → entry rows i a ≡ entry others i a
+    → AreKeptSums r range rows counts rings → AreKeptSums r range others other_counts other_rings → (i : ℕ) → i < 16
+    → Stands r.states range rows counts i → (a : ℕ) → a < 16 → entry rows i a ≡ entry others i a
 same_standing {rows = rows} {others} one other i l stands =
     let spanned = spanned_row one other i l stands in
     let too = (stands_too one other i l stands).standing in

@@ -1,9 +1,6 @@
 -- Windows of m + range - 1 letters by their values, and the fluxes of what they add.
-use Rattle.std.proofs.Common.{◌≡◌, ℕ, zero, suc, ◌+◌, ◌-◌, ◌*◌, ◌/◌, ◌%◌, ◌^◌, ◌<◌, ◌≤◌, ◌↔◌, List, length, take, drop, get_or-set_other, set, ℤ, pos, ◌-ℤ◌, refl, sym, ap, ◌∙◌, arith, unsigned_abs}
-use Rattle.std.proofs.Math.Nat.{pow-suc, mul-le-mul, mul-le-mul_left}
-use Rattle.word_image.proofs.Common.{by_ends, node_count_pos, set_more, pow-zero, div-lt_self, ints, LocalRule, IsRule, value, word_of}
-use Rattle.std.proofs.lemmas.Nat.{pow-add, div_below}
-use Rattle.std.proofs.lemmas.List.{length-set}
+use Rattle.std.proofs.Common.{◌≡◌, ℕ, zero, suc, ◌+◌, ◌-◌, ◌*◌, ◌/◌, ◌%◌, ◌^◌, ◌<◌, ◌≤◌, ◌↔◌, List, length, take, drop, get_or-set_other, set, ℤ, pos, ◌-ℤ◌, refl, sym, ap, ◌∙◌, arith, unsigned_abs, pow-suc, mul-le-mul, mul-le-mul_left, pow-add, length-set}
+use Rattle.word_image.proofs.Common.{by_ends, set_more, pow-zero, div-lt_self, ints, LocalRule, IsRule, value, word_of, div_below}
 use Rattle.kept_sums.specs.Rows.{at}
 use Rattle.kept_sums.specs.Fluxes.{IsFluxOf, window_gain, IsFlowBy}
 use Rattle.kept_sums.proofs.laws.Ranges.{pow-next}
@@ -12,9 +9,7 @@ use Rattle.kept_sums.proofs.laws.Trivials.{window_ends, IsFlowBy-back, same_of_s
 -- how many windows there are
 windows-split : {r : LocalRule} → IsRule r → (range : ℕ)
     → r.states ^ (r.width + range - 1) ≡ r.states ^ (r.width - 1) * r.states ^ range
-windows-split {r} rule range =
-    let e : r.width + range - 1 ≡ r.width - 1 + range = omega (arith, rule.shape.least_width) in
-    ap (λ n. r.states ^ n) e ∙ pow-add r.states (r.width - 1) range
+windows-split {r} rule range = ap (λ n. r.states ^ n) (omega arith) ∙ pow-add r.states (r.width - 1) range
 
 -- there are at most 256 windows
 pub windows-most : {r : LocalRule} → IsRule r → (range n : ℕ) → n + 1 ≡ r.width + range → r.states ^ range ≤ 16 → r.states ^ n ≤ 256
@@ -29,12 +24,11 @@ words-half k n states few = omega (arith, pow-next k n, mul-le-mul_left (k ^ n) 
 -- the first letters of a window are one of few words
 pub front-below : {r : LocalRule} → IsRule r → (range v : ℕ) → r.states ^ range ≤ 16
     → v < r.states ^ (r.width + range - 1) → v / r.states ^ (r.width - 1) < 16
-front-below {r} rule range v few l =
-    let split : v < r.states ^ range * r.states ^ (r.width - 1) = omega (arith, l, windows-split rule range) in
-    omega (arith, few, div_below v (r.states ^ (r.width - 1)) (r.states ^ range) (node_count_pos rule) split)
+front-below rule range v few l = grind (arith, windows-split)
 
 -- a flux of words is one by the values of the windows
-pub IsFlowBy-flux : {r : LocalRule} {range : ℕ} {weight phi gains : ℕ → ℤ} → IsRule r → 1 ≤ range → ((v : ℕ) → v < r.states ^ (r.width + range - 1) → gains v ≡ window_gain r range weight (word_of r.states (r.width + range - 1) v))
+pub IsFlowBy-flux : {r : LocalRule} {range : ℕ} {weight phi gains : ℕ → ℤ} → IsRule r → 1 ≤ range
+    → ((v : ℕ) → v < r.states ^ (r.width + range - 1) → gains v ≡ window_gain r range weight (word_of r.states (r.width + range - 1) v))
     → IsFluxOf range weight r phi ↔ IsFlowBy r.states (r.width + range - 2) gains phi
 IsFlowBy-flux {r} {range} {weight} {phi} rule some are =
     let n : ℕ = r.width + range - 2 in
@@ -48,7 +42,8 @@ IsFlowBy-flux {r} {range} {weight} {phi} rule some are =
     )
 
 -- numbers that differ from a flux by one number are a flux
-pub IsFlowBy-less : {k n : ℕ} {gains phi psi : ℕ → ℤ} (c : ℤ) → 1 ≤ k → ((v : ℕ) → v < k ^ n → psi v ≡ phi v -ℤ c) → IsFlowBy k n gains phi → IsFlowBy k n gains psi
+pub IsFlowBy-less : {k n : ℕ} {gains phi psi : ℕ → ℤ} (c : ℤ) → 1 ≤ k → ((v : ℕ) → v < k ^ n → psi v ≡ phi v -ℤ c) → IsFlowBy k n gains phi
+    → IsFlowBy k n gains psi
 IsFlowBy-less {k} {n} c some less by = record {
   flows = λ v l.
       let ends = window_ends k n v some l in
@@ -59,7 +54,8 @@ IsFlowBy-less {k} {n} c some less by = record {
 }
 
 -- two fluxes differ by one number
-pub IsFluxOf-one : {r : LocalRule} {range : ℕ} {weight phi psi : ℕ → ℤ} → IsRule r → 1 ≤ range → IsFluxOf range weight r phi → IsFluxOf range weight r psi
+pub IsFluxOf-one : {r : LocalRule} {range : ℕ} {weight phi psi : ℕ → ℤ} → IsRule r → 1 ≤ range → IsFluxOf range weight r phi
+    → IsFluxOf range weight r psi
     → (v : ℕ) → v < r.states ^ (r.width + range - 2) → (phi v -ℤ phi 0) ≡ psi v -ℤ psi 0
 IsFluxOf-one {r} {range} {weight} {phi} {psi} rule some one other v l =
     let d : ℕ = r.width + range - 2 in
@@ -76,7 +72,8 @@ pub record AreNumbers (k n word : ℕ) (gains flux : List ℤ) : Type 0 where
   pub rest : (v : ℕ) → word ≤ v → at flux v ≡ pos 0
 
 -- how great the number of the next word may be
-number_small : (k v j : ℕ) (gains flux : List ℤ) (x : ℤ) → 2 ≤ k → 1 ≤ v → v < k ^ j → x ≡ at flux (v / k) -ℤ at gains v → unsigned_abs (at gains v) ≤ 2 ^ 57
+number_small : (k v j : ℕ) (gains flux : List ℤ) (x : ℤ) → 2 ≤ k → 1 ≤ v → v < k ^ j → x ≡ at flux (v / k) -ℤ at gains v
+    → unsigned_abs (at gains v) ≤ 2 ^ 57
     → ((u i : ℕ) → u < v → u < k ^ i → unsigned_abs (at flux u) ≤ i * 2 ^ 57) → unsigned_abs x ≤ j * 2 ^ 57
 number_small k v zero gains flux x states some l is small bounds = let one = pow-zero k in absurd (omega arith)
 number_small k v (suc i) gains flux x states some l is small bounds =
@@ -84,16 +81,16 @@ number_small k v (suc i) gains flux x states some l is small bounds =
     omega (arith, ints, is, before, small)
 
 -- the number of the next word is that of its letters but for the last less what the window adds between them
-pub AreNumbers-next : (k n v place : ℕ) (gains flux : List ℤ) (x : ℤ) → 2 ≤ k → 1 ≤ v → v < k ^ n → v < 128 → place ≡ v → unsigned_abs (at gains v) ≤ 2 ^ 57 → x ≡ at flux (v / k) -ℤ at gains v
+pub AreNumbers-next : (k n v place : ℕ) (gains flux : List ℤ) (x : ℤ) → 2 ≤ k → 1 ≤ v → v < k ^ n → v < 128 → place ≡ v
+    → unsigned_abs (at gains v) ≤ 2 ^ 57 → x ≡ at flux (v / k) -ℤ at gains v
     → AreNumbers k n v gains flux → AreNumbers k n (v + 1) gains (set flux place x)
 AreNumbers-next k n v place gains flux x states some l few e small is before = record {
   many = length-set flux place x ∙ before.many;
   done = λ phi by.
       let back = IsFlowBy-back (omega arith) by v l in
-      let first = before.done phi by (v / k) (div-lt_self some states) in
-      set_more (λ u z. z ≡ phi u -ℤ phi 0) flux v place (pos 0) x (omega (arith, before.many)) e (before.done phi by) (omega (arith, ints, is, back, first));
+      set_more (λ u z. z ≡ phi u -ℤ phi 0) flux v place (pos 0) x (omega arith) e (before.done phi by) (omega (arith, ints, before.done phi by (v / k) (div-lt_self some states)));
   bounds = λ u j below.
-      set_more (λ a z. a < k ^ j → unsigned_abs z ≤ j * 2 ^ 57) flux v place (pos 0) x (omega (arith, before.many)) e (λ a m h. before.bounds a j m h)
+      set_more (λ a z. a < k ^ j → unsigned_abs z ≤ j * 2 ^ 57) flux v place (pos 0) x (omega arith) e (λ a m h. before.bounds a j m h)
       (λ h. number_small k v j gains flux x states some h is small before.bounds) u below;
   rest = λ u m. get_or-set_other flux place u x (pos 0) (λ same. omega arith) ∙ before.rest u (omega arith);
 }

@@ -18,12 +18,12 @@ pub printed_has : (property : Property) (shape r : LocalRule) (letters : List �
     → IsRule (with_table shape r.table) × Has property (with_table shape r.table)
 printed_has property shape r letters rule l =
     let same : at_offset r shape.offset ≡ with_table shape r.table = rule_from_parts l.shape.states l.shape.width refl refl in
-    let moved : IsRule (at_offset r shape.offset) = IsRule-at_offset shape.offset l.shape.rule rule.shape.least_offset (omega (arith, ints, l.shape.width, rule.shape.most_offset)) in
-    let has : Has property (at_offset r shape.offset) = (Has-at_offset property r shape.offset l.shape.rule moved).0 l.has in
-    (subst IsRule same moved, subst (Has property) same has)
+    let moved = IsRule-at_offset shape.offset l.shape.rule rule.shape.least_offset (omega (arith, ints, l.shape.width, rule.shape.most_offset)) in
+    (rw same at moved, rw same at ((Has-at_offset property r shape.offset l.shape.rule moved).0 l.has))
 
 -- each rule of the offset that has the property and the letters is that of a line
-pub is_printed : (property : Property) (shape q : LocalRule) (letters : List ℕ) → IsRule q → q.states ≡ shape.states → q.width ≡ shape.width → q.offset ≡ shape.offset
+pub is_printed : (property : Property) (shape q : LocalRule) (letters : List ℕ) → IsRule q → q.states ≡ shape.states → q.width ≡ shape.width
+    → q.offset ≡ shape.offset
     → Has property q → HasLetters shape.states (shape.states ^ shape.width) letters q.table
     → (r : LocalRule) × IsListed property shape.states shape.width letters r × (q ≡ with_table shape r.table)
 is_printed property shape q letters rule states width offset has begins =

@@ -1,31 +1,18 @@
 -- Images and image cells under the second rule after the first.
-use Rattle.std.proofs.Common.{◌≡◌, None, eq-eqb, ℕ, ◌+◌, ◌-◌, ◌<◌, ◌≤◌, List, length, take, drop, slice_range, ℤ, ◌+ℤ◌, refl, sym, ap, ap₂, subst, ◌∙◌, arith, length-drop, not, if◌then◌else◌, Some, length-take-le}
-use Rattle.word_image.proofs.Common.{nat_tests, ints, All-take, All-drop, LocalRule, IsRule, IsShape, IsWord, local_map, image, length-image, entry-below, get_or-image, image-by_letters, image-drop, image-take}
+use Rattle.std.proofs.Common.{◌≡◌, None, eq-eqb, ℕ, ◌+◌, ◌-◌, ◌<◌, ◌≤◌, List, length, take, drop, slice_range, ℤ, ◌+ℤ◌, sym, ap, ap₂, ◌∙◌, arith, length-drop, length-take-le}
+use Rattle.word_image.proofs.Common.{nat_tests, ints, All-take, All-drop, LocalRule, IsRule, IsWord, local_map, image, length-image, entry-below, get_or-image, image-by_letters, image-drop, image-take}
 use Rattle.tail_config.proofs.Common.{cells, cell, length-run, IsWord-run, image-run, cell-below}
 use Rattle.rule_algebra.specs.Algebra.{IsComposed}
 use Rattle.rule_algebra.specs.MadeImages.{ComposesCells}
 use Rattle.rule_algebra.specs.AlgebraFaults.{limit_fault, compose_fault}
-use Rattle.rule_algebra.specs.declared.fault.AlgebraFault.TheVariants.{States}
 use Rattle.rule_algebra.specs.Tables.{composed}
 use Rattle.rule_algebra.proofs.laws.Limits.{IsShape-limit_fault}
-use Rattle.rule_algebra.proofs.laws.Tables.{length-table_by, IsWord-table_by, table_by-at}
+use Rattle.rule_algebra.proofs.laws.Tables.{IsRule-table_by, table_by-at}
 
 -- what the second rule after the first gives on a window
 local_map-composed : (first second : LocalRule) (w : List ℕ) → IsWord first.states w → length w ≡ first.width + second.width - 1
     → local_map (composed first second) w ≡ local_map second (image first w)
 local_map-composed first second w word long = table_by-at first.states (first.width + second.width - 1) (λ x. local_map second (image first x)) w word long
-
--- the second rule after the first is an accepted rule if its shape is accepted
-pub IsRule-composed : (first second : LocalRule) → IsRule second → first.states ≡ second.states
-    → IsShape first.states (first.width + second.width - 1) (first.offset +ℤ second.offset) → IsRule (composed first second)
-IsRule-composed first second after same shape =
-    let give : List ℕ → ℕ = λ w. local_map second (image first w) in
-    let m : ℕ = first.width + second.width - 1 in
-    record {
-      shape = shape;
-      entries = length-table_by first.states m give;
-      letters = IsWord-table_by first.states m give (λ w. subst (λ k. give w < k) (sym same) (entry-below after _));
-    }
 
 -- the images compose
 pub image-composed : {first second : LocalRule} → IsRule first → IsRule second → (x : List ℕ) → IsWord first.states x
@@ -59,26 +46,18 @@ ComposesCells-composed {first} {second} before after = λ t i tail.
 -- rules of one number of states have the first fault of the shape
 pub compose_fault-same : (first second : LocalRule) → first.states ≡ second.states
     → compose_fault first second ≡ limit_fault first.states (first.width + second.width - 1) (first.offset +ℤ second.offset)
-compose_fault-same first second same =
-    ap (λ t. if not t then Some States else limit_fault first.states (first.width + second.width - 1) (first.offset +ℤ second.offset)) (eq-eqb first.states second.states same)
+compose_fault-same first second same = grind (arith, eq-eqb)
 
 -- where there is no fault, the rules are of one number of states
 pub compose_fault-states : (first second : LocalRule) → compose_fault first second ≡ None → first.states ≡ second.states
 compose_fault-states first second none = grind (arith, nat_tests)
 
 -- where there is no fault, the second rule after the first is an accepted rule
-pub IsRule-composed_fault : {first second : LocalRule} → IsRule first → IsRule second → compose_fault first second ≡ None → IsRule (composed first second)
+pub IsRule-composed_fault : {first second : LocalRule} → IsRule first → IsRule second → compose_fault first second ≡ None
+    → IsRule (composed first second)
 IsRule-composed_fault {first} {second} before after none =
-    let same = compose_fault-states first second none in
-    IsRule-composed first second after same
-    (IsShape-limit_fault first.states (first.width + second.width - 1) (first.offset +ℤ second.offset) before.shape.least_states before.shape.most_states (omega arith)
-    (sym (compose_fault-same first second same) ∙ none))
+    grind (arith, compose_fault-states, IsShape-limit_fault, compose_fault-same, IsRule-table_by, entry-below)
 
 -- the second rule after the first is the rule whose image is the image of the image
 pub IsComposed-composed : {first second : LocalRule} → IsRule first → IsRule second → IsComposed first second (composed first second)
-IsComposed-composed {first} {second} before after = record {
-  states = refl;
-  width = refl;
-  offset = refl;
-  images = λ x word long. image-composed before after x word;
-}
+IsComposed-composed {first} {second} before after = grind (arith, image-composed)

@@ -1,11 +1,12 @@
 -- Words, rules and images in new colours.
-use Rattle.std.proofs.Common.{◌≡◌, ◌≢◌, ℕ, ◌+◌, ◌-◌, ◌<◌, ◌≤◌, List, [], ◌∷◌, length, take, drop, get_or, slice_index, slice_range, set, refl, sym, ap, ap₂, ◌∙◌, ⊎_elim, arith, length-drop, length-take-le, get_or-set_same, get_or-set_other, length-set}
-use Rattle.word_image.proofs.Common.{cases_lt, length-map, take-map, drop-map, get_or-map, get_or_past, All-map, All-take, All-drop, All-head, All-tail, All-set, LocalRule, IsRule, IsWord, local_map, image, length-image, get_or-image, image-by_letters}
+use Rattle.std.proofs.Common.{◌≡◌, ◌≢◌, ℕ, ◌+◌, ◌-◌, ◌<◌, List, length, take, drop, get_or, slice_index, slice_range, refl, sym, ap, ◌∙◌, arith, length-drop, length-take-le, map, map-id, ext_get_or}
+use Rattle.std.proofs.lemmas.Simd.{map-map}
+use Rattle.word_image.proofs.Common.{some_letter, cases_lt, length-map, take-map, drop-map, get_or-map, get_or_past, All-map, All-take, All-drop, LocalRule, IsRule, IsWord, local_map, image, length-image, get_or-image, image-by_letters}
 use Rattle.rule_algebra.specs.Algebra.{IsRecolouring, IsRecoloured, recoloured}
 use Rattle.rule_algebra.specs.MadeImages.{RecoloursImages}
 use Rattle.rule_algebra.specs.Tables.{AreOldLetters}
 use Rattle.rule_algebra.specs.Tabulated.{table_by}
-use Rattle.rule_algebra.proofs.laws.Tables.{length-table_by, IsWord-table_by, table_by-at}
+use Rattle.rule_algebra.proofs.laws.Tables.{length-table_by, IsRule-table_by, table_by-at}
 
 -- the first n colours are letters, and each is none of those before it
 abbrev pub DifferentBelow : ℕ → List ℕ → ℕ → Type 0
@@ -13,37 +14,24 @@ DifferentBelow k colours n = (a : ℕ) → a < n → (get_or colours a 0 < k) ×
 
 -- what stands in a word, or is 0, is a letter
 pub colour-below : (k : ℕ) (colours : List ℕ) → IsWord k colours → 0 < k → (a : ℕ) → slice_index colours a < k
-colour-below k colours word some a =
-    ⊎_elim (λ l. word a 0 l)
-    (λ l. let past : get_or colours a 0 ≡ 0 = get_or_past colours a 0 l in omega arith)
-    (cases_lt a (length colours))
+colour-below k colours word some a = grind (arith, get_or_past, cases_lt)
 
 -- a recoloured word is a word
 pub IsWord-recoloured : (k : ℕ) (colours : List ℕ) → IsWord k colours → 0 < k → (w : List ℕ) → IsWord k (recoloured colours w)
 IsWord-recoloured k colours word some w = All-map (λ a. a < k) (slice_index colours) w (λ i d l. colour-below k colours word some _)
 
--- one more letter has its old letter in the list
-pub AreOldLetters-more : {k n : ℕ} {colours letters : List ℕ} → k ≤ 16 → IsRecolouring k colours → n < k → AreOldLetters k colours n letters
-    → AreOldLetters k colours (n + 1) (set letters (slice_index colours n) n)
-AreOldLetters-more {k} {n} {colours} {letters} few h below before =
-    let colour : ℕ = slice_index colours n in
-    let letter : colour < k = colour-below k colours h.word (omega arith) n in
-    record {
-      long = omega (arith, length-set letters colour n, before.long);
-      word = All-set (λ a. a < k) letters colour n below before.word;
-      back = λ a l. ⊎_elim
-          (λ less. get_or-set_other letters colour (slice_index colours a) n 0 (λ e. absurd (omega (arith, h.different a n (omega arith) below e))) ∙ before.back a less)
-          (λ last.
-          let same : a ≡ n = omega arith in
-          ap (λ b. slice_index (set letters colour n) (slice_index colours b)) same ∙ get_or-set_same letters colour n 0 (omega (arith, before.long)) ∙ sym same)
-          (cases_lt a n);
-    }
+-- two functions that agree on the letters of a word change the word in the same way
+pub map-agree : (f g : ℕ → ℕ) (w : List ℕ) → ((i : ℕ) → i < length w → f (get_or w i 0) ≡ g (get_or w i 0)) → map f w ≡ map g w
+map-agree f g w same = ext_get_or 0 _ _ (length-map w f ∙ sym (length-map w g)) (λ i l.
+    let within : i < length w = omega (arith, length-map w f) in
+    get_or-map f w i 0 0 within ∙ same i within ∙ sym (get_or-map g w i 0 0 within))
 
 -- a word comes back, where each letter does
-pub recoloured_back : {k : ℕ} (letters colours : List ℕ) → ((a : ℕ) → a < k → slice_index letters (slice_index colours a) ≡ a) → (w : List ℕ) → IsWord k w → recoloured letters (recoloured colours w) ≡ w
-recoloured_back letters colours back [] word = refl
-recoloured_back {k} letters colours back (a ∷ w) word =
-    ap₂ (λ (b : ℕ) (x : List ℕ). b ∷ x) (back a (All-head (λ a. a < k) a w word)) (recoloured_back letters colours back w (All-tail (λ a. a < k) a w word))
+pub recoloured_back : {k : ℕ} (letters colours : List ℕ) → ((a : ℕ) → a < k → slice_index letters (slice_index colours a) ≡ a) → (w : List ℕ)
+    → IsWord k w → recoloured letters (recoloured colours w) ≡ w
+recoloured_back letters colours back w word =
+    map-map (slice_index letters) (slice_index colours) w
+    ∙ map-agree (λ a. slice_index letters (slice_index colours a)) (λ a. a) w (λ i l. back _ (word i 0 l)) ∙ map-id w
 
 -- the new colour of what the rule gives on a window in its old letters
 abbrev pub new_colour : LocalRule → List ℕ → List ℕ → List ℕ → ℕ
@@ -55,22 +43,19 @@ recoloured_rule r colours letters = record { states = r.states; width = r.width;
 
 -- the recoloured rule is accepted
 pub IsRule-recoloured : {r : LocalRule} (colours letters : List ℕ) → IsRule r → IsWord r.states colours → IsRule (recoloured_rule r colours letters)
-IsRule-recoloured {r} colours letters rule word = record {
-  shape = rule.shape;
-  entries = length-table_by r.states r.width (new_colour r colours letters);
-  letters = IsWord-table_by r.states r.width (new_colour r colours letters) (λ w. colour-below r.states colours word (omega (arith, rule.shape.least_states)) _);
-}
+IsRule-recoloured {r} colours letters rule word =
+    IsRule-table_by r.states r.width r.offset (new_colour r colours letters) rule.shape (λ w. colour-below r.states colours word (some_letter rule) _)
 
 -- the recoloured rule gives the new colours
-pub IsRecoloured-rule : {r : LocalRule} {colours letters : List ℕ} → IsRule r → IsRecolouring r.states colours → AreOldLetters r.states colours r.states letters
+pub IsRecoloured-rule : {r : LocalRule} {colours letters : List ℕ} → IsRule r → IsRecolouring r.states colours
+    → AreOldLetters r.states colours r.states letters
     → IsRecoloured colours r (recoloured_rule r colours letters)
 IsRecoloured-rule {r} {colours} {letters} rule h old = record {
   states = refl;
   width = refl;
   entries = length-table_by r.states r.width (new_colour r colours letters);
   letters = λ w word long.
-      let some : 0 < r.states = omega (arith, rule.shape.least_states) in
-      table_by-at r.states r.width (new_colour r colours letters) (recoloured colours w) (IsWord-recoloured r.states colours h.word some w) (length-map w (slice_index colours) ∙ long)
+      table_by-at r.states r.width (new_colour r colours letters) (recoloured colours w) (IsWord-recoloured r.states colours h.word (some_letter rule) w) (length-map w (slice_index colours) ∙ long)
       ∙ ap (λ x. slice_index colours (local_map r x)) (recoloured_back letters colours old.back w word);
 }
 

@@ -1,16 +1,14 @@
 -- Last cells are the first cells of the mirrored rule, and a trimmed rule is twice without its first cells.
-use Rattle.std.proofs.Common.{◌≡◌, ℕ, ◌+◌, ◌-◌, ◌<◌, ◌≤◌, List, ◌++◌, length, take, drop, reverse, replicate, sym, ap, ap₂, subst, ◌∙◌, arith, length-drop, ℤ, pos, negsuc, ◌+ℤ◌, neg_ℤ}
-use Rattle.word_image.proofs.Common.{take-append-add, ints, length-reverse, length-replicate, reverse-reverse, drop-take, All-drop, LocalRule, IsRule, IsWord, local_map, mirrored, IsWord-reverse, local_map-mirrored, reverse-cut}
-use Rattle.tail_config.proofs.Common.{IsConfig, TailConfig, IsTail, cell, image_cell, mirror_of, config_of, cell-below, IsTail-mirror, cell-mirror, image_of-backwards}
+use Rattle.std.proofs.Common.{◌≡◌, ℕ, ◌+◌, ◌-◌, ◌<◌, ◌≤◌, List, ◌++◌, length, take, drop, reverse, replicate, sym, ap, subst, ◌∙◌, arith, length-drop, ℤ, pos, negsuc, ◌+ℤ◌, neg_ℤ}
+use Rattle.word_image.proofs.Common.{ints, length-reverse, reverse-reverse, drop-take, All-drop, LocalRule, IsRule, IsWord, mirrored, mirrored-mirrored, IsWord-reverse, local_map-mirrored, reverse-cut}
+use Rattle.tail_config.proofs.Common.{IsConfig, TailConfig, IsTail, cell, image_cell, mirror_of, cell-below, IsTail-mirror, cell-mirror, image_of-backwards}
 use Rattle.rule_algebra.specs.Algebra.{KeepsImages, Ignores, IsTrimmed}
 use Rattle.rule_algebra.specs.Tables.{IsRest, DropsFirsts}
-use Rattle.rule_algebra.proofs.laws.Trimming.{Ignores-firsts, firsts_ignored, Ignores-rest, behind_zeros, rest_letters, KeepsImages-rest}
+use Rattle.rule_algebra.proofs.laws.Trimming.{Ignores-over, Ignores-rest, behind_zeros, take-behind_zeros, KeepsImages-rest}
 
 -- mirrored twice, a configuration is itself
 mirror_of-mirror_of : (t : TailConfig) → mirror_of (mirror_of t) ≡ t
-mirror_of-mirror_of t =
-    ap₂ (λ (l m : List ℕ). config_of l m (reverse (reverse t.right))) (reverse-reverse t.left) (reverse-reverse t.middle)
-    ∙ ap (config_of t.left t.middle) (reverse-reverse t.right)
+mirror_of-mirror_of t = grind (arith, reverse-reverse)
 
 -- image cells that are kept are kept by the mirrored rules
 KeepsImages-mirrored : {r g : LocalRule} → IsRule r → IsRule g → g.states ≡ r.states → KeepsImages (mirrored r) g → KeepsImages r (mirrored g)
@@ -24,47 +22,34 @@ KeepsImages-mirrored {r} {g} rule other same keeps = λ t i tail.
     ∙ keeps (mirror_of t) j there
     ∙ image_of-backwards rule (cell-below tail) (cell-mirror tail) j i fore
 
--- ignored last cells are ignored first cells of the mirrored rule
-Ignores-mirrored : (r : LocalRule) (e : ℕ) → e ≤ r.width → Ignores r 0 e → Ignores (mirrored r) e 0
-Ignores-mirrored r e h ignored = Ignores-firsts (mirrored r) e (λ v w hv hw lv lw same.
-    let kept : take (r.width - e) (reverse v) ≡ take (r.width - e) (reverse w) = (reverse-cut e (r.width - e) v (omega arith)).0 ∙ ap reverse same ∙ sym (reverse-cut e (r.width - e) w (omega arith)).0 in
-    local_map-mirrored r v hv lv
-    ∙ ignored (reverse v) (reverse w) (IsWord-reverse r.states v hv) (IsWord-reverse r.states w hw) (length-reverse v ∙ lv) (length-reverse w ∙ lw) kept
-    ∙ sym (local_map-mirrored r w hw lw))
+-- a reversed window without last cells and first cells
+cut-reverse : (d e n : ℕ) (x : List ℕ) → d + e ≤ n → length x ≡ n
+    → drop d (take (n - e) (reverse x)) ≡ reverse (drop e (take (n - d) x))
+cut-reverse d e n x h long =
+    let whole : e + (n - d - e) ≡ n - d = omega arith in
+    ap (drop d) (reverse-cut e (n - e) x (omega arith)).0
+    ∙ (reverse-cut (n - d - e) d (drop e x) (omega (arith, length-drop e x))).1
+    ∙ ap reverse (sym (drop-take e (n - d - e) x) ∙ ap (λ j. drop e (take j x)) whole)
 
--- ignored first cells of the mirrored rule are ignored last cells of the rule
-mirrored-Ignores : (r : LocalRule) (e : ℕ) → e ≤ r.width → Ignores (mirrored r) e 0 → Ignores r 0 e
-mirrored-Ignores r e h ignored = λ v w hv hw lv lw same.
-    let turn : (x : List ℕ) → IsWord r.states x → length x ≡ r.width → local_map r x ≡ local_map (mirrored r) (reverse x) = λ x word long.
-    ap (local_map r) (sym (reverse-reverse x)) ∙ sym (local_map-mirrored r (reverse x) (IsWord-reverse r.states x word) (length-reverse x ∙ long)) in
-    let kept : drop e (reverse v) ≡ drop e (reverse w) = (reverse-cut (r.width - e) e v (omega arith)).1 ∙ ap reverse same ∙ sym (reverse-cut (r.width - e) e w (omega arith)).1 in
-    turn v hv lv
-    ∙ firsts_ignored (mirrored r) e ignored (reverse v) (reverse w) (IsWord-reverse r.states v hv) (IsWord-reverse r.states w hw) (length-reverse v ∙ lv) (length-reverse w ∙ lw) kept
-    ∙ sym (turn w hw lw)
+-- ignored last cells are ignored first cells of the mirrored rule
+Ignores-mirrored : (r : LocalRule) (d e : ℕ) → d + e ≤ r.width → Ignores r d e → Ignores (mirrored r) e d
+Ignores-mirrored r d e h =
+    Ignores-over r (mirrored r) d e e d reverse (λ v word long. (IsWord-reverse r.states v word, length-reverse v ∙ long, sym (local_map-mirrored r v word long)))
+    (λ v w lv lw same. cut-reverse d e r.width v h lv ∙ ap reverse same ∙ sym (cut-reverse d e r.width w h lw))
 
 -- last cells that the rest ignores are ignored
 lasts-rest : {r g : LocalRule} {n : ℕ} → IsRest r n g → (e : ℕ) → e ≤ g.width → Ignores g 0 e → Ignores r 0 e
-lasts-rest {r} {g} {n} rest e h ignored = λ v w hv hw lv lw same.
+lasts-rest {r} {g} {n} rest e h = Ignores-over g r 0 e 0 e (drop n)
+    (λ v word long. (subst (λ k. IsWord k (drop n v)) (sym rest.states) (All-drop (λ a. a < r.states) n v word), omega (arith, length-drop n v, rest.width), rest.letters v word long))
+    (λ v w lv lw same.
     let place : n + (g.width - e) ≡ r.width - e = omega (arith, rest.width) in
     let kept : (x : List ℕ) → take (g.width - e) (drop n x) ≡ drop n (take (r.width - e) x) = λ x. sym (drop-take n (g.width - e) x) ∙ ap (λ j. drop n (take j x)) place in
-    let letters : (x : List ℕ) → IsWord r.states x → IsWord g.states (drop n x) = λ x word. subst (λ k. IsWord k (drop n x)) (sym rest.states) (All-drop (λ a. a < r.states) n x word) in
-    let there : (x : List ℕ) → length x ≡ r.width → length (drop n x) ≡ g.width = λ x long. omega (arith, length-drop n x, rest.width) in
-    sym (rest.letters v hv lv)
-    ∙ ignored (drop n v) (drop n w) (letters v hv) (letters w hw) (there v lv) (there w lw) (kept v ∙ ap (drop n) same ∙ sym (kept w))
-    ∙ rest.letters w hw lw
+    kept v ∙ ap (drop n) same ∙ sym (kept w))
 
 -- last cells that a rule ignores are ignored by the rest
 rest-lasts : {r g : LocalRule} {n : ℕ} → IsRule r → IsRest r n g → (e : ℕ) → e ≤ g.width → Ignores r 0 e → Ignores g 0 e
-rest-lasts {r} {g} {n} rule rest e h ignored = λ v w hv hw lv lw same.
-    let zeros : List ℕ = replicate n 0 in
-    let fore : length zeros ≡ n = length-replicate n 0 in
-    let place : r.width - e ≡ length zeros + (g.width - e) = omega (arith, rest.width) in
-    let kept : (x : List ℕ) → take (r.width - e) (zeros ++ x) ≡ zeros ++ take (g.width - e) x = λ x. ap (λ j. take j (zeros ++ x)) place ∙ take-append-add zeros x (g.width - e) in
-    let x = behind_zeros rule rest v hv lv in
-    let y = behind_zeros rule rest w hw lw in
-    sym (rest_letters rule rest v hv lv)
-    ∙ ignored (zeros ++ v) (zeros ++ w) x.0 y.0 x.1 y.1 (kept v ∙ ap (λ u. zeros ++ u) same ∙ sym (kept w))
-    ∙ rest_letters rule rest w hw lw
+rest-lasts {r} {g} {n} rule rest e h = Ignores-over r g 0 e 0 e (λ v. replicate n 0 ++ v) (behind_zeros rule rest)
+    (λ v w lv lw same. take-behind_zeros rest e h v ∙ ap (λ u. replicate n 0 ++ u) same ∙ sym (take-behind_zeros rest e h w))
 
 -- without its first cells and then, mirrored, without its first cells again, a rule is trimmed
 pub IsTrimmed-rests : {r s g : LocalRule} → IsRule r → IsRule s → IsRule g → DropsFirsts r s → DropsFirsts (mirrored s) g → IsTrimmed r (mirrored g)
@@ -81,10 +66,10 @@ IsTrimmed-rests {r} {s} {g} rule middle last firsts lasts =
       two_left = omega (arith, one.width, two.width, last.shape.least_width);
       firsts_ignored = Ignores-rest one;
       most_firsts = firsts.most;
-      lasts_ignored = lasts-rest one e within (mirrored-Ignores s e within (Ignores-rest two));
+      lasts_ignored = lasts-rest one e within (subst (λ q. Ignores q 0 e) (mirrored-mirrored middle) (Ignores-mirrored (mirrored s) e 0 (omega arith) (Ignores-rest two)));
       most_lasts = λ f wide ignored.
           let short : f ≤ s.width = omega (arith, one.width) in
-          lasts.most f (omega (arith, one.width)) (Ignores-mirrored s f short (rest-lasts rule one f short ignored));
+          lasts.most f (omega (arith, one.width)) (Ignores-mirrored s 0 f (omega arith) (rest-lasts rule one f short ignored));
       states = two.states ∙ one.states;
       width = omega (arith, one.width, two.width);
       offset = omega (arith, ints, one.offset, two.offset, one.width, two.width, last.shape.least_width, middle.shape.least_width);

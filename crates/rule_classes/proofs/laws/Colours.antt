@@ -1,8 +1,8 @@
 -- Colours and their letters: every permutation has both, and words come back.
-use Rattle.std.proofs.Common.{◌≡◌, ℕ, ◌<◌, List, [], ◌∷◌, length, take, map, slice_index, refl, sym, ap, ap₂, ◌∙◌, subst, arith, length-take-le, get_or-take}
-use Rattle.word_image.proofs.Common.{range_with_len, length-map-range_with_len, get_or-map-range_with_len, All-map, All-from_get_or, All-head, All-tail, IsWord, all_taken, chosen_below}
+use Rattle.std.proofs.Common.{◌≡◌, ℕ, ◌<◌, List, length, take, map, slice_index, sym, ap, ◌∙◌, subst, arith, length-take-le, get_or-take}
+use Rattle.word_image.proofs.Common.{range_with_len, length-map-range_with_len, get_or-map-range_with_len, All-map, All-from_get_or, IsWord, all_taken, chosen_below}
 use Rattle.rule_algebra.specs.Algebra.{IsRecolouring, recoloured}
-use Rattle.rule_algebra.proofs.laws.Recolouring.{recoloured_back}
+use Rattle.rule_algebra.proofs.laws.Recolouring.{map-agree, recoloured_back}
 use Rattle.rule_classes.specs.Colourings.{AreInverse}
 
 -- letters and colours that undo each other do so the other way round
@@ -42,14 +42,14 @@ IsRecolouring-take {k} {colours} {letters} h =
 
 -- the first k colours say the same of words as all do
 pub recoloured-take : {k : ℕ} (colours w : List ℕ) → IsWord k w → recoloured (take k colours) w ≡ recoloured colours w
-recoloured-take {k} colours [] word = refl
-recoloured-take {k} colours (a ∷ w) word =
-    ap₂ (λ (b : ℕ) (x : List ℕ). b ∷ x) (get_or-take k colours a 0 (All-head (λ b. b < k) a w word)) (recoloured-take colours w (All-tail (λ b. b < k) a w word))
+recoloured-take {k} colours w word =
+    map-agree (slice_index (take k colours)) (slice_index colours) w (λ i l. get_or-take k colours _ 0 (word i 0 l))
 
 -- a recoloured word is a word
 pub IsWord-colours : {k : ℕ} {colours letters : List ℕ} → AreInverse k colours letters → (w : List ℕ) → IsWord k w → IsWord k (recoloured colours w)
 IsWord-colours {k} {colours} {letters} h w word = All-map (λ a. a < k) (slice_index colours) w (λ i d l. h.colour _ (word i d l))
 
 -- a recoloured word comes back
-pub recoloured-back : {k : ℕ} {colours letters : List ℕ} → AreInverse k colours letters → (w : List ℕ) → IsWord k w → recoloured colours (recoloured letters w) ≡ w
+pub recoloured-back : {k : ℕ} {colours letters : List ℕ} → AreInverse k colours letters → (w : List ℕ) → IsWord k w
+    → recoloured colours (recoloured letters w) ≡ w
 recoloured-back {colours = colours} {letters = letters} h w word = recoloured_back colours letters h.there w word

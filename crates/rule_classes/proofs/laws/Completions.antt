@@ -1,6 +1,6 @@
 -- The least of the rules that complete a colouring: by comparing tables, and by choosing one colour more.
-use Rattle.std.proofs.Common.{◌≡◌, ◌≢◌, ◌↔◌, inl, inr, ◌⊎◌, ℕ, ◌+◌, ◌-◌, ◌^◌, ◌<◌, ◌≤◌, slice_index, refl, sym, ap, ◌∙◌, subst, ⊎_elim, arith, ◌==◌, if◌then◌else◌, eq-eqb, ne_eqb}
-use Rattle.word_image.proofs.Common.{cases_lt, cases_eq, cond-true, cond-false, LocalRule, IsRule}
+use Rattle.std.proofs.Common.{◌≡◌, ◌≢◌, ◌↔◌, inl, inr, ◌⊎◌, ℕ, ◌+◌, ◌-◌, ◌^◌, ◌<◌, ◌≤◌, slice_index, refl, sym, ap, ◌∙◌, ⊎_elim, arith, ◌==◌, if◌then◌else◌}
+use Rattle.word_image.proofs.Common.{cases_lt, cases_eq, nat_tests, LocalRule, IsRule}
 use Rattle.rule_classes.specs.Colourings.{IsColouring, IsChosen, Completes, IsLeastAmong, IsLeastColouring, AgreeFrom, entry, recoloured_number}
 use Rattle.rule_classes.specs.declared.colourings.Colouring.{Colouring}
 use Rattle.rule_classes.proofs.laws.Colourings.{recoloured_number-less, recoloured_number-same}
@@ -21,21 +21,12 @@ AgreeFrom-less {r} {c} {best} {low} {high} {v} rule colouring known chosen same 
       (λ other. rest.same d completes u (omega arith) within) (cases_eq u v);
 }
 
--- where the tables agree on the greater windows, a lesser letter makes a lesser number
-pub lesser_number : {r : LocalRule} {c best : Colouring} {low high v : ℕ} → IsRule r → IsColouring r.states c → IsColouring r.states best → v < r.states ^ r.width
-    → AgreeFrom r c low high best (v + 1) → entry r c v < entry r best v → recoloured_number r c < recoloured_number r best
-lesser_number {r} {c} {best} {low} {high} {v} rule first second below rest less =
-    recoloured_number-less c best v rule first second below (λ u past within. rest.same c (Completes-itself first) u (omega arith) within) less
-
--- equal tables are of one number
-pub one_number : {r : LocalRule} {c best d : Colouring} {low high : ℕ} → AgreeFrom r c low high best 0 → Completes r.states c low high d → recoloured_number r best ≡ recoloured_number r d
-one_number {r} {c} {best} {d} {low} {high} all completes = sym (recoloured_number-same r d best (λ u l. all.same d completes u (omega arith) l))
-
 -- where each completed colouring has a greater letter than the best one, and the tables agree on the greater windows, nothing is less
-pub none_less : {r : LocalRule} {c best : Colouring} {low high v : ℕ} → IsRule r → IsColouring r.states best → v < r.states ^ r.width → AgreeFrom r c low high best (v + 1)
-    → ((d : Colouring) → Completes r.states c low high d → entry r best v < entry r d v) → (d : Colouring) → Completes r.states c low high d → recoloured_number r best ≤ recoloured_number r d
-none_less {r} {best = best} {v = v} rule colouring below rest less d completes =
-    omega (arith, recoloured_number-less best d v rule colouring completes.colouring below (λ u past within. sym (rest.same d completes u (omega arith) within)) (less d completes))
+pub none_less : {r : LocalRule} {c best : Colouring} {low high v : ℕ} → IsRule r → IsColouring r.states best → v < r.states ^ r.width
+    → AgreeFrom r c low high best (v + 1)
+    → ((d : Colouring) → Completes r.states c low high d → entry r best v < entry r d v) → (d : Colouring) → Completes r.states c low high d
+    → recoloured_number r best ≤ recoloured_number r d
+none_less {r} {best = best} {v = v} rule colouring below rest less d completes = grind (arith, recoloured_number-less)
 
 -- Choices
 
@@ -44,69 +35,52 @@ abbrev pub next_of : ℕ → ℕ → ℕ → ℕ
 next_of k low high = if low + high == k then high - 1 else low
 
 pub next_of-greatest : (k low high : ℕ) → low + high ≡ k → next_of k low high ≡ high - 1
-next_of-greatest k low high e = cond-true (low + high == k) (high - 1) low (eq-eqb (low + high) k e)
+next_of-greatest k low high e = grind (arith, nat_tests)
 
 pub next_of-least : (k low high : ℕ) → low + high ≢ k → next_of k low high ≡ low
-next_of-least k low high other = cond-false (low + high == k) (high - 1) low (ne_eqb (low + high) k other)
+next_of-least k low high other = grind (arith, nat_tests)
 
 -- the colour that is chosen next is one of the free ones
 pub next_of-within : (k low high : ℕ) → low < high → (low ≤ next_of k low high) × (next_of k low high < high)
-next_of-within k low high some =
-    ⊎_elim (λ e. let at = next_of-greatest k low high e in (omega (arith, at), omega (arith, at))) (λ other. let at = next_of-least k low high other in (omega (arith, at), omega (arith, at))) (cases_eq (low + high) k)
+next_of-within k low high some = grind (arith, nat_tests)
 
 -- the colour of the letter that another colouring has at a free colour is free
 free_place : {k : ℕ} {c d : Colouring} {low high : ℕ} (next : ℕ) → next < k → low ≤ next → next < high → IsColouring k c → Completes k c low high d
     → (q : ℕ) × (low ≤ q) × (q < high) × (slice_index d.letters next ≡ slice_index c.letters q)
 free_place {k} {c} {d} {low} {high} next l from to colouring completes =
     let x : ℕ = slice_index d.letters next in
-    let letter : x < k = completes.colouring.letter next l in
     let q : ℕ = slice_index c.colours x in
-    let colour : q < k = colouring.colour x letter in
-    let back : slice_index c.letters q ≡ x = colouring.back x letter in
-    let free : IsChosen low high q → ⊥ = λ chosen.
-    let same : q ≡ next = sym (completes.colouring.there q colour) ∙ ap (slice_index d.colours) (completes.letters q colour chosen ∙ back) ∙ completes.colouring.there next l in
-    ⊎_elim (λ less. omega arith) (λ past. omega arith) chosen in (
-      q,
-      ⊎_elim (λ less. absurd (free (inl less))) (λ h. h) (cases_lt q low),
-      ⊎_elim (λ h. h) (λ past. absurd (free (inr past))) (cases_lt q high),
-      sym back,
-    )
+    let letter = completes.colouring.letter next l in
+    let colour = colouring.colour x letter in
+    let back = colouring.back x letter in
+    let free : IsChosen low high q → q ≡ next = grind arith in
+    (q, grind arith, grind arith, sym back)
 
 -- where one colour is free at most, its letter is the one that is left
-pub Completes-last : {k : ℕ} {c d : Colouring} {low high : ℕ} → high ≤ low + 1 → high ≤ k → IsColouring k c → Completes k c low high d → Completes k c 0 0 d
+pub Completes-last : {k : ℕ} {c d : Colouring} {low high : ℕ} → high ≤ low + 1 → high ≤ k → IsColouring k c → Completes k c low high d
+    → Completes k c 0 0 d
 Completes-last {k} {c} {d} {low} {high} few most colouring completes = record {
   colouring = completes.colouring;
   mirrored = completes.mirrored;
-  letters = λ a l chosen.
-      ⊎_elim (λ less. completes.letters a l (inl less))
-      (λ from. ⊎_elim
-      (λ (free : a < high).
-      let found = free_place a l from free colouring completes in
-      let same : found.0 ≡ a = omega (arith, found.1, found.2) in
-      found.3 ∙ ap (slice_index c.letters) same)
-      (λ past. completes.letters a l (inr past)) (cases_lt a high))
-      (cases_lt a low);
+  letters = λ a l chosen. ⊎_elim (λ less. completes.letters a l (inl less))
+      (λ from. ⊎_elim (λ (free : a < high). let found = free_place a l from free colouring completes in grind arith) (λ past. completes.letters a l (inr past)) (cases_lt a high)) (cases_lt a low);
 }
 
 -- where no colour is free, a colouring and one that completes it make one rule
-pub recoloured_number-completes : {r : LocalRule} {c d : Colouring} → IsRule r → IsColouring r.states c → Completes r.states c 0 0 d → recoloured_number r c ≡ recoloured_number r d
+pub recoloured_number-completes : {r : LocalRule} {c d : Colouring} → IsRule r → IsColouring r.states c → Completes r.states c 0 0 d
+    → recoloured_number r c ≡ recoloured_number r d
 recoloured_number-completes {r} {c} {d} rule colouring completes = recoloured_number-same r c d (λ u l.
-    sym (entry-chosen rule colouring completes (record { below = l; near = inl refl }) (inr (omega arith))))
+    sym (entry-chosen rule colouring completes (record { below = l; chosen = λ i h. inr (omega arith) }) (inr (omega arith))))
 
 -- the least of some colourings is the least of all that have the same property
-IsLeastAmong-same : {r : LocalRule} {P Q : Colouring → Type 0} {before found : Colouring} → ((d : Colouring) → (P d ↔ Q d)) → IsLeastAmong r P before found → IsLeastAmong r Q before found
-IsLeastAmong-same {found = found} same h = record {
-  colouring = h.colouring;
-  one = elim h.one [ inl kept ↦ inl kept | inr new ↦ inr ((same found).0 new.0, new.1) ];
-  least = λ d other. h.least d ((same d).1 other);
-}
+IsLeastAmong-same : {r : LocalRule} {P Q : Colouring → Type 0} {before found : Colouring} → ((d : Colouring) → (P d ↔ Q d))
+    → IsLeastAmong r P before found → IsLeastAmong r Q before found
+IsLeastAmong-same {found = found} same h = grind arith
 
 -- the least of the completed colouring and the one before is the least where at most one colour is free
-pub IsLeastColouring-last : {r : LocalRule} {c before found : Colouring} {low high : ℕ} → high ≤ low + 1 → high ≤ r.states → IsColouring r.states c → IsLeastColouring r c 0 0 before found → IsLeastColouring r c low high before found
-IsLeastColouring-last few most colouring = IsLeastAmong-same (λ d. (
-  (λ completes. record { colouring = completes.colouring; mirrored = completes.mirrored; letters = λ a l chosen. completes.letters a l (inr (omega arith)) }),
-  Completes-last few most colouring,
-))
+pub IsLeastColouring-last : {r : LocalRule} {c before found : Colouring} {low high : ℕ} → high ≤ low + 1 → high ≤ r.states → IsColouring r.states c
+    → IsLeastColouring r c 0 0 before found → IsLeastColouring r c low high before found
+IsLeastColouring-last few most colouring = IsLeastAmong-same (λ d. (λ completes. grind arith, Completes-last few most colouring))
 
 -- the colouring with the letter of one colour at another, and with one colour less that is free
 pub record IsNext (k : ℕ) (c : Colouring) (low high next colour : ℕ) (e : Colouring) (from to : ℕ) : Type 0 where
@@ -121,25 +95,17 @@ pub record IsNext (k : ℕ) (c : Colouring) (low high next colour : ℕ) (e : Co
 -- the greatest free colour is chosen, or the least one
 pub IsNext-end : {k low high colour next from to : ℕ} {c e : Colouring} → high ≤ k → low < high → next_of k low high ≡ next
     → ((next + 1 ≡ high) × (from ≡ low) × (to ≡ next)) ⊎ ((next ≡ low) × (from ≡ low + 1) × (to ≡ high)) → e.mirrored ≡ c.mirrored
-    → slice_index e.letters next ≡ slice_index c.letters colour → ((a : ℕ) → a ≢ next → a ≢ colour → slice_index e.letters a ≡ slice_index c.letters a)
+    → slice_index e.letters next ≡ slice_index c.letters colour
+    → ((a : ℕ) → a ≢ next → a ≢ colour → slice_index e.letters a ≡ slice_index c.letters a)
     → IsNext k c low high (next_of k low high) colour e from to
-IsNext-end {k} {low} {high} {colour} {next} {from} {to} {c} {e} most some at end mirrored letter others =
-    subst (λ n. IsNext k c low high n colour e from to) (sym at) (record {
-      within = grind arith;
-      from_next = grind arith;
-      next_to = grind arith;
-      mirrored = mirrored;
-      letter = letter;
-      others = others;
-      chosen = λ a. (λ is. grind arith, λ is. grind arith);
-    })
+IsNext-end {k} {low} {high} {colour} {next} {from} {to} {c} {e} most some at end mirrored letter others = grind arith
 
 -- the next colouring is completed by what completes c and has c's letter of the chosen colour at the next one
-Completes-next : {k : ℕ} {c d e : Colouring} {low high next colour from to : ℕ} → IsNext k c low high next colour e from to → low ≤ colour → colour < high
+Completes-next : {k : ℕ} {c d e : Colouring} {low high next colour from to : ℕ} → IsNext k c low high next colour e from to → low ≤ colour
+    → colour < high
     → Completes k e from to d ↔ (Completes k c low high d × (slice_index d.letters next ≡ slice_index c.letters colour))
 Completes-next {k} {c} {d} {e} {low} {high} {next} {colour} {from} {to} h least most =
-    let old : (a : ℕ) → IsChosen low high a → slice_index e.letters a ≡ slice_index c.letters a = λ a chosen.
-    h.others a (λ at. ⊎_elim (λ less. omega (arith, h.from_next)) (λ past. omega (arith, h.next_to)) chosen) (λ at. ⊎_elim (λ less. omega arith) (λ past. omega arith) chosen) in (
+    let old : (a : ℕ) → IsChosen low high a → slice_index e.letters a ≡ slice_index c.letters a = λ a chosen. h.others a (λ at. grind arith) (λ at. grind arith) in (
       λ completes. (
         record { colouring = completes.colouring; mirrored = completes.mirrored ∙ h.mirrored; letters = λ a l chosen. completes.letters a l ((h.chosen a).1 (inr chosen)) ∙ old a chosen },
         completes.letters next h.within ((h.chosen next).1 (inl refl)) ∙ h.letter,
@@ -163,25 +129,21 @@ abbrev pub IsLeastOver : LocalRule → Colouring → ℕ → ℕ → ℕ → ℕ
 IsLeastOver r c low high next n = IsLeastAmong r (HasLetterBelow r.states c low high next n)
 
 -- what is less than the one before, or is the one before, is no greater
-pub no_greater : (r : LocalRule) {A : Type 0} {before found : Colouring} → (found ≡ before) ⊎ (A × (recoloured_number r found < recoloured_number r before)) → recoloured_number r found ≤ recoloured_number r before
+pub no_greater : (r : LocalRule) {A : Type 0} {before found : Colouring}
+    → (found ≡ before) ⊎ (A × (recoloured_number r found < recoloured_number r before)) → recoloured_number r found ≤ recoloured_number r before
 no_greater r {A} {before} {found} one = ⊎_elim (λ (same : found ≡ before). let number = ap (recoloured_number r) same in omega arith) (λ less. omega (arith, less.1)) one
 
 -- the least of some, and then the least of it and of others, is the least of all of them
-IsLeastAmong-then : {r : LocalRule} {P Q R : Colouring → Type 0} {before found new : Colouring} → ((d : Colouring) → (R d ↔ (P d ⊎ Q d))) → IsLeastAmong r P before found → IsLeastAmong r Q found new → IsLeastAmong r R before new
+IsLeastAmong-then : {r : LocalRule} {P Q R : Colouring → Type 0} {before found new : Colouring} → ((d : Colouring) → (R d ↔ (P d ⊎ Q d)))
+    → IsLeastAmong r P before found → IsLeastAmong r Q found new → IsLeastAmong r R before new
 IsLeastAmong-then {r} {R = R} {before = before} {found = found} {new = new} all h g =
     let less = no_greater r g.one in
     let old = no_greater r h.one in
-    record {
-      colouring = g.colouring;
-      one = elim g.one [
-        | inl same ↦ subst (λ x. (x ≡ before) ⊎ (R x × (recoloured_number r x < recoloured_number r before))) (sym same) (elim h.one [ inl kept ↦ inl kept | inr other ↦ inr ((all found).1 (inl other.0), other.1) ])
-        | inr other ↦ inr ((all new).1 (inr other.0), omega (arith, other.1))
-      ];
-      least = λ d has. elim ((all d).0 has) [ inl first ↦ omega (arith, h.least d first) | inr second ↦ g.least d second ];
-    }
+    grind arith
 
 -- one colour more is tried
-pub IsLeastOver-more : {r : LocalRule} {c e before found new : Colouring} {low high next n from to : ℕ} → IsNext r.states c low high next n e from to → low ≤ n → n < high
+pub IsLeastOver-more : {r : LocalRule} {c e before found new : Colouring} {low high next n from to : ℕ} → IsNext r.states c low high next n e from to
+    → low ≤ n → n < high
     → IsLeastOver r c low high next n before found → IsLeastColouring r e from to found new → IsLeastOver r c low high next (n + 1) before new
 IsLeastOver-more {c = c} {n = n} h least most = IsLeastAmong-then (λ d. (
   (λ (completes, (q, from, below, same)). ⊎_elim
@@ -195,6 +157,7 @@ IsLeastOver-more {c = c} {n = n} h least most = IsLeastAmong-then (λ d. (
 ))
 
 -- all colours are tried
-pub IsLeastColouring-over : {r : LocalRule} {c before found : Colouring} {low high : ℕ} (next : ℕ) → next < r.states → low ≤ next → next < high → IsColouring r.states c
+pub IsLeastColouring-over : {r : LocalRule} {c before found : Colouring} {low high : ℕ} (next : ℕ) → next < r.states → low ≤ next → next < high
+    → IsColouring r.states c
     → IsLeastOver r c low high next high before found → IsLeastColouring r c low high before found
 IsLeastColouring-over next l from to colouring = IsLeastAmong-same (λ d. (λ (completes, place). completes, λ completes. (completes, free_place next l from to colouring completes)))

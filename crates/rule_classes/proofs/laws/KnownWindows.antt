@@ -1,6 +1,7 @@
 -- Windows whose letters are among the greatest, and what a colouring that is completed gives on them.
-use Rattle.std.proofs.Common.{◌≡◌, inl, inr, ◌⊎◌, ℕ, zero, suc, ◌+◌, ◌-◌, ◌*◌, ◌^◌, ◌<◌, ◌≤◌, List, [], ◌∷◌, ◌++◌, length, get_or, slice_index, Bool, refl, sym, ap, ap₂, ◌∙◌, ⊎_elim, arith, pow-suc, suc-mul, mul_comm, ext_get_or}
-use Rattle.word_image.proofs.Common.{one-le-pow, cases_lt, div-mul-add, mod-mul-add, length-map, get_or-map, get_or_append_left, get_or_push, LocalRule, IsRule, word_of, local_map, node_count, length-word_of, IsWord-word_of, some_letter}
+use Rattle.std.proofs.Common.{◌≡◌, inl, inr, ◌⊎◌, ℕ, zero, suc, ◌+◌, ◌-◌, ◌*◌, ◌^◌, ◌<◌, ◌≤◌, List, [], ◌∷◌, ◌++◌, get_or, slice_index, Bool, sym, ap, ap₂, ◌∙◌, ⊎_elim, arith, pow-suc, suc-mul, mul_comm}
+use Rattle.word_image.proofs.Common.{one-le-pow, cases_lt, div-mul-add, mod-mul-add, get_or_append_left, get_or_push, LocalRule, IsRule, word_of, local_map, node_count, length-word_of, IsWord-word_of, some_letter}
+use Rattle.rule_algebra.proofs.laws.Recolouring.{map-agree}
 use Rattle.rule_classes.specs.Classes.{turned}
 use Rattle.rule_classes.specs.Colourings.{IsColouring, IsChosen, Completes, entry, old_word}
 use Rattle.rule_classes.specs.declared.colourings.Colouring.{Colouring}
@@ -22,57 +23,40 @@ greatest_letter k zero i some l = absurd (omega arith)
 greatest_letter k (suc n) zero some l = ap (λ w. get_or w 0 0) (greatest_word k n some)
 greatest_letter k (suc n) (suc i) some l = ap (λ w. get_or w (suc i) 0) (greatest_word k n some) ∙ greatest_letter k n i some (omega arith)
 
--- the window of a last letter from `high` on, behind letters that are all the greatest one
-pub record IsGreat (r : LocalRule) (high v : ℕ) : Type 0 where
-  pub node : ℕ
-  pub letter : ℕ
-  pub parts : v ≡ node * r.states + letter
-  pub last : node + 1 ≡ node_count r
-  pub within : letter < r.states
-  pub from : high ≤ letter
-
 -- a window without a free letter
 pub record IsKnown (r : LocalRule) (low high v : ℕ) : Type 0 where
   pub below : v < r.states ^ r.width
-  pub near : (low ≡ high) ⊎ IsGreat r high v
+  pub chosen : (i : ℕ) → i < r.width → IsChosen low high (get_or (word_of r.states r.width v) i 0)
 
--- which the windows are of the greatest node, with the last letters that are chosen
-pub IsKnown-at : {r : LocalRule} {low high : ℕ} → IsRule r → (u first a : ℕ) → u < node_count r → a < r.states → first ≤ a → (low ≡ high) ⊎ ((u + 1 ≡ node_count r) × (high ≤ first)) → IsKnown r low high (u * r.states + a)
-IsKnown-at rule u first a node letter from known = record {
-  below = window-below rule u a node letter;
-  near = elim known [ inl none ↦ inl none | inr last ↦ inr (record { node = u; letter = a; parts = refl; last = last.0; within = letter; from = omega (arith, last.1) }) ];
-}
-
--- the letters of a known window are chosen
-letters-chosen : {r : LocalRule} {low high v : ℕ} → IsRule r → IsKnown r low high v → (i : ℕ) → i < r.width → IsChosen low high (get_or (word_of r.states r.width v) i 0)
-letters-chosen {r} {low} {high} {v} rule known i l =
+-- where no letter is free, or behind letters that are all the greatest one, a chosen last letter makes a window without a free letter
+pub IsKnown-at : {r : LocalRule} {low high : ℕ} → IsRule r → (u first a : ℕ) → u < node_count r → a < r.states → first ≤ a
+    → (low ≡ high) ⊎ ((u + 1 ≡ node_count r) × (high ≤ first)) → IsKnown r low high (u * r.states + a)
+IsKnown-at {r} {low} {high} rule u first a node letter from known =
     let k : ℕ = r.states in
     let n : ℕ = r.width - 1 in
-    let wide : r.width ≡ suc n = omega arith in
-    ⊎_elim
-    (λ none. ⊎_elim (λ less. inl less) (λ from. inr (omega arith)) (cases_lt (get_or (word_of k r.width v) i 0) low))
-    (λ (g : IsGreat r high v).
-    let node : g.node ≡ k ^ n - 1 = omega (arith, g.last) in
-    let word : word_of k r.width v ≡ word_of k n (k ^ n - 1) ++ g.letter ∷ [] =
-    ap₂ (word_of k) wide g.parts ∙ word_of-snoc k n g.node g.letter (omega (arith, g.last)) g.within ∙ ap (λ u. word_of k n u ++ g.letter ∷ []) node in
-    let long : length (word_of k n (k ^ n - 1)) ≡ n = length-word_of k n (k ^ n - 1) in
-    inr (rw word (⊎_elim
-    (λ less. omega (arith, get_or_append_left (word_of k n (k ^ n - 1)) (g.letter ∷ []) 0 i (omega arith), greatest_letter k n i (some_letter rule) less, g.from, g.within))
-    (λ last. let at : i ≡ n = omega arith in omega (arith, ap (λ j. get_or (word_of k n (k ^ n - 1) ++ g.letter ∷ []) j 0) at, get_or_push (word_of k n (k ^ n - 1)) g.letter 0 n long, g.from))
-    (cases_lt i n))))
-    known.near
+    record {
+      below = window-below rule u a node letter;
+      chosen = λ i l. elim known [
+        | inl none ↦ elim (cases_lt (get_or (word_of k r.width (u * k + a)) i 0) low) [ inl less ↦ inl less | inr past ↦ inr (omega arith) ]
+        | inr last ↦
+            let wide : r.width ≡ suc n = omega arith in
+            let greatest : u ≡ k ^ n - 1 = omega (arith, last.0) in
+            let word : word_of k r.width (u * k + a) ≡ word_of k n (k ^ n - 1) ++ a ∷ [] = grind (arith, word_of-snoc) in
+            let long = length-word_of k n (k ^ n - 1) in
+            inr (rw word (elim (cases_lt i n) [
+              | inl less ↦ omega (arith, get_or_append_left (word_of k n (k ^ n - 1)) (a ∷ []) 0 i (omega arith), greatest_letter k n i (some_letter rule) less, last.1)
+              | inr end ↦
+                  let at : i ≡ n = omega arith in
+                  omega (arith, ap (λ j. get_or (word_of k n (k ^ n - 1) ++ a ∷ []) j 0) at, get_or_push (word_of k n (k ^ n - 1)) a 0 n long, last.1)
+            ]))
+      ];
+    }
 
 -- a colouring that completes another has the same old letters at a known window
-old_word-completes : {r : LocalRule} {c d : Colouring} {low high v : ℕ} → IsRule r → Completes r.states c low high d → IsKnown r low high v → old_word r d v ≡ old_word r c v
+old_word-completes : {r : LocalRule} {c d : Colouring} {low high v : ℕ} → IsRule r → Completes r.states c low high d → IsKnown r low high v
+    → old_word r d v ≡ old_word r c v
 old_word-completes {r} {c} {d} {low} {high} {v} rule completes known =
-    let w : List ℕ = word_of r.states r.width v in
-    let long : length w ≡ r.width = length-word_of r.states r.width v in
-    let first = length-map w (slice_index d.letters) in
-    ext_get_or 0 _ _ (first ∙ sym (length-map w (slice_index c.letters))) (λ i l.
-    let within : i < length w = omega (arith, first) in
-    get_or-map (slice_index d.letters) w i 0 0 within
-    ∙ completes.letters (get_or w i 0) (IsWord-word_of r.states r.width v known.below i 0 within) (letters-chosen rule known i (omega arith))
-    ∙ sym (get_or-map (slice_index c.letters) w i 0 0 within))
+    map-agree (slice_index d.letters) (slice_index c.letters) (word_of r.states r.width v) (λ i l. grind (arith, IsWord-word_of, length-word_of))
 
 -- a colouring that completes another is given the same letter there
 given-completes : {r : LocalRule} {c d : Colouring} {low high v : ℕ} → IsRule r → Completes r.states c low high d → IsKnown r low high v
@@ -81,7 +65,8 @@ given-completes {r} {c} {d} {low} {high} {v} rule completes known =
     ap₂ (λ (mirror : Bool) (w : List ℕ). local_map (turned r mirror) w) completes.mirrored (old_word-completes rule completes known)
 
 -- which has the same colour, if that is chosen
-pub entry-chosen : {r : LocalRule} {c d : Colouring} {low high v : ℕ} → IsRule r → IsColouring r.states c → Completes r.states c low high d → IsKnown r low high v
+pub entry-chosen : {r : LocalRule} {c d : Colouring} {low high v : ℕ} → IsRule r → IsColouring r.states c → Completes r.states c low high d
+    → IsKnown r low high v
     → IsChosen low high (entry r c v) → entry r d v ≡ entry r c v
 entry-chosen {r} {c} {d} {low} {high} {v} rule colouring completes known chosen =
     let below = turned-below rule c.mirrored (old_word r c v) in
@@ -90,7 +75,8 @@ entry-chosen {r} {c} {d} {low} {high} {v} rule colouring completes known chosen 
     ∙ completes.colouring.there (entry r c v) colour
 
 -- where no colour is chosen, the window has at least the least free colour
-pub entry-free : {r : LocalRule} {c d : Colouring} {low high v : ℕ} → IsRule r → IsColouring r.states c → Completes r.states c low high d → IsKnown r low high v
+pub entry-free : {r : LocalRule} {c d : Colouring} {low high v : ℕ} → IsRule r → IsColouring r.states c → Completes r.states c low high d
+    → IsKnown r low high v
     → low ≤ entry r c v → low ≤ entry r d v
 entry-free {r} {c} {d} {low} {high} {v} rule colouring completes known free =
     ⊎_elim

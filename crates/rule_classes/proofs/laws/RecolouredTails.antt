@@ -1,7 +1,8 @@
 -- Configurations in new colours, and what recolouring keeps of a rule, at any offset.
-use Rattle.std.proofs.Common.{◌≡◌, ℕ, ◌+◌, ◌-◌, ◌%◌, List, length, slice_index, ℤ, pos, negsuc, ◌+ℤ◌, ◌-ℤ◌, refl, sym, ap, ap₂, ◌∙◌, subst, ⊎_elim, arith, mod-lt}
-use Rattle.word_image.proofs.Common.{cases_lt, ints, length-map, get_or-map, LocalRule, IsRule, local_map}
-use Rattle.tail_config.proofs.Common.{TailConfig, IsTail, cell, cells, image_cell, Same, ShareImage, IsInjective, IsRightClosing, IsLeftClosing, run-by_letters, length-run, get_or-run, IsWord-run, cell-middle, cell-right, cell-below}
+use Rattle.std.proofs.Common.{◌≡◌, ℕ, List, slice_index, ℤ, pos, negsuc, ◌+ℤ◌, ◌-ℤ◌, sym, ap, ◌∙◌, arith, mod-lt}
+use Rattle.word_image.proofs.Common.{cases_lt, ints, length-map, get_or-map, LocalRule, IsRule}
+use Rattle.std.proofs.lemmas.Simd.{map-map}
+use Rattle.tail_config.proofs.Common.{TailConfig, IsTail, cell, cells, image_cell, Same, ShareImage, IsInjective, IsRightClosing, IsLeftClosing, length-run, IsWord-run, cell-middle, cell-right, cell-below}
 use Rattle.rule_algebra.specs.Algebra.{IsRecoloured, recoloured}
 use Rattle.rule_classes.specs.Colourings.{AreInverse}
 use Rattle.rule_classes.proofs.laws.Colours.{AreInverse-swap, IsWord-colours}
@@ -12,7 +13,8 @@ abbrev recoloured_tail : List ℕ → TailConfig → TailConfig
 recoloured_tail colours t = record { left = recoloured colours t.left; middle = recoloured colours t.middle; right = recoloured colours t.right }
 
 -- a configuration in the new colours is a configuration
-IsTail-recoloured : {k : ℕ} {colours letters : List ℕ} {t : TailConfig} → AreInverse k colours letters → IsTail k t → IsTail k (recoloured_tail colours t)
+IsTail-recoloured : {k : ℕ} {colours letters : List ℕ} {t : TailConfig} → AreInverse k colours letters → IsTail k t
+    → IsTail k (recoloured_tail colours t)
 IsTail-recoloured {k} {colours} {letters} {t} h tail = record {
   left_some = omega (arith, tail.left_some, length-map t.left (slice_index colours));
   right_some = omega (arith, tail.right_some, length-map t.right (slice_index colours));
@@ -22,45 +24,24 @@ IsTail-recoloured {k} {colours} {letters} {t} h tail = record {
 }
 
 -- the cells of a configuration in the new colours are its cells in the new colours
-cell-recoloured : {k : ℕ} {t : TailConfig} → (colours : List ℕ) → IsTail k t → (i : ℤ) → cell (recoloured_tail colours t) i ≡ slice_index colours (cell t i)
+cell-recoloured : {k : ℕ} {t : TailConfig} → (colours : List ℕ) → IsTail k t → (i : ℤ)
+    → cell (recoloured_tail colours t) i ≡ slice_index colours (cell t i)
 cell-recoloured {k} {t} colours tail (pos i) =
-    let new : TailConfig = recoloured_tail colours t in
-    let long : length new.middle ≡ length t.middle = length-map t.middle (slice_index colours) in
-    ⊎_elim
-    (λ l. cell-middle new i (omega arith) ∙ get_or-map (slice_index colours) t.middle i 0 0 l ∙ ap (slice_index colours) (sym (cell-middle t i l)))
-    (λ l.
-    let d : ℕ = i - length t.middle in
-    let there : i ≡ length new.middle + d = omega arith in
-    let here : length t.middle + d ≡ i = omega arith in
-    let period : length new.right ≡ length t.right = length-map t.right (slice_index colours) in
-    ap (λ j. cell new (pos j)) there ∙ cell-right new d ∙ ap (λ n. slice_index new.right (d % n)) period
-    ∙ get_or-map (slice_index colours) t.right (d % length t.right) 0 0 (mod-lt d tail.right_some)
-    ∙ ap (slice_index colours) (sym (cell-right t d) ∙ ap (λ j. cell t (pos j)) here))
-    (cases_lt i (length t.middle))
-cell-recoloured {k} {t} colours tail (negsuc i) =
-    let new : TailConfig = recoloured_tail colours t in
-    ap (λ n. slice_index new.left (n - 1 - i % n)) (length-map t.left (slice_index colours))
-    ∙ get_or-map (slice_index colours) t.left (length t.left - 1 - i % length t.left) 0 0 (omega arith)
+    grind (arith, length-map, cell-middle, get_or-map, cell-right, mod-lt, cases_lt)
+cell-recoloured {k} {t} colours tail (negsuc i) = grind (arith, length-map, get_or-map)
 
 -- the runs of cells of a recoloured configuration are the runs in the new colours
-cells-recoloured : {k : ℕ} {t : TailConfig} → (colours : List ℕ) → IsTail k t → (i : ℤ) (n : ℕ) → cells (recoloured_tail colours t) i n ≡ recoloured colours (cells t i n)
-cells-recoloured {k} {t} colours tail i n =
-    let w : List ℕ = recoloured colours (cells t i n) in
-    let old : length (cells t i n) ≡ n = length-run (cell t) i n in
-    let long : length w ≡ n = length-map (cells t i n) (slice_index colours) ∙ old in
-    ap (cells (recoloured_tail colours t) i) (sym long)
-    ∙ sym (run-by_letters (cell (recoloured_tail colours t)) i (length w) w refl (λ a l.
-    get_or-map (slice_index colours) (cells t i n) a 0 0 (omega arith)
-    ∙ ap (slice_index colours) (get_or-run (cell t) i (i +ℤ pos a) n a (omega arith) refl)
-    ∙ sym (cell-recoloured colours tail (i +ℤ pos a))))
+cells-recoloured : {k : ℕ} {t : TailConfig} → (colours : List ℕ) → IsTail k t → (i : ℤ) (n : ℕ)
+    → cells (recoloured_tail colours t) i n ≡ recoloured colours (cells t i n)
+cells-recoloured {k} {t} colours tail i n = simp (cell-recoloured colours tail, map-map)
 
 -- the image cells of the recoloured rule are the image cells in the new colours, as far apart as the offsets
-image_cell-recoloured : {r g : LocalRule} {colours : List ℕ} {t : TailConfig} → IsRecoloured colours r g → IsTail r.states t → (i j : ℤ) → i +ℤ g.offset ≡ j +ℤ r.offset
+image_cell-recoloured : {r g : LocalRule} {colours : List ℕ} {t : TailConfig} → IsRecoloured colours r g → IsTail r.states t → (i j : ℤ)
+    → i +ℤ g.offset ≡ j +ℤ r.offset
     → image_cell g (recoloured_tail colours t) i ≡ slice_index colours (image_cell r t j)
 image_cell-recoloured {r} {g} {colours} {t} new tail i j e =
-    ap₂ (λ (p : ℤ) (m : ℕ). local_map g (cells (recoloured_tail colours t) p m)) e new.width
-    ∙ ap (local_map g) (cells-recoloured colours tail (j +ℤ r.offset) r.width)
-    ∙ new.letters (cells t (j +ℤ r.offset) r.width) (IsWord-run (cell-below tail) (j +ℤ r.offset) r.width) (length-run (cell t) (j +ℤ r.offset) r.width)
+    rw (e, new.width, cells-recoloured colours tail (j +ℤ r.offset) r.width)
+    (new.letters (cells t (j +ℤ r.offset) r.width) (IsWord-run (cell-below tail) (j +ℤ r.offset) r.width) (length-run (cell t) (j +ℤ r.offset) r.width))
 
 -- two configurations that share an image share it in the new colours
 ShareImage-recoloured : {r g : LocalRule} {colours : List ℕ} {x y : TailConfig} → IsRecoloured colours r g → IsTail r.states x → IsTail r.states y
@@ -71,34 +52,36 @@ ShareImage-recoloured {r} {g} {colours} {x} {y} new hx hy share i =
     image_cell-recoloured new hx i j e ∙ ap (slice_index colours) (share j) ∙ sym (image_cell-recoloured new hy i j e)
 
 -- of two configurations of the recoloured rule that share an image: they are the same if they are in the old letters, in which they share an image too
-Same-recoloured : {r g : LocalRule} {colours letters : List ℕ} {x y : TailConfig} → IsRule r → AreInverse r.states colours letters → IsRecoloured colours r g
+Same-recoloured : {r g : LocalRule} {colours letters : List ℕ} {x y : TailConfig} → IsRule r → AreInverse r.states colours letters
+    → IsRecoloured colours r g
     → IsTail g.states x → IsTail g.states y → ShareImage g x y
     → (IsTail r.states (recoloured_tail letters x) → IsTail r.states (recoloured_tail letters y) → ShareImage r (recoloured_tail letters x) (recoloured_tail letters y)
     → Same (recoloured_tail letters x) (recoloured_tail letters y))
     → Same x y
 Same-recoloured {r} {g} {colours} {letters} {x} {y} rule inverse new hx hy share old i =
-    let first : IsTail r.states x = subst (λ k. IsTail k x) new.states hx in
-    let second : IsTail r.states y = subst (λ k. IsTail k y) new.states hy in
-    let colour = λ (a : ℕ). slice_index colours a in
-    let same : Same (recoloured_tail letters x) (recoloured_tail letters y) =
-    old (IsTail-recoloured (AreInverse-swap inverse) first) (IsTail-recoloured (AreInverse-swap inverse) second) (ShareImage-recoloured (IsRecoloured-back rule inverse new) hx hy share) in
-    sym (ap colour (cell-recoloured letters first i) ∙ inverse.there (cell x i) (cell-below first i))
-    ∙ ap colour (same i)
-    ∙ (ap colour (cell-recoloured letters second i) ∙ inverse.there (cell y i) (cell-below second i))
+    let first : IsTail r.states x = rw new.states at hx in
+    let second : IsTail r.states y = rw new.states at hy in
+    let same = old (IsTail-recoloured (AreInverse-swap inverse) first) (IsTail-recoloured (AreInverse-swap inverse) second) (ShareImage-recoloured (IsRecoloured-back rule inverse new) hx hy share) i in
+    sym (inverse.there (cell x i) (cell-below first i))
+    ∙ ap (slice_index colours) (sym (cell-recoloured letters first i) ∙ same ∙ cell-recoloured letters second i)
+    ∙ inverse.there (cell y i) (cell-below second i)
 
 -- a recoloured rule is injective if the rule is
-pub IsInjective-recoloured : {r g : LocalRule} {colours letters : List ℕ} → IsRule r → AreInverse r.states colours letters → IsRecoloured colours r g → IsInjective r → IsInjective g
-IsInjective-recoloured {r} {g} {colours} {letters} rule inverse new injective x y hx hy share =
+pub IsInjective-recoloured : (r g : LocalRule) (colours letters : List ℕ) → IsRule r → AreInverse r.states colours letters
+    → IsRecoloured colours r g → IsInjective r → IsInjective g
+IsInjective-recoloured r g colours letters rule inverse new injective x y hx hy share =
     Same-recoloured rule inverse new hx hy share (injective (recoloured_tail letters x) (recoloured_tail letters y))
 
 -- a recoloured rule is right-closing if the rule is
-pub IsRightClosing-recoloured : {r g : LocalRule} {colours letters : List ℕ} → IsRule r → AreInverse r.states colours letters → IsRecoloured colours r g → IsRightClosing r → IsRightClosing g
-IsRightClosing-recoloured {r} {g} {colours} {letters} rule inverse new closing x y hx hy share agree =
+pub IsRightClosing-recoloured : (r g : LocalRule) (colours letters : List ℕ) → IsRule r → AreInverse r.states colours letters
+    → IsRecoloured colours r g → IsRightClosing r → IsRightClosing g
+IsRightClosing-recoloured r g colours letters rule inverse new closing x y hx hy share agree =
     Same-recoloured rule inverse new hx hy share
     (λ tx ty s. closing (recoloured_tail letters x) (recoloured_tail letters y) tx ty s (agree.0, λ i l. cell-recoloured letters hx i ∙ ap (slice_index letters) (agree.1 i l) ∙ sym (cell-recoloured letters hy i)))
 
 -- a recoloured rule is left-closing if the rule is
-pub IsLeftClosing-recoloured : {r g : LocalRule} {colours letters : List ℕ} → IsRule r → AreInverse r.states colours letters → IsRecoloured colours r g → IsLeftClosing r → IsLeftClosing g
-IsLeftClosing-recoloured {r} {g} {colours} {letters} rule inverse new closing x y hx hy share agree =
+pub IsLeftClosing-recoloured : (r g : LocalRule) (colours letters : List ℕ) → IsRule r → AreInverse r.states colours letters
+    → IsRecoloured colours r g → IsLeftClosing r → IsLeftClosing g
+IsLeftClosing-recoloured r g colours letters rule inverse new closing x y hx hy share agree =
     Same-recoloured rule inverse new hx hy share
     (λ tx ty s. closing (recoloured_tail letters x) (recoloured_tail letters y) tx ty s (agree.0, λ i l. cell-recoloured letters hx i ∙ ap (slice_index letters) (agree.1 i l) ∙ sym (cell-recoloured letters hy i)))

@@ -1,8 +1,7 @@
 -- No property depends on where the windows of a rule lie.
-use Rattle.std.proofs.Common.{◌≡◌, ℤ, ◌+ℤ◌, ◌-ℤ◌, sym, ap, ◌∙◌, arith, ◌↔◌}
-use Rattle.word_image.proofs.Common.{ints, LocalRule, IsRule, local_map}
-use Rattle.word_image.specs.Rings.{IsFlux}
-use Rattle.tail_config.proofs.Common.{TailConfig, cells, image_cell, ShareImage}
+use Rattle.std.proofs.Common.{◌≡◌, ℤ, ◌+ℤ◌, ◌-ℤ◌, sym, ap, ◌∙◌, arith, ◌↔◌, rules}
+use Rattle.word_image.proofs.Common.{ints, LocalRule, IsRule, IsFlux}
+use Rattle.tail_config.proofs.Common.{TailConfig, image_cell, ShareImage}
 use Rattle.ring_laws.proofs.Fluxes.{IsConserving-flux}
 use Rattle.ring_laws.proofs.FluxWalks.{walk_gains}
 use Rattle.ring_laws.proofs.LossyRings.{IsConserving-walk_gains}
@@ -13,9 +12,7 @@ use Rattle.rule_lists.specs.declared.properties.Property.TheVariants.{Surjective
 
 -- an image cell is the one that the rule has as far away as the offset moves
 image_cell-moved : (r : LocalRule) (o i : ℤ) (t : TailConfig) → image_cell (at_offset r o) t i ≡ image_cell r t (i +ℤ o -ℤ r.offset)
-image_cell-moved r o i t =
-    let place : i +ℤ o ≡ i +ℤ o -ℤ r.offset +ℤ r.offset = omega (arith, ints) in
-    ap (λ j. local_map r (cells t j r.width)) place
+image_cell-moved r o i t = search rules
 
 -- configurations that share an image at another offset share one
 ShareImage-back : (r : LocalRule) (o : ℤ) (x y : TailConfig) → ShareImage (at_offset r o) x y → ShareImage r x y

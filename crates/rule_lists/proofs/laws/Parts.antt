@@ -1,27 +1,24 @@
 -- The parts of a list, by the letter at one more window.
-use Rattle.std.proofs.Common.{◌≡◌, ◌≢◌, ℕ, ◌^◌, ◌<◌, ◌≤◌, ◌↔◌, List, length, slice_index, set, refl, sym, ap, ◌∙◌, arith}
+use Rattle.std.proofs.Common.{◌≡◌, ℕ, ◌^◌, ◌<◌, ◌≤◌, ◌↔◌, List, length, slice_index, set, refl, sym, ◌∙◌, arith, get_or-set_same, get_or-set_other}
 use Rattle.word_image.proofs.Common.{at-set, LocalRule}
-use Rattle.std.proofs.lemmas.List.{get_or-set_same, get_or-set_other}
 use Rattle.rule_lists.specs.Tables.{HasLetters}
 use Rattle.rule_lists.specs.Listed.{IsListed}
 use Rattle.rule_lists.specs.declared.properties.Property.{Property}
 use Rattle.rule_lists.proofs.laws.Going.{IsTable-shape}
 
 -- a table with a letter at one more window has this letter there
-letter-set : (k size : ℕ) (begin t : List ℕ) (w a : ℕ) → w < size → w < length begin → a < k → HasLetters k size (set begin w a) t → slice_index t w ≡ a
-letter-set k size begin t w a inside room letter has =
-    let at : slice_index (set begin w a) w ≡ a = get_or-set_same begin w a 0 room in
-    has w inside (omega (arith, at, letter)) ∙ at
+letter-set : (k size : ℕ) (begin t : List ℕ) (w a : ℕ) → w < size → w < length begin → a < k → HasLetters k size (set begin w a) t
+    → slice_index t w ≡ a
+letter-set k size begin t w a inside room letter has = grind (arith, get_or-set_same)
 
 -- a table with the letters that are fixed at one open window and elsewhere has the letters fixed elsewhere
-HasLetters-unset : (k size : ℕ) (begin t : List ℕ) (w a : ℕ) → k ≤ slice_index begin w → HasLetters k size (set begin w a) t → HasLetters k size begin t
-HasLetters-unset k size begin t w a open_ has v l fixed =
-    let other : v ≢ w = λ e. let same : slice_index begin v ≡ slice_index begin w = ap (slice_index begin) e in absurd (omega (arith, fixed, open_, same)) in
-    let same : slice_index (set begin w a) v ≡ slice_index begin v = get_or-set_other begin w v a 0 other in
-    has v l (omega (arith, same, fixed)) ∙ same
+HasLetters-unset : (k size : ℕ) (begin t : List ℕ) (w a : ℕ) → k ≤ slice_index begin w → HasLetters k size (set begin w a) t
+    → HasLetters k size begin t
+HasLetters-unset k size begin t w a open_ has v l fixed = grind (arith, get_or-set_other)
 
 -- a table has those letters and the one that it has at the window
-HasLetters-set : (k size : ℕ) (begin t : List ℕ) (w : ℕ) → w < length begin → HasLetters k size begin t → HasLetters k size (set begin w (slice_index t w)) t
+HasLetters-set : (k size : ℕ) (begin t : List ℕ) (w : ℕ) → w < length begin → HasLetters k size begin t
+    → HasLetters k size (set begin w (slice_index t w)) t
 HasLetters-set k size begin t w room has v l = at-set (λ u a. a < k → slice_index t u ≡ a) begin w 0 (slice_index t w) room v (λ _. has v l) (λ _. refl)
 
 -- a rule is listed exactly where it is in a part

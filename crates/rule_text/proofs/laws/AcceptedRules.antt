@@ -1,8 +1,8 @@
 -- The rule of a text is an accepted rule, which a checker needs of a text that it was handed.
 use Rattle.std.proofs.Common.{◌≡◌, ℕ, ◌^◌, ◌<◌, List, Option, Some, None, refl, sym, subst, arith, option_map}
 use Rattle.std.specs.Option.{option_or}
-use Rattle.word_image.proofs.Common.{none-some, nat_tests, LocalRule, IsShape, IsRule, shape_fault, IsShape-shape_fault, IsWord-table_fault}
-use Rattle.rule_text.specs.RuleTexts.{Said, Entries, Table, Number, IsRuleText, rule_of, table_of, fault_of, entries_fault, number_fault, as_text_fault}
+use Rattle.word_image.proofs.Common.{none-some, nat_tests, LocalRule, IsShape, IsRule, IsShape-shape_fault, IsWord-table_fault}
+use Rattle.rule_text.specs.RuleTexts.{Said, Entries, Table, Number, IsRuleText, rule_of, table_of, fault_of, entries_fault, number_fault}
 use Rattle.rule_text.proofs.laws.Numbers.{IsRule-number}
 
 -- where neither of two options is there, both are missing
@@ -22,17 +22,12 @@ number-below k m n none = grind (arith, nat_tests)
 -- entries with no fault make a rule of an accepted shape
 IsRule-entries : (s : Said) (e : Entries) → IsShape s.states s.width s.offset → entries_fault s e ≡ None
     → IsRule (record { states = s.states; width = s.width; offset = s.offset; table = table_of s e })
-IsRule-entries s (Table letters) shape none =
-    let fits = IsWord-table_fault s.states s.width letters (none_map (as_text_fault s.place) _ none) in
-    record { shape = shape; entries = fits.0; letters = fits.1 }
-IsRule-entries s (Number n) shape none =
-    IsRule-number s.states s.width s.offset s.offset (s.states ^ s.width) n _ shape refl refl (number-below s.states s.width n none) refl
+IsRule-entries s (Table letters) shape none = grind (arith, IsWord-table_fault, none_map)
+IsRule-entries s (Number n) shape none = grind (arith, IsRule-number, number-below)
 
 -- what is said with no fault is a rule
 pub IsRule-said : (s : Said) → fault_of s ≡ None → IsRule (rule_of s)
-IsRule-said s none =
-    let parts = none_or (option_map (as_text_fault s.place) (shape_fault s.states s.width s.offset)) (entries_fault s s.entries) none in
-    IsRule-entries s s.entries (IsShape-shape_fault s.states s.width s.offset (none_map (as_text_fault s.place) _ parts.0)) parts.1
+IsRule-said s none = grind (arith, none_or, IsRule-entries, IsShape-shape_fault, none_map)
 
 -- a text of a rule is one of an accepted rule
 pub IsRule-text : {text : List ℕ} {r : LocalRule} → IsRuleText text r → IsRule r

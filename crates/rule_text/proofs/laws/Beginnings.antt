@@ -21,7 +21,8 @@ is_form-as_text_fault : (place : ℕ) (f : RuleFault) → is_form (Some (as_text
 is_form-as_text_fault place limit.States = refl
 is_form-as_text_fault place _ = refl
 
-is_form-limit : (place : ℕ) (o : Option RuleFault) (e : Option TextFault) → is_form e ≡ false → is_form (option_or (option_map (as_text_fault place) o) e) ≡ false
+is_form-limit : (place : ℕ) (o : Option RuleFault) (e : Option TextFault) → is_form e ≡ false
+    → is_form (option_or (option_map (as_text_fault place) o) e) ≡ false
 is_form-limit place None e h = h
 is_form-limit place (Some f) e h = is_form-as_text_fault place f
 
@@ -48,18 +49,21 @@ IsBeginningFault-form (NoForm p h) form = IsBeginningFault.NoForm p h
 IsBeginningFault-form (Refused s f says is) (p, e) = absurd (false≢true (sym (is_form-said s) ∙ ap is_form is ∙ ap (λ x. is_form (Some x)) e))
 
 -- the first fault of a shape and a table, as it stands in a text
-pub fault_in_text : (place : ℕ) (a b : Option RuleFault) → option_or (option_map (as_text_fault place) a) (option_map (as_text_fault place) b) ≡ option_map (as_text_fault place) (option_or a b)
+pub fault_in_text : (place : ℕ) (a b : Option RuleFault)
+    → option_or (option_map (as_text_fault place) a) (option_map (as_text_fault place) b) ≡ option_map (as_text_fault place) (option_or a b)
 fault_in_text place None b = refl
 fault_in_text place (Some f) b = refl
 
 -- letters with zeros behind them, cut off behind the last window
-pub take-filled : (letters : List ℕ) (n size : ℕ) → n ≡ length letters → n ≤ size → size ≤ 256 → take size (letters ++ replicate (256 - n) 0) ≡ filled size letters
+pub take-filled : (letters : List ℕ) (n size : ℕ) → n ≡ length letters → n ≤ size → size ≤ 256
+    → take size (letters ++ replicate (256 - n) 0) ≡ filled size letters
 take-filled letters n size long few most =
     ap (λ s. take s (letters ++ replicate (256 - n) 0)) (let split : size ≡ length letters + (size - length letters) = omega arith in split)
     ∙ take-append-add letters (replicate (256 - n) 0) (size - length letters)
     ∙ ap (λ (xs : List ℕ). letters ++ xs) (take-replicate (size - length letters) (256 - n) 0 (omega arith))
 
 -- the answer to what the text says is the beginning, or its fault
-pub IsBeginning-of : {text : List ℕ} {s : Said} → Says text s → (a : Result Beginning TextFault) → IsBeginningOf s a → IfOk a (λ b. IsBeginning text b) × IfErr a (λ f. IsBeginningFault text f)
+pub IsBeginning-of : {text : List ℕ} {s : Said} → Says text s → (a : Result Beginning TextFault) → IsBeginningOf s a
+    → IfOk a (λ b. IsBeginning text b) × IfErr a (λ f. IsBeginningFault text f)
 IsBeginning-of {s = s} says (Ok b) answer = (record { said = s; says = says; accepted = answer.0; rule = answer.1; given = answer.2 }, tt)
 IsBeginning-of {s = s} says (Err f) answer = (tt, IsBeginningFault.Refused s f says answer)

@@ -1,5 +1,5 @@
 -- The texts of the grammar by their parts: each is a row of digits, or a head and its entries.
-use Rattle.std.proofs.Common.{◌≡◌, ◌≢◌, ℕ, ◌+◌, ◌⊎◌, inl, inr, Bool, true, false, List, ◌++◌, length, take, drop, get_or, get_or-drop, take-append-drop, refl, sym, ap, ap₂, subst, ◌∙◌, arith, append_assoc, length-append, All, ℤ, codes}
+use Rattle.std.proofs.Common.{◌≡◌, ◌≢◌, ℕ, ◌+◌, ◌⊎◌, inl, inr, Bool, true, false, List, ◌++◌, length, take, drop, get_or, get_or-drop, take-append-drop, refl, sym, ap, subst, ◌∙◌, arith, append_assoc, length-append, All, ℤ, codes}
 use Rattle.word_image.proofs.Common.{cases_lt, get_or_past, get_or-append_seam}
 use Rattle.rule_text.specs.declared.head.Kind.{Kind}
 use Rattle.rule_text.specs.declared.head.Kind.TheVariants as kind
@@ -12,10 +12,7 @@ use Rattle.rule_text.proofs.laws.Parts.{Field, AfterStates, saying, same_signed,
 pub Says-same : {x text : List ℕ} {a b p states width place : ℕ} {z : ℤ} {entries : Entries} → Says x (saying a b z entries p)
     → x ≡ text → states ≡ a → width ≡ b → p ≡ place → Says text (saying states width z entries place)
 Says-same {x = x} {text = text} {a = a} {b = b} {p = p} {states = states} {width = width} {place = place} {z = z} {entries = entries} says whole states_is width_is long =
-    let first = subst (λ (j : ℕ). Says x (saying j b z entries p)) (sym states_is) says in
-    let second = subst (λ (j : ℕ). Says x (saying states j z entries p)) (sym width_is) first in
-    let third = subst (λ (j : ℕ). Says x (saying states width z entries j)) long second in
-    subst (λ (y : List ℕ). Says y (saying states width z entries place)) whole third
+    grind (arith, saying)
 
 -- an offset is a sign, or none, and digits
 record IsOffsetText (o : List ℕ) (z : ℤ) : Type 0 where
@@ -38,14 +35,7 @@ IsOffset-signed false digits d = Plain digits d
 -- an offset's text after its sign, or after none where it doesn't begin with one, is digits
 IsOffset-after : (minus : Bool) (digits : List ℕ) (z : ℤ) → (minus ≡ false → get_or digits 0 0 ≢ 45) → IsOffset (sign minus ++ digits) z
     → IsDecimal 1 2 digits × (signed minus (decimal_value digits) ≡ z)
-IsOffset-after minus digits z plain offset =
-    let p = IsOffsetText-IsOffset offset in
-    elim (same_signed minus p.minus digits p.digits p.text) [
-      | inl same ↦ (subst (IsDecimal 1 2) (sym same.1) p.decimal, ap₂ (λ (b : Bool) (x : List ℕ). signed b (decimal_value x)) same.0 same.1 ∙ sym p.value)
-      | inr (inl other) ↦
-          absurd (omega (arith, (p.decimal.digits 0 0 (omega (arith, p.decimal.least))).0, other.1))
-      | inr (inr other) ↦ absurd (plain other.0 other.1)
-    ]
+IsOffset-after minus digits z plain offset = grind (arith, IsOffsetText-IsOffset, same_signed)
 
 -- a text by its sign, or none, and what comes after it
 by_sign : (text : List ℕ) (start : ℕ) (minus : Bool) → take start text ≡ sign minus → text ≡ sign minus ++ drop start text
@@ -58,7 +48,8 @@ IsOffset-at text start minus over decimal =
     subst (λ x. IsOffset x (signed minus (decimal_value (drop start text)))) (sym (by_sign text start minus over)) (IsOffset-signed minus (drop start text) decimal)
 
 -- an offset is digits after a sign or none, and nothing else
-pub IsOffset-only : (text : List ℕ) (start : ℕ) (minus : Bool) (z : ℤ) → take start text ≡ sign minus → (minus ≡ false → get_or text start 0 ≢ 45) → IsOffset text z
+pub IsOffset-only : (text : List ℕ) (start : ℕ) (minus : Bool) (z : ℤ) → take start text ≡ sign minus → (minus ≡ false → get_or text start 0 ≢ 45)
+    → IsOffset text z
     → IsDecimal 1 2 (drop start text) × (signed minus (decimal_value (drop start text)) ≡ z)
 IsOffset-only text start minus z over plain offset =
     let here : start + 0 ≡ start = omega arith in
@@ -66,11 +57,13 @@ IsOffset-only text start minus z over plain offset =
     (subst (λ x. IsOffset x z) (by_sign text start minus over) offset)
 
 -- the parts of a head with its entries are the head and the entries after it
-head-parts : (k m o kt y a b c d : List ℕ) → a ≡ k ++ codes ":" → b ≡ m ++ codes ":" → c ≡ o ++ codes ":" → d ≡ kt → head k m o kt ++ y ≡ a ++ (b ++ (c ++ (d ++ y)))
+head-parts : (k m o kt y a b c d : List ℕ) → a ≡ k ++ codes ":" → b ≡ m ++ codes ":" → c ≡ o ++ codes ":" → d ≡ kt
+    → head k m o kt ++ y ≡ a ++ (b ++ (c ++ (d ++ y)))
 head-parts k m o kt y a b c d states width offset kd = rw (states, width, offset, kd) (simp append_assoc)
 
 -- the place where the entries begin, by the parts, is where the head ends
-head-place : (k m o kt a b c d : List ℕ) → a ≡ k ++ codes ":" → b ≡ m ++ codes ":" → c ≡ o ++ codes ":" → d ≡ kt → length (head k m o kt) ≡ 0 + length a + length b + length c + length d
+head-place : (k m o kt a b c d : List ℕ) → a ≡ k ++ codes ":" → b ≡ m ++ codes ":" → c ≡ o ++ codes ":" → d ≡ kt
+    → length (head k m o kt) ≡ 0 + length a + length b + length c + length d
 head-place k m o kt a b c d states width offset kd = rw (states, width, offset, kd) (simp length-append (omega arith))
 
 -- what a head says with entries of its kind
@@ -93,52 +86,23 @@ Says-parts text said k =
     (head-place k.is.digits m.is.digits offset (kind_text e.meaning) k.token m.token o.token e.token k.is.written m.is.written o.is.written e.is))
 
 -- a text with a head has the parts of the head
-Field-head : (k m o y : List ℕ) (z : ℤ) (kd : Kind) (place : ℕ) → IsDecimal 1 2 k → IsDecimal 1 2 m → IsOffset o z → IsEntries kd y → place ≡ length (head k m o (kind_text kd))
+Field-head : (k m o y : List ℕ) (z : ℤ) (kd : Kind) (place : ℕ) → IsDecimal 1 2 k → IsDecimal 1 2 m → IsOffset o z → IsEntries kd y
+    → place ≡ length (head k m o (kind_text kd))
     → Field AfterStates 0 (head k m o (kind_text kd) ++ y) (saying (decimal_value k) (decimal_value m) z (entries_of kd y) place)
 Field-head k m o y z kd place states width offset entries long =
     let p = IsOffsetText-IsOffset offset in
-    record {
-      token = k ++ codes ":";
-      rest = (m ++ codes ":") ++ ((o ++ codes ":") ++ (kind_text kd ++ y));
-      meaning = decimal_value k;
-      is = record { digits = k; decimal = states; written = refl; value = refl };
-      parts = head-parts k m o (kind_text kd) y _ _ _ _ refl refl refl refl;
-      after = record {
-        token = m ++ codes ":";
-        rest = (o ++ codes ":") ++ (kind_text kd ++ y);
-        meaning = decimal_value m;
-        is = record { digits = m; decimal = width; written = refl; value = refl };
-        parts = refl;
-        after = record {
-          token = o ++ codes ":";
-          rest = kind_text kd ++ y;
-          meaning = z;
-          is = record { minus = p.minus; digits = p.digits; decimal = p.decimal; written = ap (λ x. x ++ codes ":") p.text; value = p.value };
-          parts = refl;
-          after = record {
-            token = kind_text kd;
-            rest = y;
-            meaning = kd;
-            is = refl;
-            parts = refl;
-            after = (entries, ap (saying (decimal_value k) (decimal_value m) z (entries_of kd y)) (long ∙ head-place k m o (kind_text kd) _ _ _ _ refl refl refl refl));
-          };
-        };
-      };
-    }
+    grind (arith, codes, head-parts, saying, head-place)
 
 -- each text of the grammar is a row of digits, or has a head
-pub parts-Says : {text : List ℕ} {said : Said} → Says text said → (IsDecimal 1 39 text × (said ≡ bare (decimal_value text))) ⊎ Field AfterStates 0 text said
+pub parts-Says : {text : List ℕ} {said : Said} → Says text said
+    → (IsDecimal 1 39 text × (said ≡ bare (decimal_value text))) ⊎ Field AfterStates 0 text said
 parts-Says (Bare digits d) = inl (d, refl)
 parts-Says (InTable k m o digits z states width offset all) = inr (Field-head k m o digits z kind.Table _ states width offset all refl)
 parts-Says (InNumber k m o digits z states width offset all) = inr (Field-head k m o digits z kind.Number _ states width offset all refl)
 
 -- no digit is a colon
 pub no_colon : (x : List ℕ) → All IsDigit x → (i : ℕ) → get_or x i 0 ≢ colon
-no_colon x digits i at = elim (cases_lt i (length x)) [
-  | inl within ↦ let digit : IsDigit (get_or x i 0) = digits i 0 within in omega (arith, digit.1)
-  | inr past ↦ let none : get_or x i 0 ≡ 0 = get_or_past x i 0 past in omega arith
-]
+no_colon x digits i at = grind (arith, cases_lt, get_or_past)
 
 -- a text with a head is no row of digits: it has a colon after one or two
 pub no_digits : {text : List ℕ} {said : Said} → All IsDigit text → Field AfterStates 0 text said → ⊥

@@ -1,6 +1,6 @@
 -- From the parts of a text to the whole: what its beginning leads to, and where it goes wrong.
 use Rattle.std.proofs.Common.{◌≡◌, ℕ, ◌+◌, ◌≤◌, inl, inr, List, [], ◌∷◌, ◌++◌, length, take, drop, get_or, None, refl, sym, ap, subst, ◌∙◌, arith, append_assoc, take-append-drop, length-append, length-take-le, get_or-take, get_or-drop, All, ℤ, codes, unwrap_or, slice_get, get_or-append-add, take-take}
-use Rattle.word_image.proofs.Common.{cases_eq, cases_lt, none-some, slice_get-get_or, unwrap_or-slice_get, get_or_past, get_or_append_left, take-append-le, All-append, All-nil, get_or-append_seam, IsHexDigit, Begins, IsFormFault, IsFormFault-next, IsFormFault-rest}
+use Rattle.word_image.proofs.Common.{cases_eq, cases_lt, none-some, slice_get-get_or, unwrap_or-slice_get, get_or_past, get_or_append_left, take-append-le, All-append, All-nil, get_or-append_seam, IsHexDigit, IsFormFault, IsFormFault-next, IsFormFault-rest}
 use Rattle.rule_text.specs.declared.text_fault.TextFault.{TextFault}
 use Rattle.rule_text.specs.declared.text_fault.TextFault.TheVariants as fault
 use Rattle.rule_text.specs.declared.head.Kind.{Kind}
@@ -15,19 +15,14 @@ pub record TextLeads (text : List ℕ) (from : ℕ) (After : ℕ → List ℕ �
   pub only : (y : List ℕ) (s : Said) → Says (take from text ++ y) s → After (length (take from text)) y s
 
 -- a token more of a text was gone over
-TextLeads-part : {text : List ℕ} {from to : ℕ} {X : Type 0} {Token : List ℕ → X → Type 0} {After : X → ℕ → List ℕ → Said → Type 0} → IsCut Token → TextLeads text from (Part Token After)
+TextLeads-part : {text : List ℕ} {from to : ℕ} {X : Type 0} {Token : List ℕ → X → Type 0} {After : X → ℕ → List ℕ → Said → Type 0} → IsCut Token
+    → TextLeads text from (Part Token After)
     → (x : List ℕ) (a : X) → Token x a → GoesOver text from to x → TextLeads text to (After a)
-TextLeads-part {text} {from} {to} {After = After} cut l x a is over =
-    let t = take from text in
-    let long : length (take to text) ≡ length t + length x = ap length over ∙ length-append t x in
-    let joined : (y : List ℕ) → take to text ++ y ≡ t ++ (x ++ y) = λ y. ap (λ z. z ++ y) over ∙ append_assoc t x y in
-    record {
-      whole = λ y s after. subst (λ z. Says z s) (sym (joined y)) (l.whole (x ++ y) s (record { token = x; rest = y; meaning = a; is = is; parts = refl; after = subst (λ p. After a p y s) long after }));
-      only = λ y s says. subst (λ p. After a p y s) (sym long) (Part-after cut x a y is (l.only (x ++ y) s (subst (λ z. Says z s) (joined y) says)));
-    }
+TextLeads-part {text} {from} {to} {After = After} cut l x a is over = grind (arith, length-append, append_assoc, Part-after)
 
 -- a text goes wrong where what the beginning leads to doesn't go on
-TextLeads-stuck : {text : List ℕ} {from : ℕ} {After : ℕ → List ℕ → Said → Type 0} → TextLeads text from After → (join : List ℕ → List ℕ) (place : ℕ) → place ≤ length text
+TextLeads-stuck : {text : List ℕ} {from : ℕ} {After : ℕ → List ℕ → Said → Type 0} → TextLeads text from After → (join : List ℕ → List ℕ) (place : ℕ)
+    → place ≤ length text
     → ((y : List ℕ) → take place text ++ y ≡ take from text ++ join y) → ((p : ℕ) → (y : List ℕ) × (s : Said) × After p (join y) s)
     → ((p : ℕ) (y : List ℕ) (s : Said) → slice_get y 0 ≡ slice_get text place → ¬ After p (join y) s) → IsFormFault IsSaid text place
 TextLeads-stuck {text} l join place within cut more none =
@@ -53,19 +48,22 @@ TextLeads-states {text} {to} {n} h =
     }
 
 -- a text was gone over as far as M and its colon
-pub TextLeads-field : {text : List ℕ} {from to n : ℕ} {After : ℕ → ℕ → List ℕ → Said → Type 0} → TextLeads text from (Field After) → GoesOverField text from to n
+pub TextLeads-field : {text : List ℕ} {from to n : ℕ} {After : ℕ → ℕ → List ℕ → Said → Type 0} → TextLeads text from (Field After)
+    → GoesOverField text from to n
     → TextLeads text to (After n)
 TextLeads-field {text} {from} l h =
     TextLeads-part IsCut-field l (h.digits ++ codes ":") _ (record { digits = h.digits; decimal = h.decimal; written = refl; value = h.value }) (h.over ∙ append_assoc (take from text) h.digits (codes ":"))
 
 -- a text was gone over as far as O and its colon
-pub TextLeads-offset : {text : List ℕ} {from to : ℕ} {z : ℤ} {After : ℤ → ℕ → List ℕ → Said → Type 0} → TextLeads text from (Signed After) → GoesOverOffset text from to z
+pub TextLeads-offset : {text : List ℕ} {from to : ℕ} {z : ℤ} {After : ℤ → ℕ → List ℕ → Said → Type 0} → TextLeads text from (Signed After)
+    → GoesOverOffset text from to z
     → TextLeads text to (After z)
 TextLeads-offset l h =
     TextLeads-part IsCut-signed l (sign h.minus ++ h.digits ++ codes ":") _ (record { minus = h.minus; digits = h.digits; decimal = h.decimal; written = refl; value = h.value }) (h.over ∙ simp append_assoc)
 
 -- a text was gone over as far as a kind
-pub TextLeads-kind : {text : List ℕ} {from to k m : ℕ} {o : ℤ} → TextLeads text from (Kinds k m o) → (kd : Kind) → GoesOver text from to (kind_text kd)
+pub TextLeads-kind : {text : List ℕ} {from to k m : ℕ} {o : ℤ} → TextLeads text from (Kinds k m o) → (kd : Kind)
+    → GoesOver text from to (kind_text kd)
     → TextLeads text to (Tells k m o kd)
 TextLeads-kind l kd over = TextLeads-part IsCut-kind l (kind_text kd) kd refl over
 
@@ -165,14 +163,11 @@ IsFormFault-hex digits n stop =
     ])
 
 -- a text that begins with no field is of the bare form, or goes wrong where a row of digits does
-pub IsFormFault-bare : (text : List ℕ) (place n : ℕ) → place ≤ length text → LacksField text 0 place → IsFormFault (IsDecimal 1 39) text n → IsFormFault IsSaid text n
+pub IsFormFault-bare : (text : List ℕ) (place n : ℕ) → place ≤ length text → LacksField text 0 place → IsFormFault (IsDecimal 1 39) text n
+    → IsFormFault IsSaid text n
 IsFormFault-bare text place n inside h f =
     let first : take place text ≡ h.digits = h.over in
-    let long : length h.digits ≡ place = sym (ap length first) ∙ length-take-le place text inside in
-    let early : place ≤ n = elim (cases_lt n place) [
-      | inl late ↦ absurd (f.longest place late inside (subst (Begins (IsDecimal 1 39)) (sym first) (row_with 39 (omega arith) h.digits (record { digits = h.decimal.digits; least = omega arith; most = omega arith }))))
-      | inr early ↦ early
-    ] in
+    let early : place ≤ n = grind (arith, cases_lt, row_with) in
     let no_field : (z : List ℕ) → take place z ≡ take place text → get_or z place 0 ≡ get_or text place 0 → (s : Said) → ¬ Field AfterStates 0 z s = λ z same byte s field.
     let split : z ≡ h.digits ++ drop place z = sym (take-append-drop place z) ∙ ap (λ x. x ++ drop place z) (same ∙ first) in
     let here : place + 0 ≡ place = omega arith in

@@ -1,9 +1,8 @@
 -- Wolfram numbers and the rules that they stand for.
-use Rattle.std.proofs.Common.{◌≡◌, ℕ, zero, suc, ◌+◌, ◌-◌, ◌*◌, ◌/◌, ◌^◌, ◌<◌, ◌≤◌, Bool, ◌&&◌, ◌||◌, List, [], ◌∷◌, ◌++◌, length, reverse, take, drop, map-id, add-one, zero-add, length-drop, length-take-le, Some, get_or, refl, sym, ap, subst, ◌∙◌, arith, true, mod-lt, zero-mul, ℤ, nat_lt, nat_le, ◌↔◌, sum_by, div-add-mod', take_all, option_map}
-use Rattle.std.specs.Option.{option_or}
-use Rattle.word_image.proofs.Common.{range_with_len, div-eq_of_lt, pow-le-pow_right, nat_tests, Decides-below_and, length-reverse, reverse-append, drop_more, take_more, map-range_with_len_more, sum_by_push, All-drop, LocalRule, IsShape, IsRule, IsWord, value, word_of, wolfram_number, IsWord-reverse, shape_fault-IsShape, length-word_of, IsWord-word_of, value-snoc, value-below}
+use Rattle.std.proofs.Common.{◌≡◌, ℕ, zero, suc, ◌+◌, ◌-◌, ◌*◌, ◌/◌, ◌^◌, ◌<◌, ◌≤◌, Bool, ◌&&◌, ◌||◌, List, [], ◌∷◌, ◌++◌, length, reverse, take, drop, map-id, add-one, zero-add, length-drop, length-take-le, Some, get_or, refl, sym, ap, ◌∙◌, arith, true, mod-lt, zero-mul, ℤ, nat_lt, nat_le, ◌↔◌, sum_by, div-add-mod', take_all}
+use Rattle.word_image.proofs.Common.{range_with_len, div-eq_of_lt, pow-le-pow_right, nat_tests, Decides-below_and, length-reverse, reverse-append, drop_more, take_more, map-range_with_len_more, sum_by_push, All-drop, LocalRule, IsShape, IsRule, value, word_of, wolfram_number, IsWord-reverse, shape_fault-IsShape, length-word_of, IsWord-word_of, value-snoc, value-below}
 use Rattle.rule_text.specs.declared.text_fault.TextFault.TheVariants as fault
-use Rattle.rule_text.specs.RuleTexts.{Said, Number, as_text_fault, number_fault, entries_fault, fault_of}
+use Rattle.rule_text.specs.RuleTexts.{Said, Number, entries_fault, fault_of}
 
 -- a test passes at all numbers below a limit
 abbrev all_below : (ℕ → Bool) → ℕ → Bool
@@ -29,26 +28,18 @@ number_limit k m o shape few =
 
 -- of an accepted shape the entries alone may have a fault
 pub fault_of-shape : (s : Said) → IsShape s.states s.width s.offset → fault_of s ≡ entries_fault s s.entries
-fault_of-shape s shape =
-    ap (λ f. option_or (option_map (as_text_fault s.place) f) (entries_fault s s.entries)) (shape_fault-IsShape s.states s.width s.offset shape)
+fault_of-shape s shape = grind (arith, shape_fault-IsShape)
 
 -- the digits of a number of an accepted shape are the table of a rule
 pub IsRule-number : (k m : ℕ) (o p : ℤ) (long n : ℕ) (table : List ℕ) → IsShape k m o → p ≡ o → long ≡ k ^ m → n < k ^ long
     → table ≡ reverse (word_of k long n) → IsRule (record { states = k; width = m; offset = p; table = table })
 IsRule-number k m o p long n table shape same size below is =
-    let word : IsWord k (reverse (word_of k long n)) = IsWord-reverse k (word_of k long n) (IsWord-word_of k long n below) in
-    record {
-      shape = subst (λ (q : ℤ). IsShape k m q) (sym same) shape;
-      entries = ap length is ∙ length-reverse (word_of k long n) ∙ length-word_of k long n ∙ size;
-      letters = subst (λ (t : List ℕ). IsWord k t) (sym is) word;
-    }
+    grind (arith, IsWord-reverse, IsWord-word_of, length-reverse, length-word_of)
 
 -- a number from k ^ (k ^ m) on has no table
 pub fault_of-beyond : (k m : ℕ) (o : ℤ) (place n : ℕ) → IsShape k m o → k ≤ 6 → k ^ (k ^ m) ≤ n
     → fault_of (record { states = k; width = m; offset = o; entries = Number n; place = place }) ≡ Some fault.Number
-fault_of-beyond k m o place n shape few beyond =
-    let entries : number_fault k m n ≡ Some fault.Number = grind (arith, nat_tests) in
-    fault_of-shape (record { states = k; width = m; offset = o; entries = Number n; place = place }) shape ∙ entries
+fault_of-beyond k m o place n shape few beyond = grind (arith, nat_tests, fault_of-shape)
 
 -- what is below a power is what is left with nothing
 pub div-is_zero : (n p : ℕ) → 0 < p → (n / p ≡ 0) ↔ (n < p)
@@ -68,7 +59,6 @@ pub value-reverse_drop-below : {r : LocalRule} → IsRule r → r.states < 7 →
 value-reverse_drop-below {r = r} rule few i =
     let k = r.states in
     let w = reverse (drop i r.table) in
-    let least = rule.shape.least_states in
     let long : length w ≤ k ^ r.width = omega (arith, length-reverse (drop i r.table), length-drop i r.table, rule.entries) in
     let below = value-below k w (IsWord-reverse k (drop i r.table) (All-drop (λ a. a < k) i r.table rule.letters)) in
     let grows : k ^ length w ≤ k ^ (k ^ r.width) = pow-le-pow_right (omega arith) long in

@@ -20,21 +20,20 @@ abbrev pub IsCut : {X : Type 0} → (List ℕ → X → Type 0) → Type 0
 IsCut {X} Token = (x y u v : List ℕ) (a b : X) → Token x a → Token y b → x ++ u ≡ y ++ v → (x ≡ y) × (a ≡ b) × (u ≡ v)
 
 -- after a token comes what may come after its meaning
-pub Part-after : {X : Type 0} {Token : List ℕ → X → Type 0} {After : X → ℕ → List ℕ → Said → Type 0} {place : ℕ} {said : Said} → IsCut Token → (x : List ℕ) (a : X) (y : List ℕ) → Token x a
+pub Part-after : {X : Type 0} {Token : List ℕ → X → Type 0} {After : X → ℕ → List ℕ → Said → Type 0} {place : ℕ} {said : Said} → IsCut Token
+    → (x : List ℕ) (a : X) (y : List ℕ) → Token x a
     → Part Token After place (x ++ y) said → After a (place + length x) y said
-Part-after {After = After} {place = place} {said = said} cut x a y is p =
-    let (token, meaning, rest) = cut x p.token y p.rest a p.meaning is p.is p.parts in
-    subst (λ z. After a (place + length x) z said) (sym rest)
-    (subst (λ b. After b (place + length x) p.rest said) (sym meaning) (subst (λ t. After p.meaning (place + length t) p.rest said) (sym token) p.after))
+Part-after {After = After} {place = place} {said = said} cut x a y is p = grind arith
 
 -- a text of a part says one thing where what comes after does
 pub Part-unique : {X : Type 0} {Token : List ℕ → X → Type 0} {After : X → ℕ → List ℕ → Said → Type 0} → IsCut Token
-    → ((a : X) (place : ℕ) (y : List ℕ) (s t : Said) → After a place y s → After a place y t → s ≡ t) → (place : ℕ) (x : List ℕ) (s t : Said) → Part Token After place x s → Part Token After place x t → s ≡ t
-Part-unique {Token = Token} {After = After} cut unique place x s t f g =
-    unique f.meaning _ f.rest s t f.after (Part-after cut f.token f.meaning f.rest f.is (subst (λ z. Part Token After place z t) f.parts g))
+    → ((a : X) (place : ℕ) (y : List ℕ) (s t : Said) → After a place y s → After a place y t → s ≡ t) → (place : ℕ) (x : List ℕ) (s t : Said)
+    → Part Token After place x s → Part Token After place x t → s ≡ t
+Part-unique {Token = Token} {After = After} cut unique place x s t f g = grind (arith, Part-after)
 
 -- the beginning of a token goes on to a text of the part
-Part-more : {X : Type 0} {Token : List ℕ → X → Type 0} {After : X → ℕ → List ℕ → Said → Type 0} → ((a : X) (place : ℕ) → (y : List ℕ) × (s : Said) × After a place y s)
+Part-more : {X : Type 0} {Token : List ℕ → X → Type 0} {After : X → ℕ → List ℕ → Said → Type 0}
+    → ((a : X) (place : ℕ) → (y : List ℕ) × (s : Said) × After a place y s)
     → (place : ℕ) (x e : List ℕ) (a : X) → Token (x ++ e) a → (y : List ℕ) × (s : Said) × Part Token After place (x ++ y) s
 Part-more more place x e a is =
     let next = more a (place + length (x ++ e)) in
@@ -87,18 +86,15 @@ same_field [] [] y z h g p = (refl, ap (drop 1) p)
 same_field [] (b ∷ e) y z h g p = let digit : IsDigit b = g 0 0 (omega arith) in let same = ap (λ x. get_or x 0 0) p in absurd (omega (arith, digit.1))
 same_field (a ∷ d) [] y z h g p = let digit : IsDigit a = h 0 0 (omega arith) in let same = ap (λ x. get_or x 0 0) p in absurd (omega (arith, digit.1))
 same_field (a ∷ d) (b ∷ e) y z h g p =
-    let rest = same_field d e y z (All-tail IsDigit a d h) (All-tail IsDigit b e g) (ap (drop 1) p) in
-    (ap₂ (λ (c : ℕ) (x : List ℕ). c ∷ x) (ap (λ x. get_or x 0 0) p) rest.0, rest.1)
+    grind (arith, All-tail, (same_field d e y z (All-tail IsDigit a d h) (All-tail IsDigit b e g) (ap (drop 1) p)))
 
 -- a field is one or two digits
 pub IsCut-field : IsCut IsField
-IsCut-field x y u v a b f g p =
-    let (digits, rest) = same_field f.digits g.digits u v f.decimal.digits g.decimal.digits
-    (sym (ap (λ t. t ++ u) f.written ∙ append_assoc f.digits (codes ":") u) ∙ p ∙ ap (λ t. t ++ v) g.written ∙ append_assoc g.digits (codes ":") v) in
-    (f.written ∙ ap (λ d. d ++ codes ":") digits ∙ sym g.written, f.value ∙ ap decimal_value digits ∙ sym g.value, rest)
+IsCut-field x y u v a b f g p = grind (arith, same_field, append_assoc, codes)
 
 -- no digits and colon come after too few digits, or after all of them with anything but a colon
-colon_lacks : (x y d z : List ℕ) (b : ℕ) → get_or y 0 0 ≡ b → IsDecimal 0 2 x → IsDecimal 1 2 d → (length x ≡ 2) ⊎ ¬ IsDigit b → (1 ≤ length x → b ≢ colon) → x ++ y ≢ d ++ colon ∷ z
+colon_lacks : (x y d z : List ℕ) (b : ℕ) → get_or y 0 0 ≡ b → IsDecimal 0 2 x → IsDecimal 1 2 d → (length x ≡ 2) ⊎ ¬ IsDigit b
+    → (1 ≤ length x → b ≢ colon) → x ++ y ≢ d ++ colon ∷ z
 colon_lacks x y d z b next decimal other longest no_colon parts =
     let at : (i : ℕ) → get_or (x ++ y) i 0 ≡ get_or (d ++ colon ∷ z) i 0 = λ i. ap (λ t. get_or t i 0) parts in
     let here : get_or (x ++ y) (length x + 0) 0 ≡ b = get_or-append-add x y 0 0 ∙ next in
@@ -117,7 +113,8 @@ colon_lacks x y d z b next decimal other longest no_colon parts =
     ]
 
 -- a text of a field by its digits
-pub Field-text : {After : ℕ → ℕ → List ℕ → Said → Type 0} {place : ℕ} {text : List ℕ} {said : Said} (f : Field After place text said) → text ≡ f.is.digits ++ colon ∷ f.rest
+pub Field-text : {After : ℕ → ℕ → List ℕ → Said → Type 0} {place : ℕ} {text : List ℕ} {said : Said} (f : Field After place text said)
+    → text ≡ f.is.digits ++ colon ∷ f.rest
 Field-text f = f.parts ∙ ap (λ t. t ++ f.rest) f.is.written ∙ append_assoc f.is.digits (codes ":") f.rest
 
 -- no field goes on from too few digits, or from all of them with anything but a colon
@@ -155,9 +152,7 @@ same_signed false false y z p = inl (refl, p)
 
 -- no digits begin with a minus sign
 no_sign : (d y : List ℕ) → IsDecimal 1 2 d → get_or (d ++ y) 0 0 ≢ 45
-no_sign d y decimal minus =
-    let same = get_or_append_left d y 0 0 (omega (arith, decimal.least)) in
-    omega (arith, (decimal.digits 0 0 (omega (arith, decimal.least))).0)
+no_sign d y decimal minus = grind (arith, get_or_append_left)
 
 -- the text of an offset, and what comes after it
 signed_text : (g d y : List ℕ) → (g ++ d ++ codes ":") ++ y ≡ g ++ (d ++ colon ∷ y)
@@ -179,8 +174,10 @@ IsCut-signed x y u v a b f g p =
     ]
 
 -- no offset goes on from a sign or none and too few digits, or all of them with anything but a colon
-pub Signed-lacks : {After : ℤ → ℕ → List ℕ → Said → Type 0} {place : ℕ} {said : Said} (minus : Bool) (x y : List ℕ) (b : ℕ) → get_or y 0 0 ≡ b → IsDecimal 0 2 x
-    → (length x ≡ 2) ⊎ ¬ IsDigit b → (1 ≤ length x → b ≢ colon) → (minus ≡ false → length x ≡ 0 → b ≢ 45) → ¬ Signed After place (sign minus ++ x ++ y) said
+pub Signed-lacks : {After : ℤ → ℕ → List ℕ → Said → Type 0} {place : ℕ} {said : Said} (minus : Bool) (x y : List ℕ) (b : ℕ) → get_or y 0 0 ≡ b
+    → IsDecimal 0 2 x
+    → (length x ≡ 2) ⊎ ¬ IsDigit b → (1 ≤ length x → b ≢ colon) → (minus ≡ false → length x ≡ 0 → b ≢ 45)
+    → ¬ Signed After place (sign minus ++ x ++ y) said
 Signed-lacks minus x y b next decimal longest no_colon unsigned h =
     let d = h.is.digits in
     elim (same_signed minus h.is.minus (x ++ y) (d ++ colon ∷ h.rest) (sym (append_assoc (sign minus) x y) ∙ h.parts ∙ ap (λ t. t ++ h.rest) h.is.written ∙ signed_text (sign h.is.minus) d h.rest)) [
@@ -214,11 +211,7 @@ IsCut-kind x y u v a b f g p = let (kd, rest) = same_kind a b u v (ap (λ t. t +
 
 -- no entries come after another byte
 pub Kinds-lacks : {k m place : ℕ} {o : ℤ} {said : Said} (y : List ℕ) → IsNoKind (get_or y 0 0) → ¬ Kinds k m o place y said
-Kinds-lacks y none h = first h.meaning (h.parts ∙ ap (λ t. t ++ h.rest) h.is)
-  where
-    first : (kd : Kind) → y ≡ kind_text kd ++ h.rest → ⊥
-    first kind.Table p = none.0 (ap (λ x. get_or x 0 0) p)
-    first kind.Number p = none.1 (ap (λ x. get_or x 0 0) p)
+Kinds-lacks y none h = grind arith
 
 -- an empty table may come
 pub Kinds-more : (k m : ℕ) (o : ℤ) (place : ℕ) → (y : List ℕ) × (s : Said) × Kinds k m o place y s

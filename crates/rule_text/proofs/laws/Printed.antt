@@ -1,5 +1,5 @@
 -- The printed form of a rule is a text of it.
-use Rattle.std.proofs.Common.{◌≡◌, ℕ, suc, ◌+◌, ◌*◌, ◌/◌, ◌%◌, ◌<◌, List, [], ◌∷◌, ◌++◌, length, map, Some, inl, inr, refl, sym, ap, ap₂, subst, ◌∙◌, arith, add-one, mod-lt, All, ℤ, pos, negsuc, neg_ℤ, codes, unwrap_or, option_map, decimal, div-add-mod'}
+use Rattle.std.proofs.Common.{◌≡◌, ℕ, suc, ◌+◌, ◌*◌, ◌<◌, List, [], ◌∷◌, ◌++◌, length, map, Some, refl, sym, ap, ap₂, subst, ◌∙◌, arith, add-one, mod-lt, All, ℤ, pos, negsuc, neg_ℤ, codes, unwrap_or, option_map, decimal, div-add-mod'}
 use Rattle.std.proofs.lemmas.Fmt.{decimal_digit, decimal_step}
 use Rattle.word_image.proofs.Common.{cases_lt, nat_tests, ints, div_below, none-some, All-nil, All-cons, All-head, All-tail, All-map, All-weaker, LocalRule, IsShape, IsRule, lower_digit, hex_value, IsHexDigit, letter_at, table_fault-IsWord}
 use Rattle.rule_text.specs.RuleTexts.{IsDigit, IsDecimal, IsOffset, Plain, Minus, Says, InTable, Table, IsRuleText, decimal_value, as_text_fault}
@@ -19,33 +19,16 @@ is_digit d h = (omega arith, omega arith)
 
 -- a number of one digit
 Writes-one : (n : ℕ) → n < 10 → Writes ((48 + n) ∷ []) n
-Writes-one n h = record {
-  decimal = record { digits = All-cons IsDigit (48 + n) [] (is_digit n h) (All-nil IsDigit); least = omega arith; most = omega arith };
-  value = omega arith;
-}
+Writes-one n h = grind (arith, decimal, All-cons, is_digit, All-nil)
 
 -- a number of two digits
 Writes-two : (a b : ℕ) → a < 10 → b < 10 → Writes ((48 + a) ∷ (48 + b) ∷ []) (a * 10 + b)
-Writes-two a b h g = record {
-  decimal = record {
-    digits = All-cons IsDigit (48 + a) ((48 + b) ∷ []) (is_digit a h) (All-cons IsDigit (48 + b) [] (is_digit b g) (All-nil IsDigit));
-    least = omega arith;
-    most = omega arith;
-  };
-  value = omega arith;
-}
+Writes-two a b h g = grind (arith, decimal, All-cons, is_digit, All-nil)
 
 -- the text of a number below 100
 Writes-decimal : (n : ℕ) → n < 100 → Writes (decimal n) n
 Writes-decimal n h =
-    elim (cases_lt n 10) [
-      | inl one ↦ subst (λ (x : List ℕ). Writes x n) (sym (decimal_digit n one)) (Writes-one n one)
-      | inr two ↦
-          let high : n / 10 < 10 = div_below n 10 10 (omega arith) (omega arith) in
-          let text = decimal_step n two (omega arith) ∙ ap (λ x. x ++ (48 + n % 10) ∷ []) (decimal_digit (n / 10) high) in
-          subst (λ (x : List ℕ). Writes x n) (sym text)
-          (subst (λ (j : ℕ). Writes ((48 + n / 10) ∷ (48 + n % 10) ∷ []) j) (div-add-mod' n 10) (Writes-two (n / 10) (n % 10) high (mod-lt n (omega arith))))
-    ]
+    grind (arith, cases_lt, decimal_digit, Writes-one, div_below, decimal_step, div-add-mod', Writes-two, mod-lt)
 
 -- the text of an offset of an accepted shape
 IsOffset-offset_text : (k m : ℕ) (o : ℤ) → IsShape k m o → IsOffset (offset_text o) o

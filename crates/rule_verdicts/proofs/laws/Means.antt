@@ -1,9 +1,13 @@
 -- What the table of a rule shows before the rule is looked at.
-use Rattle.std.proofs.Common.{◌<◌, ◌≤◌, length, arith}
-use Rattle.word_image.proofs.Common.{one-le-pow, LocalRule, IsRule, IsSurjective}
+use Rattle.std.proofs.Common.{◌<◌, ◌≤◌, ◌↔◌, IsTrue, false, length, arith}
+use Rattle.word_image.proofs.Common.{false≢true, one-le-pow, LocalRule, IsRule, IsSurjective}
 use Rattle.garden_laws.specs.Tables.{HasMean}
 use Rattle.garden_laws.proofs.MeanTables.{HasMean-even}
 use Rattle.garden_laws.proofs.EvenTables.{IsEven-surjective}
+
+-- a no is true of what doesn't hold
+pub no : {P : Type 0} → ¬ P → IsTrue false ↔ P
+no none = ((λ t. absurd (false≢true t)), (λ p. absurd (none p)))
 
 -- a table has a letter
 pub some_letters : {r : LocalRule} → IsRule r → 0 < length r.table

@@ -22,7 +22,8 @@ number_fault-past : (k m n : ℕ) → k ≤ 6 → k ^ (k ^ m) ≤ n → number_f
 number_fault-past k m n few past = grind (arith, nat_tests)
 
 -- the fault of numbers that no shape has, where number 0 has a rule
-pub numbers_fault-past : (k m first count : ℕ) → option_or (of_shape k m) (number_fault k m 0) ≡ None → 2 ^ 128 ≤ first + count - 1 → numbers_fault k m first count ≡ Some fault.Number
+pub numbers_fault-past : (k m first count : ℕ) → option_or (of_shape k m) (number_fault k m 0) ≡ None → 2 ^ 128 ≤ first + count - 1
+    → numbers_fault k m first count ≡ Some fault.Number
 numbers_fault-past k m first count none beyond =
     let n : ℕ = first + count - 1 in
     let parts = none_or (of_shape k m) (number_fault k m 0) none in

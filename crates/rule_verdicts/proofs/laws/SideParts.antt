@@ -4,14 +4,14 @@ use Rattle.closing_test.specs.Closing.{IsRightAnswer, IsLeftAnswer, closing_of}
 use Rattle.closing_test.specs.declared.split_room.LentClosing.{LentClosing}
 use Rattle.closing_test.specs.declared.split_room.LentClosing.TheVariants.{Ahead, Split}
 use Rattle.certificate_laws.specs.LeastEvidence.{IsRightPart, IsLeftPart}
-use Rattle.rule_verdicts.specs.Reports.{AreOver, side_in}
+use Rattle.rule_verdicts.specs.Reports.{side_in}
 
--- the evidence about the right side, with configurations over the letters of the rule
-pub IsRightPart-answer : (r : LocalRule) (found : LentClosing) → IsRightAnswer r (closing_of found) → IsRightPart r (side_in found) × AreOver r.states found
-IsRightPart-answer r (Ahead n) h = ((h.0, h.1), tt)
-IsRightPart-answer r (Split x y) h = ((h.0, h.1.least), (h.1.first.states, h.1.second.states))
+-- the evidence about the right side
+pub IsRightPart-answer : (r : LocalRule) (found : LentClosing) → IsRightAnswer r (closing_of found) → IsRightPart r (side_in found)
+IsRightPart-answer r (Ahead n) h = (h.0, h.1)
+IsRightPart-answer r (Split x y) h = (h.0, h.1.least)
 
--- the evidence about the left side, with configurations over the letters of the rule
-pub IsLeftPart-answer : (r : LocalRule) (found : LentClosing) → IsLeftAnswer r (closing_of found) → IsLeftPart r (side_in found) × AreOver r.states found
-IsLeftPart-answer r (Ahead n) h = ((h.0, h.1), tt)
-IsLeftPart-answer r (Split x y) h = ((h.0, h.1.least), (h.1.first.states, h.1.second.states))
+-- the evidence about the left side
+pub IsLeftPart-answer : (r : LocalRule) (found : LentClosing) → IsLeftAnswer r (closing_of found) → IsLeftPart r (side_in found)
+IsLeftPart-answer r (Ahead n) h = (h.0, h.1)
+IsLeftPart-answer r (Split x y) h = (h.0, h.1.least)

@@ -14,6 +14,7 @@ first_of_take (suc n) [] x some first = first
 first_of_take (suc n) (y ∷ xs) x some first = first
 
 -- a flux or a ring that is shown is right evidence about the sum
-pub IsConservingPart-shown : (weight : ℕ → ℕ) {r : LocalRule} (k : Keeping) → IsRule r → IsTrue (has_flux k) ↔ IsConserving weight r → IsShown weight r k → IsConservingPart weight r (sum_of r k)
+pub IsConservingPart-shown : (weight : ℕ → ℕ) {r : LocalRule} (k : Keeping) → IsRule r → IsTrue (has_flux k) ↔ IsConserving weight r
+    → IsShown weight r k → IsConservingPart weight r (sum_of r k)
 IsConservingPart-shown weight {r} (Flux flows) rule exact shown = (exact.0 refl, shown.flux, first_of_take (node_count r) flows (pos 0) (node_count_pos rule) shown.starts)
 IsConservingPart-shown weight (Ring ring) rule exact shown = ((λ keep. false≢true (exact.1 keep)), shown)

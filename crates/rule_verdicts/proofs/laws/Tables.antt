@@ -29,14 +29,16 @@ low-set k (a ∷ w) (suc i) x l =
     omega (arith, rest, more (get_or w i 0), more x, mul-add k (low k (set w i x)) (k ^ i * get_or w i 0), mul-add k (low k w) (k ^ i * x))
 
 -- a letter more by one is k ^ i more
-pub value-set_more : (k : ℕ) (w : List ℕ) (i x : ℕ) → i < length w → get_or w i 0 ≡ x → value k (reverse (set w i (x + 1))) ≡ value k (reverse w) + k ^ i
+pub value-set_more : (k : ℕ) (w : List ℕ) (i x : ℕ) → i < length w → get_or w i 0 ≡ x
+    → value k (reverse (set w i (x + 1))) ≡ value k (reverse w) + k ^ i
 value-set_more k w i x l here =
     let one : k ^ i * (x + 1) ≡ k ^ i * x + k ^ i * 1 = mul-add (k ^ i) x 1 in
     let old : k ^ i * get_or w i 0 ≡ k ^ i * x = ap (λ n. k ^ i * n) here in
     omega (arith, low-value k w, low-value k (set w i (x + 1)), low-set k w i (x + 1) l, one, old, mul-one (k ^ i))
 
 -- 0 in the place of the last letter, and a step at the place is one at the next
-pub value-set_carry : (k : ℕ) (w : List ℕ) (i x : ℕ) → i < length w → get_or w i 0 ≡ x → x + 1 ≡ k → value k (reverse (set w i 0)) + k ^ (i + 1) ≡ value k (reverse w) + k ^ i
+pub value-set_carry : (k : ℕ) (w : List ℕ) (i x : ℕ) → i < length w → get_or w i 0 ≡ x → x + 1 ≡ k
+    → value k (reverse (set w i 0)) + k ^ (i + 1) ≡ value k (reverse w) + k ^ i
 value-set_carry k w i x l here last =
     let one : k ^ i * (x + 1) ≡ k ^ i * x + k ^ i * 1 = mul-add (k ^ i) x 1 in
     let old : k ^ i * get_or w i 0 ≡ k ^ i * x = ap (λ n. k ^ i * n) here in
@@ -45,7 +47,8 @@ value-set_carry k w i x l here last =
     omega (arith, low-value k w, low-value k (set w i 0), low-set k w i 0 l, one, old, mul-one (k ^ i), power, ap (λ n. k ^ i * n) last, none)
 
 -- the rule of a table is that of its number
-pub numbered_rule-table : (k m : ℕ) (table : List ℕ) → IsRule (rule_of_table k m table) → numbered_rule k m (value k (reverse table)) ≡ rule_of_table k m table
+pub numbered_rule-table : (k m : ℕ) (table : List ℕ) → IsRule (rule_of_table k m table)
+    → numbered_rule k m (value k (reverse table)) ≡ rule_of_table k m table
 numbered_rule-table k m table rule =
     let word : IsWord k (reverse table) = IsWord-reverse k table rule.letters in
     let long : length (reverse table) ≡ k ^ m = length-reverse table ∙ rule.entries in
@@ -64,6 +67,7 @@ pub length-numbered : (k m n : ℕ) (r : LocalRule) (table : List ℕ) → r ≡
 length-numbered k m n r table rule same = ap length (same ∙ ap (λ (q : LocalRule). q.table) rule) ∙ length-reverse (word_of k (k ^ m) n) ∙ length-word_of k (k ^ m) n
 
 -- the number of the table of a number
-pub value-numbered : (k m n : ℕ) (r : LocalRule) (table : List ℕ) → n < k ^ (k ^ m) → r ≡ numbered_rule k m n → table ≡ r.table → value k (reverse table) ≡ n
+pub value-numbered : (k m n : ℕ) (r : LocalRule) (table : List ℕ) → n < k ^ (k ^ m) → r ≡ numbered_rule k m n → table ≡ r.table
+    → value k (reverse table) ≡ n
 value-numbered k m n r table below rule same =
     ap (λ (w : List ℕ). value k (reverse w)) (same ∙ ap (λ (q : LocalRule). q.table) rule) ∙ ap (value k) (reverse-reverse (word_of k (k ^ m) n)) ∙ value-word_of k (k ^ m) n below

@@ -45,9 +45,7 @@ drop-run x i j a n e =
 
 -- the last letters of a run are a run
 pub last-run : (x : Config) (i j : ℤ) (a n : ℕ) → i +ℤ pos a ≡ j → drop (length (run x i (a + n)) - n) (run x i (a + n)) ≡ run x j n
-last-run x i j a n e =
-    let place : length (run x i (a + n)) - n ≡ a = omega (arith, length-run x i (a + n)) in
-    ap (λ b. drop b (run x i (a + n))) place ∙ drop-run x i j a n e
+last-run x i j a n e = grind (arith, length-run, drop-run)
 
 -- two runs side by side are a run
 pub run-append : (x : Config) (i j : ℤ) (a b : ℕ) → i +ℤ pos a ≡ j → run x i (a + b) ≡ run x i a ++ run x j b
@@ -62,30 +60,22 @@ run-push x i j n e = map-range_with_len_more (λ a. x (i +ℤ pos a)) 0 n n (ome
 pub run-cons : (x : Config) (i : ℤ) (n : ℕ) → run x i (suc n) ≡ x i ∷ run x (i +ℤ pos 1) n
 run-cons x i n =
     let one : suc n ≡ 1 + n = omega arith in
-    let first : i +ℤ pos 0 ≡ i = omega (arith, ints) in
-    ap (run x i) one ∙ run-append x i (i +ℤ pos 1) 1 n refl ∙ ap (λ p. x p ∷ run x (i +ℤ pos 1) n) first
+    ap (run x i) one ∙ run-append x i (i +ℤ pos 1) 1 n refl ∙ ap (λ p. x p ∷ run x (i +ℤ pos 1) n) (omega (arith, ints))
 
 -- a run of letters has the run of the image as its image
-pub image-run : {r : LocalRule} → IsRule r → (x : Config) (i j : ℤ) (n : ℕ) → i +ℤ r.offset ≡ j → image r (run x j (n + (r.width - 1))) ≡ run (image_of r x) i n
+pub image-run : {r : LocalRule} → IsRule r → (x : Config) (i j : ℤ) (n : ℕ) → i +ℤ r.offset ≡ j
+    → image r (run x j (n + (r.width - 1))) ≡ run (image_of r x) i n
 image-run {r} rule x i j n e =
-    let wide : 2 ≤ r.width = rule.shape.least_width in
     image-by_letters r (run x j (n + (r.width - 1))) (run (image_of r x) i n) (omega (arith, length-run x j (n + (r.width - 1)), length-run (image_of r x) i n))
-    (λ a l. let place : j +ℤ pos a ≡ i +ℤ pos a +ℤ r.offset = omega (arith, ints) in
-    get_or-run (image_of r x) i (i +ℤ pos a) n a (omega (arith, length-run (image_of r x) i n)) refl
-    ∙ ap (local_map r) (sym (slice_range-run x j (i +ℤ pos a +ℤ r.offset) (n + (r.width - 1)) a r.width (omega (arith, length-run (image_of r x) i n)) place)))
+    (λ a l. get_or-run (image_of r x) i (i +ℤ pos a) n a (omega (arith, length-run (image_of r x) i n)) refl
+    ∙ ap (local_map r) (sym (slice_range-run x j (i +ℤ pos a +ℤ r.offset) (n + (r.width - 1)) a r.width (omega (arith, length-run (image_of r x) i n)) (omega (arith, ints)))))
 
 -- where n letters of the images are equal, the letters under them are two words with one image
 pub HaveOneImage-run : {r : LocalRule} {x y : Config} → IsRule r → IsConfig r.states x → IsConfig r.states y → (i j : ℤ) (n : ℕ) → i +ℤ r.offset ≡ j
     → run (image_of r x) i n ≡ run (image_of r y) i n → HaveOneImage r n (run x j (n + (r.width - 1))) (run y j (n + (r.width - 1)))
-HaveOneImage-run {r} {x} {y} rule hx hy i j n e same =
-    record {
-      first = IsWord-run hx j (n + (r.width - 1));
-      second = IsWord-run hy j (n + (r.width - 1));
-      first_long = length-run x j (n + (r.width - 1));
-      second_long = length-run y j (n + (r.width - 1));
-      one_image = image-run rule x i j n e ∙ same ∙ sym (image-run rule y i j n e);
-    }
+HaveOneImage-run rule hx hy i j n e same = grind (arith, length-run, image-run, IsWord-run)
 
 -- equal windows give equal letters of the images
-pub image_of-window : (r : LocalRule) (x y : Config) (i j : ℤ) → ((a : ℕ) → a < r.width → x (i +ℤ r.offset +ℤ pos a) ≡ y (j +ℤ r.offset +ℤ pos a)) → image_of r x i ≡ image_of r y j
+pub image_of-window : (r : LocalRule) (x y : Config) (i j : ℤ) → ((a : ℕ) → a < r.width → x (i +ℤ r.offset +ℤ pos a) ≡ y (j +ℤ r.offset +ℤ pos a))
+    → image_of r x i ≡ image_of r y j
 image_of-window r x y i j h = ap (local_map r) (run-same x y (i +ℤ r.offset) (j +ℤ r.offset) r.width h)

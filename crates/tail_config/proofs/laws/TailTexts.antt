@@ -1,7 +1,8 @@
 -- How a text is cut at its bars, and where it leaves the grammar.
-use Rattle.std.proofs.Common.{◌≡◌, ◌≢◌, ◌↔◌, ℕ, zero, suc, ◌+◌, ◌-◌, ◌<◌, ◌≤◌, List, [], ◌∷◌, ◌++◌, length, map, replicate, take, drop, get_or, slice_get, slice_range, codes, Option, None, Some, unwrap_or, All, refl, sym, ap, subst, ◌∙◌, ⊎_elim, arith, append_assoc, append-nil, length-drop, take-add, take_all, take-append-drop}
+use Rattle.std.proofs.lemmas.Grind.{common_steps}
+use Rattle.std.proofs.Common.{◌≡◌, ◌≢◌, ◌↔◌, ℕ, zero, suc, ◌+◌, ◌-◌, ◌<◌, ◌≤◌, List, [], ◌∷◌, ◌++◌, length, map, replicate, take, drop, get_or, slice_get, slice_range, codes, Option, None, Some, unwrap_or, All, refl, sym, ap, subst, ◌∙◌, arith, append_assoc, append-nil, length-drop, take-add, take_all, take-append-drop}
 use Rattle.std.proofs.lemmas.Option.{slice_get_within}
-use Rattle.word_image.proofs.Common.{cases_lt, nat_tests, take_more, get_or_past, get_or_from_slice_get, slice_get-get_or, drop-append_seam, unwrap_or-slice_get, All-nil, All-cons, All-drop, All-head, All-tail, hex_value, lower_digit, IsHexDigit, letter_at, word_text, IsFormFault, IsFormFault-next}
+use Rattle.word_image.proofs.Common.{nat_tests, get_or_past, get_or_from_slice_get, slice_get-get_or, drop-append_seam, unwrap_or-slice_get, All-nil, All-drop, All-head, All-tail, hex_value, lower_digit, IsHexDigit, letter_at, word_text, IsFormFault, IsFormFault-next}
 use Rattle.tail_config.specs.Tails.{TailConfig}
 use Rattle.tail_config.specs.TailTexts.{Spells, HasParts}
 use Rattle.tail_config.specs.TailFaults.{HasForm}
@@ -22,25 +23,15 @@ letters-Spells : (d w : List ℕ) → Spells d w → All IsHexDigit d × (map le
 letters-Spells [] [] e = (All-nil IsHexDigit, refl)
 letters-Spells [] (a ∷ w) e = absurd (cc)
 letters-Spells (b ∷ d) [] e = absurd (cc)
-letters-Spells (b ∷ d) (a ∷ w) e =
-    let first : hex_value b ≡ Some a = cc in
-    let (digits, letters) = letters-Spells d w cc in
-    (All-cons IsHexDigit b d (λ none. absurd (cc)) digits, cc)
+letters-Spells (b ∷ d) (a ∷ w) e = grind (arith, letters-Spells d w cc)
 
 -- a text that is cut into rows of digits stands for their letters
 pub HasParts-cut : {text left middle right : List ℕ} → IsCut text left middle right → HasParts text (letters_of left middle right)
-HasParts-cut {left = left} {middle = middle} {right = right} cut = record {
-  left = left;
-  middle = middle;
-  right = right;
-  parts = cut.parts;
-  left_spells = Spells-letters left cut.left_digits;
-  middle_spells = Spells-letters middle cut.middle_digits;
-  right_spells = Spells-letters right cut.right_digits;
-}
+HasParts-cut {left = left} {middle = middle} {right = right} cut = grind (arith, Spells-letters)
 
 -- a text that stands for a configuration is cut into the rows of its letters' digits
-cut-HasParts : {text : List ℕ} {t : TailConfig} → (p : HasParts text t) → IsCut text p.left p.middle p.right × (t ≡ letters_of p.left p.middle p.right)
+cut-HasParts : {text : List ℕ} {t : TailConfig} → (p : HasParts text t)
+    → IsCut text p.left p.middle p.right × (t ≡ letters_of p.left p.middle p.right)
 cut-HasParts {t = t} p =
     let (left, l) = letters-Spells p.left t.left p.left_spells in
     let (middle, m) = letters-Spells p.middle t.middle p.middle_spells in
@@ -107,24 +98,20 @@ Leads-start = record {
 -- the bytes up to a place are those up to an earlier one and those between
 take-between : (text y : List ℕ) (start end : ℕ) → start ≤ end → take end text ++ y ≡ take start text ++ (slice_range text start end ++ y)
 take-between text y start end h =
-    let split : end ≡ start + (end - start) = omega arith in
-    ap (λ n. take n text ++ y) split ∙ ap (λ x. x ++ y) (take-add start (end - start) text) ∙ append_assoc (take start text) (slice_range text start end) y
+    ap (λ n. take n text ++ y) (omega arith) ∙ ap (λ x. x ++ y) (take-add start (end - start) text) ∙ append_assoc (take start text) (slice_range text start end) y
 
 -- the bytes up to a bar are those up to its row, the row and the bar
-take-bar : {text : List ℕ} {start place : ℕ} → IsBarAfter text start place → (y : List ℕ) → take (place + 1) text ++ y ≡ take start text ++ (slice_range text start place ++ bar ∷ y)
-take-bar {text} {start} {place} b y =
-    ap (λ x. x ++ y) (take_more text place 0 b.inside ∙ ap (λ a. take place text ++ a ∷ []) b.byte) ∙ append_assoc (take place text) (codes "|") y
-    ∙ take-between text (bar ∷ y) start place b.digits.from
+take-bar : {text : List ℕ} {start place : ℕ} → IsBarAfter text start place → (y : List ℕ)
+    → take (place + 1) text ++ y ≡ take start text ++ (slice_range text start place ++ bar ∷ y)
+take-bar b y = grind (arith, common_steps, take-between)
 
 -- one row less comes after a bar
 pub Leads-bar : {text : List ℕ} {n start place : ℕ} → IsBarAfter text start place → Leads (suc n) (take start text) → Leads n (take (place + 1) text)
-Leads-bar {text} {n} {start} {place} b leads = record {
+Leads-bar b leads = record {
   on = λ y. (
     λ form.
         let (e, z, he, rows, same) = (leads.on _).0 (subst HasForm (take-bar b y) form) in
-        let rest : bar ∷ y ≡ bar ∷ z = (row_ends _ e (bar ∷ y) z b.digits.digits he (λ digit. digit refl) same).1 in
-        let same_rest : z ≡ y = cc in
-        subst (Rows n) same_rest rows,
+        grind (arith, row_ends),
     λ rows. subst HasForm (sym (take-bar b y)) ((leads.on _).1 (_, y, b.digits.digits, rows, refl)),
   );
 }
@@ -139,32 +126,31 @@ IsFormFault-digits {text} {n} {start} {end} leads h none =
 
 -- no digit follows the last one
 no_digit : {text : List ℕ} {start end : ℕ} → IsDigitsEnd text start end → ¬ IsHexDigit (get_or text end 0)
-no_digit {text} {start} {end} h digit =
-    ⊎_elim (λ inside. h.stop inside digit) (λ past. digit (ap hex_value (get_or_past text end 0 past))) (cases_lt end (length text))
+no_digit h digit = grind (arith, get_or_past)
 
 -- a text goes wrong after a row of digits that lacks its bar
 pub IsFormFault-row : {text : List ℕ} {n start end : ℕ} → Leads (suc n) (take start text) → LacksBar text start end → IsFormFault HasForm text end
 IsFormFault-row {text} {n} {start} {end} leads lacks = IsFormFault-digits leads lacks.digits (λ rest same (e, z, he, _, parts).
     let byte : get_or rest 0 0 ≡ get_or text end 0 = sym (unwrap_or-slice_get rest 0 0) ∙ ap (λ o. unwrap_or o 0) same ∙ unwrap_or-slice_get text end 0 in
     let stop = (row_ends _ e rest z lacks.digits.digits he (subst (λ b. ¬ IsHexDigit b) (sym byte) (no_digit lacks.digits)) parts).1 in
-    let some : slice_get text end ≡ Some bar = sym same ∙ ap (λ x. slice_get x 0) stop in
-    lacks.other (slice_get_within text end bar some) (sym byte ∙ ap (λ x. get_or x 0 0) stop))
+    lacks.other (slice_get_within text end bar (sym same ∙ ap (λ x. slice_get x 0) stop)) (sym byte ∙ ap (λ x. get_or x 0 0) stop))
 
 -- a text goes wrong after the digits of its last row, where more follows
-pub IsFormFault-last : {text : List ℕ} {start end : ℕ} → Leads 0 (take start text) → IsDigitsEnd text start end → end < length text → IsFormFault HasForm text end
+pub IsFormFault-last : {text : List ℕ} {start end : ℕ} → Leads 0 (take start text) → IsDigitsEnd text start end → end < length text
+    → IsFormFault HasForm text end
 IsFormFault-last {text} {start} {end} leads h inside = IsFormFault-digits leads h (λ rest same all.
     let at : slice_get rest 0 ≡ Some (get_or text end 0) = same ∙ slice_get-get_or text end 0 inside in
     let digits = subst (All IsHexDigit) (drop-append_seam (slice_range text start end) rest) (All-drop IsHexDigit (length (slice_range text start end)) _ all) in
     h.stop inside (subst IsHexDigit (get_or_from_slice_get rest 0 _ 0 at) (digits 0 0 (slice_get_within rest 0 _ at))))
 
 -- a text whose digits after its second bar go on to its end is cut into its three parts
-pub IsCut-right : {text : List ℕ} {first second end : ℕ} → IsBarAfter text 0 first → IsBarAfter text (first + 1) second → IsDigitsEnd text (second + 1) end
+pub IsCut-right : {text : List ℕ} {first second end : ℕ} → IsBarAfter text 0 first → IsBarAfter text (first + 1) second
+    → IsDigitsEnd text (second + 1) end
     → length text ≤ end → IsCut text (take first text) (slice_range text (first + 1) second) (slice_range text (second + 1) (length text))
 IsCut-right {text} {first} {second} {end} left middle d past =
     let start : first - 0 ≡ first = omega arith in
-    let all : end ≡ length text = omega (arith, d.within) in
     let rest : drop (second + 1) text ≡ slice_range text (second + 1) end = sym (take_all (end - (second + 1)) (drop (second + 1) text) (omega (arith, length-drop (second + 1) text))) in
-    subst (λ n. IsCut text (take first text) (slice_range text (first + 1) second) (slice_range text (second + 1) n)) all
+    subst (λ n. IsCut text (take first text) (slice_range text (first + 1) second) (slice_range text (second + 1) n)) (omega arith)
     (subst (λ n. IsCut text (take n text) (slice_range text (first + 1) second) (slice_range text (second + 1) end)) start (record {
       parts = sym (take-append-drop (second + 1) text) ∙ take-bar middle _ ∙ take-bar left _
           ∙ ap (λ x. slice_range text 0 first ++ bar ∷ (slice_range text (first + 1) second ++ bar ∷ x)) rest ∙ sym (grouped _ _ _);

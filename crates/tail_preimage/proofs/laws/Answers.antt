@@ -17,13 +17,15 @@ use Rattle.tail_preimage.proofs.laws.Parts.{SomeRounds-periods, walks-Starts, Is
 use Rattle.tail_preimage.proofs.laws.LeastPreimages.{IsLeastPreimage-unique}
 
 -- where 16 right periods lead through any number of them does
-PassesThrough-any : {r : LocalRule} {t : TailConfig} {parts : PartRelations} → AreTailParts r t parts → (b a : ℕ) → PassesThrough r parts b 16 → PassesThrough r parts b a
+PassesThrough-any : {r : LocalRule} {t : TailConfig} {parts : PartRelations} → AreTailParts r t parts → (b a : ℕ) → PassesThrough r parts b 16
+    → PassesThrough r parts b a
 PassesThrough-any {parts = parts} h b a (v, w, v_node, w_node, before, row, leads) =
     let (sum, few, (n, on, both, some, rounds)) = SomeRounds-periods h.rule h.right w_node leads in
     (v, w, v_node, w_node, before, row, Open-rounds (HasBit parts.right.period) n on w some rounds a)
 
 -- the first numbers of periods that lead nowhere are the least gap
-pub IsGap-first : {r : LocalRule} {t : TailConfig} {parts : PartRelations} → IsTail r.states t → AreTailParts r t parts → (b a : ℕ) → IsFirstGap r parts b a → IsGap r t b a (stretch t b a)
+pub IsGap-first : {r : LocalRule} {t : TailConfig} {parts : PartRelations} → IsTail r.states t → AreTailParts r t parts → (b a : ℕ)
+    → IsFirstGap r parts b a → IsGap r t b a (stretch t b a)
 IsGap-first {r} {t} ht h b a gap =
     let orphan : IsOrphan r (stretch t b a) = (IsOrphan-PassesThrough ht h b a).1 gap.closed in
     record {
@@ -39,13 +41,15 @@ IsGap-first {r} {t} ht h b a gap =
     }
 
 -- the least of the nodes from which walks of a shape lead
-pub Starts-least : {r : LocalRule} {t : TailConfig} {parts : PartRelations} {s : Shape} {set v : ℕ} → AreTailParts r t parts → IsNodeSet r (Starts r parts s) set → IsFirst (IsBitSet set) v
+pub Starts-least : {r : LocalRule} {t : TailConfig} {parts : PartRelations} {s : Shape} {set v : ℕ} → AreTailParts r t parts
+    → IsNodeSet r (Starts r parts s) set → IsFirst (IsBitSet set) v
     → (u q : ℕ) (a b c : List ℕ) → AreLoopWalks r t s u q a b c → v ≤ u
 Starts-least {v = v} h set least u q a b c walks =
     ⊎_elim (λ l. absurd (least.none u l ((set.nodes u (IsWalk-first walks.left)).1 (walks-Starts h walks)))) (λ l. l) (cases_lt u v)
 
 -- there is one least gap
-IsLeastGap-unique : {r : LocalRule} {t : TailConfig} {b a c d : ℕ} {w z : List ℕ} → IsLeastGap r t b a w → IsLeastGap r t c d z → (b ≡ c) × (a ≡ d) × (w ≡ z)
+IsLeastGap-unique : {r : LocalRule} {t : TailConfig} {b a c d : ℕ} {w z : List ℕ} → IsLeastGap r t b a w → IsLeastGap r t c d z
+    → (b ≡ c) × (a ≡ d) × (w ≡ z)
 IsLeastGap-unique {r} {t} {b} {a} {c} {d} {w} {z} h g =
     let first : IsOrphan r (stretch t b a) = subst (IsOrphan r) h.word h.orphan in
     let second : IsOrphan r (stretch t c d) = subst (IsOrphan r) g.word g.orphan in

@@ -1,9 +1,10 @@
 -- Of the first shape the first loop walks are the least preimage: the least node with a loop, and first walks for each of the three parts. There is one least preimage.
-use Rattle.std.proofs.Common.{◌≡◌, ◌≢◌, ℕ, ◌+◌, ◌-◌, List, ◌++◌, length, take, drop, ℤ, refl, sym, ap, ap₂, ◌∙◌, subst, arith, length-append, length-drop, append_assoc, nat_cmp, Ordering, Equal, Greater, take-append-drop, take_at, drop_at}
+use Rattle.std.proofs.lemmas.Grind.{common_steps}
+use Rattle.std.proofs.Common.{◌≡◌, ◌≢◌, ℕ, ◌+◌, ◌-◌, List, ◌++◌, length, take, drop, refl, sym, ap, ap₂, ◌∙◌, subst, arith, length-append, length-drop, append_assoc, nat_cmp, Ordering, Equal, Greater, take-append-drop, take_at, drop_at}
 use Rattle.std.proofs.lemmas.Cmp.{nat_cmp_total, nat_list_cmp_total, on_total, then_total}
 use Rattle.std.proofs.lemmas.Map.Lookups.{exact_bytes}
 use Rattle.word_image.proofs.Common.{repeat, ordering_then, IsTotalOrder, nat_cmp_is, slice_cmp, drop-append-le, LocalRule, IsRule, IsBitSet-pow, then_equal, then_not_greater, nat_cmp-equal, slice_cmp-append, tied}
-use Rattle.tail_config.proofs.Common.{TailConfig, IsTail, config_of}
+use Rattle.tail_config.proofs.Common.{TailConfig, IsTail}
 use Rattle.tail_preimage.specs.Walks.{IsWalk, before_last}
 use Rattle.tail_preimage.specs.Preimages.{PlacedConfig, Shape, HasShape, IsShapedPreimage, IsLeastPreimage, shape_cmp, letters, stretch, IsSmall, IsFrom}
 use Rattle.tail_preimage.specs.FirstWalks.{AreLoopWalks, AreFirstWalks, placed_of}
@@ -18,7 +19,8 @@ first_not_greater Greater b h e = h refl
 first_not_greater _ b h e = cc
 
 -- where the beginnings aren't greater, and with equal beginnings the rest isn't, the whole isn't greater
-append-not_greater : (a b c d : List ℕ) → length a ≡ length c → slice_cmp nat_cmp a c ≢ Greater → (slice_cmp nat_cmp a c ≡ Equal → slice_cmp nat_cmp b d ≢ Greater)
+append-not_greater : (a b c d : List ℕ) → length a ≡ length c → slice_cmp nat_cmp a c ≢ Greater
+    → (slice_cmp nat_cmp a c ≡ Equal → slice_cmp nat_cmp b d ≢ Greater)
     → slice_cmp nat_cmp (a ++ b) (c ++ d) ≢ Greater
 append-not_greater a b c d long first rest e = then_not_greater (slice_cmp nat_cmp a c) (slice_cmp nat_cmp b d) first rest (sym (slice_cmp-append nat_cmp a b c d long) ∙ e)
 
@@ -46,7 +48,8 @@ whole-letters {r} {t} {s} {v} {w} {x} {y} {z} rule h =
     ∙ sym (append_assoc (bx ++ by) bz (drop (length z - d) z) ∙ append_assoc bx by (bz ++ drop (length z - d) z))
 
 -- the first walks are no greater than any others of their shape
-whole-not_greater : {r : LocalRule} {t : TailConfig} {s : Shape} {v w v' w' : ℕ} {x y z x' y' z' : List ℕ} → IsRule r → AreFirstWalks r t s v w x y z → AreLoopWalks r t s v' w' x' y' z'
+whole-not_greater : {r : LocalRule} {t : TailConfig} {s : Shape} {v w v' w' : ℕ} {x y z x' y' z' : List ℕ} → IsRule r → AreFirstWalks r t s v w x y z
+    → AreLoopWalks r t s v' w' x' y' z'
     → slice_cmp nat_cmp (whole r x y z) (whole r x' y' z') ≢ Greater
 whole-not_greater {r} {t} {s} {v} {w} {v'} {w'} {x} {y} {z} {x'} {y'} {z'} rule h g =
     let d : ℕ = r.width - 1 in
@@ -66,25 +69,26 @@ whole-not_greater {r} {t} {s} {v} {w} {v'} {w'} {x} {y} {z} {x'} {y'} {z'} rule 
     λ q. h.right.least w z' ((IsBitSet-pow w w).1 refl) turn (cmp-behind h.right.walk turn refl ∙ q)))
 
 -- two placed configurations of one shape have as many letters
-length-letters : {r : LocalRule} {t : TailConfig} {s : Shape} {p q : PlacedConfig} → HasShape r t s p → HasShape r t s q → length (letters p) ≡ length (letters q)
+length-letters : {r : LocalRule} {t : TailConfig} {s : Shape} {p q : PlacedConfig} → HasShape r t s p → HasShape r t s q
+    → length (letters p) ≡ length (letters q)
 length-letters h g = simp length-append (omega arith)
 
 -- shapes of the same numbers are the same
 same_shape : (s u : Shape) → s.before ≡ u.before → s.back ≡ u.back → s.after ≡ u.after → s.on ≡ u.on → s ≡ u
-same_shape s u before back after on =
-    ap₂ (λ (a b : ℕ). record { before = a; back = b; after = s.after; on = s.on }) before back
-    ∙ ap₂ (λ (a b : ℕ). record { before = u.before; back = u.back; after = a; on = b }) after on
+same_shape s u before back after on = grind arith
 
 -- shapes that compare equal are equal
 shape_cmp-equal : (s u : Shape) → shape_cmp s u ≡ Equal → s ≡ u
 shape_cmp-equal s u e = grind (arith, then_equal, nat_cmp-equal, same_shape)
 
 -- first walks are loop walks
-AreFirstWalks-walks : {r : LocalRule} {t : TailConfig} {s : Shape} {v w : ℕ} {x y z : List ℕ} → AreFirstWalks r t s v w x y z → AreLoopWalks r t s v w x y z
+AreFirstWalks-walks : {r : LocalRule} {t : TailConfig} {s : Shape} {v w : ℕ} {x y z : List ℕ} → AreFirstWalks r t s v w x y z
+    → AreLoopWalks r t s v w x y z
 AreFirstWalks-walks h = record { back_some = h.back_some; on_some = h.on_some; left = h.left.walk; middle = h.middle.walk; right = h.right.walk }
 
 -- the letters of first walks come no later than those of any other placed configuration of the shape that maps to t
-first-letters : {r : LocalRule} {t : TailConfig} {s : Shape} {v w : ℕ} {x y z : List ℕ} {q : PlacedConfig} → IsRule r → IsTail r.states t → AreFirstWalks r t s v w x y z → IsShapedPreimage r t s q
+first-letters : {r : LocalRule} {t : TailConfig} {s : Shape} {v w : ℕ} {x y z : List ℕ} {q : PlacedConfig} → IsRule r → IsTail r.states t
+    → AreFirstWalks r t s v w x y z → IsShapedPreimage r t s q
     → slice_cmp nat_cmp (letters (placed_of r t s.before x y z)) (letters q) ≢ Greater
 first-letters {r} {t} {s} {x = x} {y = y} {z = z} {q = q} rule ht h other =
     let g = HasLoopWalks-shape rule other in
@@ -100,7 +104,8 @@ first-letters {r} {t} {s} {x = x} {y = y} {z = z} {q = q} rule ht h other =
 
 -- the first walks of a shape that is no greater than that of any other walks are the least preimage
 pub IsFrom-first : {r : LocalRule} {t : TailConfig} {s : Shape} {v w : ℕ} {x y z : List ℕ} → IsRule r → IsTail r.states t → IsSmall s
-    → ((u : Shape) (n q : ℕ) (a b c : List ℕ) → AreLoopWalks r t u n q a b c → shape_cmp s u ≢ Greater) → AreFirstWalks r t s v w x y z → IsFrom r t (placed_of r t s.before x y z)
+    → ((u : Shape) (n q : ℕ) (a b c : List ℕ) → AreLoopWalks r t u n q a b c → shape_cmp s u ≢ Greater) → AreFirstWalks r t s v w x y z
+    → IsFrom r t (placed_of r t s.before x y z)
 IsFrom-first {r} {t} {s} {x = x} {y = y} {z = z} rule ht small least h =
     let p : PlacedConfig = placed_of r t s.before x y z in
     record {
@@ -123,13 +128,7 @@ same_cut a b c d long e = (
 
 -- placed configurations of one shape with the same letters are one
 same_placed : {r : LocalRule} {t : TailConfig} {s : Shape} {p q : PlacedConfig} → HasShape r t s p → HasShape r t s q → letters p ≡ letters q → p ≡ q
-same_placed {r} {t} {s} {p} {q} h g e =
-    let left : length p.config.left ≡ length q.config.left = h.left ∙ sym g.left in
-    let long : length (p.config.left ++ p.config.middle) ≡ length (q.config.left ++ q.config.middle) = omega (arith, length-append p.config.left p.config.middle, length-append q.config.left q.config.middle) in
-    let (fronts, rights) = same_cut (p.config.left ++ p.config.middle) p.config.right (q.config.left ++ q.config.middle) q.config.right long e in
-    let (lefts, middles) = same_cut p.config.left p.config.middle q.config.left q.config.middle left fronts in
-    let parts : p.config ≡ q.config = ap₂ (λ (a b : List ℕ). config_of a b p.config.right) lefts middles ∙ ap (config_of q.config.left q.config.middle) rights in
-    ap₂ (λ (i : ℤ) (c : TailConfig). record { at = i; config = c }) (h.at ∙ sym g.at) parts
+same_placed h g e = grind (arith, common_steps, same_cut)
 
 -- there is one least preimage
 pub IsLeastPreimage-unique : {r : LocalRule} {t : TailConfig} {p q : PlacedConfig} → IsLeastPreimage r t p → IsLeastPreimage r t q → p ≡ q

@@ -32,7 +32,8 @@ cmp-first {r} {x = x} {y = y} h g e =
     (slice_cmp-value r.states (take d x) (take d y) (All-take (λ a. a < r.states) d x h.preimage.word) (All-take (λ a. a < r.states) d y g.preimage.word) long ∙ ap₂ nat_cmp h.first g.first)
 
 -- the first walk from a node is no greater than walks from greater nodes, and than others from the node into the goal
-pub least-not_greater : {r : LocalRule} {w x y : List ℕ} {u v s t goal : ℕ} → IsLeastWalkInto r w u goal v x → IsWalk r w s t y → u ≤ s → (s ≡ u → IsBitSet goal t) → slice_cmp nat_cmp x y ≢ Greater
+pub least-not_greater : {r : LocalRule} {w x y : List ℕ} {u v s t goal : ℕ} → IsLeastWalkInto r w u goal v x → IsWalk r w s t y → u ≤ s
+    → (s ≡ u → IsBitSet goal t) → slice_cmp nat_cmp x y ≢ Greater
 least-not_greater {r} {w} {x} {y} {u} {s = s} {t = t} h g least within =
     ⊎_elim
     (λ l e. let other : Less ≡ Greater = ap (λ o. ordering_then o (slice_cmp nat_cmp (drop (r.width - 1) x) (drop (r.width - 1) y))) (nat_cmp_is u s Less l) ∙ sym (cmp-first h.walk g refl) ∙ e in cc)
@@ -40,7 +41,8 @@ least-not_greater {r} {w} {x} {y} {u} {s = s} {t = t} h g least within =
     (cases_lt u s)
 
 -- the first walk along no letter is a node of the goal
-IsLeastWalkInto-none : {r : LocalRule} {goal v : ℕ} → v < node_count r → IsBitSet goal v → IsLeastWalkInto r [] v goal v (word_of r.states (r.width - 1) v)
+IsLeastWalkInto-none : {r : LocalRule} {goal v : ℕ} → v < node_count r → IsBitSet goal v
+    → IsLeastWalkInto r [] v goal v (word_of r.states (r.width - 1) v)
 IsLeastWalkInto-none {r} {v = v} node within =
     let d : ℕ = r.width - 1 in
     let x : List ℕ = word_of r.states d v in
@@ -55,14 +57,15 @@ IsLeastWalkInto-none {r} {v = v} node within =
 
 -- the first walk begins with the edge to the least node from which the goal is reached
 IsLeastWalkInto-cons : {r : LocalRule} {w z : List ℕ} {a goal v node s : ℕ} → IsRule r → v < node_count r → IsEdge Right r a v node
-    → ((m : ℕ) → m < node → IsEdge Right r a v m → ¬ Reaches r w goal m) → IsLeastWalkInto r w node goal s z → IsLeastWalkInto r (a ∷ w) v goal s (node_letter r v 0 ∷ z)
+    → ((m : ℕ) → m < node → IsEdge Right r a v m → ¬ Reaches r w goal m) → IsLeastWalkInto r w node goal s z
+    → IsLeastWalkInto r (a ∷ w) v goal s (node_letter r v 0 ∷ z)
 IsLeastWalkInto-cons {r} {w} {z} {a} {v = v} {node = node} rule l edge none h = record {
   walk = IsWalk-cons rule l edge h.walk;
   within = h.within;
   least = λ t y at other.
       let (m, on, rest) = IsWalk-uncons rule a w other in
       let least : node ≤ m = ⊎_elim (λ less. absurd (none m less on (t, at, (drop 1 y, rest)))) (λ most. most) (cases_lt m node) in
-      subst (λ x. slice_cmp nat_cmp (node_letter r v 0 ∷ z) x ≢ Greater) (sym (IsWalk-letter rule other))
+      rw (IsWalk-letter rule other)
       ((key_not_greater (node_letter r v 0) (node_letter r v 0) (slice_cmp nat_cmp z (drop 1 y))).1 (omega arith, λ _. least-not_greater h rest least (λ _. at)));
 }
 
@@ -76,7 +79,8 @@ pub record IsLeastBegun (r : LocalRule) (w : List ℕ) (u goal n v : ℕ) (x : L
   pub on : (s : ℕ) (z : List ℕ) → IsLeastWalkInto r (drop n w) v goal s z → IsLeastWalkInto r w u goal s (front ++ z)
 
 -- before any edge, the first walk into the goal begins with the letters of its first node
-pub IsLeastBegun-start : {r : LocalRule} {w : List ℕ} {u goal : ℕ} → u < node_count r → Reaches r w goal u → IsLeastBegun r w u goal 0 u (word_of r.states (r.width - 1) u)
+pub IsLeastBegun-start : {r : LocalRule} {w : List ℕ} {u goal : ℕ} → u < node_count r → Reaches r w goal u
+    → IsLeastBegun r w u goal 0 u (word_of r.states (r.width - 1) u)
 IsLeastBegun-start {r} {u = u} node reach = record { front = []; letters = refl; long = omega (arith, length-word_of r.states (r.width - 1) u); node = node; open_still = reach; on = λ s z h. h }
 
 -- the letters of a node, and the last letter of the node after it, are the first letter of the node and the letters of the node after it
@@ -94,7 +98,8 @@ word_of-edge {r} {a} {v} {node} rule l (b, letter, (spells, leads)) =
     ap (λ c. word_of r.states d v ++ c ∷ []) last ∙ IsWalk-letter rule walk ∙ ap (λ y. node_letter r v 0 ∷ y) rest
 
 -- the first walk goes on to the least of its nodes to which an edge with the next label leads, by that node's last letter
-pub IsLeastBegun-node : {r : LocalRule} {w x : List ℕ} {goal u n v ends set node : ℕ} → IsRule r → n < length w → IsLeastBegun r w u goal n v x → IsEnds Right r v (slice_index w n) ends → IsNodeSet r (Reaches r (drop (n + 1) w) goal) set
+pub IsLeastBegun-node : {r : LocalRule} {w x : List ℕ} {goal u n v ends set node : ℕ} → IsRule r → n < length w → IsLeastBegun r w u goal n v x
+    → IsEnds Right r v (slice_index w n) ends → IsNodeSet r (Reaches r (drop (n + 1) w) goal) set
     → IsFirst (IsBitSet (bit_and ends set)) node → IsLeastBegun r w u goal (n + 1) node (x ++ node_letter r node (r.width - 2) ∷ [])
 IsLeastBegun-node {r} {w} {x} {goal} {u} {n} {v} {ends} {set} {node} rule inside h e after least =
     let (first, second) = (IsBitSet-and ends set node).0 least.holds in
@@ -117,7 +122,8 @@ IsLeastBegun-node {r} {w} {x} {goal} {u} {n} {v} {ends} {set} {node} rule inside
     }
 
 -- at the end of the word the beginning of the first walk is the first walk
-pub IsLeastBegun-end : {r : LocalRule} {w : List ℕ} {u goal n v : ℕ} {x : List ℕ} → n ≡ length w → IsLeastBegun r w u goal n v x → IsLeastWalkInto r w u goal v x
+pub IsLeastBegun-end : {r : LocalRule} {w : List ℕ} {u goal n v : ℕ} {x : List ℕ} → n ≡ length w → IsLeastBegun r w u goal n v x
+    → IsLeastWalkInto r w u goal v x
 IsLeastBegun-end {r} {w} {goal = goal} {n = n} {v = v} e h =
     let none : drop n w ≡ [] = nil_from_length (drop n w) (omega (arith, length-drop n w)) in
     rw h.letters (h.on v _ (rw none (IsLeastWalkInto-none h.node ((Reaches-none goal v h.node).0 (rw none at h.open_still)))))

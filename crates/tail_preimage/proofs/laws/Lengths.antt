@@ -1,8 +1,7 @@
 -- How many letters stretches and answers have at most.
 use Rattle.std.proofs.Common.{ℕ, ◌+◌, ◌*◌, ◌≤◌, List, length, ap, arith, add-mul}
 use Rattle.word_image.proofs.Common.{repeat, mul-le, LocalRule}
-use Rattle.tail_config.proofs.Common.{TailConfig}
-use Rattle.tail_config.specs.TailTexts.{IsShortTail}
+use Rattle.tail_config.proofs.Common.{TailConfig, IsShortTail}
 use Rattle.tail_preimage.specs.Preimages.{PlacedConfig, IsFrom, IsGap, stretch}
 use Rattle.tail_preimage.specs.Answers.{IsPreimageAnswer, IsShortAnswer}
 use Rattle.tail_preimage.specs.declared.answer.Pre.{Pre}
@@ -19,11 +18,11 @@ length-repeat-most n part few short = omega (arith, length-repeat n part, mul-le
 
 -- a stretch with at most 16 periods on each side has at most 33,792 letters
 pub length-stretch-most : {k : ℕ} {t : TailConfig} → IsShortTail k t → (b a : ℕ) → b ≤ 16 → a ≤ 16 → length (stretch t b a) ≤ 33792
-length-stretch-most {t = t} short b a left right =
-    omega (arith, length-stretch t b a, mul-le b (length t.left) 16 1024 left short.left, short.middle, mul-le a (length t.right) 16 1024 right short.right)
+length-stretch-most {t = t} short b a left right = grind (arith, length-stretch)
 
 -- the three parts of the least placed configuration have at most 33,792 letters together
-pub length-placed : {k : ℕ} {r : LocalRule} {t : TailConfig} {p : PlacedConfig} → IsShortTail k t → IsFrom r t p → length p.config.left + length p.config.middle + length p.config.right ≤ 33792
+pub length-placed : {k : ℕ} {r : LocalRule} {t : TailConfig} {p : PlacedConfig} → IsShortTail k t → IsFrom r t p
+    → length p.config.left + length p.config.middle + length p.config.right ≤ 33792
 length-placed {t = t} short h = grind (arith, copies_most)
 
 -- a gap has at most 33,792 letters

@@ -15,22 +15,23 @@ use Rattle.tail_preimage.proofs.laws.Stretches.{repeat-more, IsWord-stretch}
 use Rattle.tail_preimage.proofs.laws.Steps.{Steps-none, Steps-stay, Steps-cons, Steps-first, Steps-end, SomeRounds-open}
 
 -- a relation's rows relate nodes to nodes
-pub IsRelation-below : {r : LocalRule} {E : ℕ → ℕ → Type 0} {table : List ℕ} → IsRelation r E table → (u v : ℕ) → u < node_count r → HasBit table u v → (v < node_count r) × E u v
-IsRelation-below {r} {table = table} h u v l bit =
-    let row = h.rows u l in
-    let below : v < node_count r = IsBitSet-below (node_count r) _ v row.within bit in
-    (below, (row.nodes v below).0 bit)
+pub IsRelation-below : {r : LocalRule} {E : ℕ → ℕ → Type 0} {table : List ℕ} → IsRelation r E table → (u v : ℕ) → u < node_count r → HasBit table u v
+    → (v < node_count r) × E u v
+IsRelation-below {table = table} h u v l bit = grind (arith, IsBitSet-below)
 
 -- periods lead from nodes to nodes
-pub ArePeriods-end : {r : LocalRule} {periods : Periods} {n u v : ℕ} → ArePeriods r periods → u < node_count r → Steps (HasBit periods.period) n u v → v < node_count r
+pub ArePeriods-end : {r : LocalRule} {periods : Periods} {n u v : ℕ} → ArePeriods r periods → u < node_count r → Steps (HasBit periods.period) n u v
+    → v < node_count r
 ArePeriods-end {r} h node steps = Steps-end (λ a b l bit. IsBitSet-below (node_count r) _ b (h.period a l) bit) node steps
 
 -- the relation of n periods has two nodes exactly where n steps of the period lead from one to the other
-pub ArePeriods-row : {r : LocalRule} {periods : Periods} → ArePeriods r periods → (n : ℕ) → n ≤ 16 → (u v : ℕ) → u < node_count r → HasBit (get_or periods.powers n []) u v ↔ Steps (HasBit periods.period) n u v
+pub ArePeriods-row : {r : LocalRule} {periods : Periods} → ArePeriods r periods → (n : ℕ) → n ≤ 16 → (u v : ℕ) → u < node_count r
+    → HasBit (get_or periods.powers n []) u v ↔ Steps (HasBit periods.period) n u v
 ArePeriods-row h n few u v l = let rel = h.powers n few in ((λ bit. (IsRelation-below rel u v l bit).1), (λ steps. ((rel.rows u l).nodes v (ArePeriods-end h l steps)).1 steps))
 
 -- steps of a word's relation are walks along copies of it
-pub Steps-repeat : {r : LocalRule} {p table : List ℕ} → IsRule r → IsRelation r (HasWalk r p) table → (n u v : ℕ) → u < node_count r → Steps (HasBit table) n u v ↔ HasWalk r (repeat n p) u v
+pub Steps-repeat : {r : LocalRule} {p table : List ℕ} → IsRule r → IsRelation r (HasWalk r p) table → (n u v : ℕ) → u < node_count r
+    → Steps (HasBit table) n u v ↔ HasWalk r (repeat n p) u v
 Steps-repeat {r} rule h zero u v l = ((λ steps. subst (HasWalk r [] u) (Steps-stay steps) (_, IsWalk-none r u l)), (λ walk. Steps-none (IsWalk-stays walk.1)))
 Steps-repeat {r} {p} rule h (suc n) u v l = (
   (λ steps.
@@ -43,7 +44,8 @@ Steps-repeat {r} {p} rule h (suc n) u v l = (
 )
 
 -- steps of the relation of a word that is read backwards are walks along copies of it, from their ends
-pub Steps-reversed : {r : LocalRule} {p table : List ℕ} → IsRule r → IsRelation r (λ u v. HasWalk r p v u) table → (n u v : ℕ) → u < node_count r → Steps (HasBit table) n u v ↔ HasWalk r (repeat n p) v u
+pub Steps-reversed : {r : LocalRule} {p table : List ℕ} → IsRule r → IsRelation r (λ u v. HasWalk r p v u) table → (n u v : ℕ) → u < node_count r
+    → Steps (HasBit table) n u v ↔ HasWalk r (repeat n p) v u
 Steps-reversed {r} rule h zero u v l = ((λ steps. subst (λ n. HasWalk r [] n u) (Steps-stay steps) (_, IsWalk-none r u l)), (λ walk. Steps-none (sym (IsWalk-stays walk.1))))
 Steps-reversed {r} {p} rule h (suc n) u v l =
     let more : repeat (suc n) p ≡ repeat n p ++ p = let e : suc n ≡ n + 1 = omega arith in ap (λ i. repeat i p) e ∙ repeat-more n p in (
@@ -73,7 +75,8 @@ HasWalk-stretch {r} {t} {parts} h b a u s = (
 )
 
 -- three walks of a shape lead from its starts, and from no other node
-pub Starts-walks : {r : LocalRule} {t : TailConfig} {parts : PartRelations} {s : Shape} {v : ℕ} → AreTailParts r t parts → 1 ≤ s.back → 1 ≤ s.on → v < node_count r → Starts r parts s v
+pub Starts-walks : {r : LocalRule} {t : TailConfig} {parts : PartRelations} {s : Shape} {v : ℕ} → AreTailParts r t parts → 1 ≤ s.back → 1 ≤ s.on
+    → v < node_count r → Starts r parts s v
     → (w : ℕ) × (x : List ℕ) × (y : List ℕ) × (z : List ℕ) × AreLoopWalks r t s v w x y z
 Starts-walks {s = s} {v = v} h back on node (loop, (u, u_node, lefts, (n, n_node, middle, (w, rights, turn)))) =
     let x = (Steps-reversed h.rule h.left s.back v v node).0 loop in
@@ -81,14 +84,16 @@ Starts-walks {s = s} {v = v} h back on node (loop, (u, u_node, lefts, (n, n_node
     let z = (Steps-repeat h.rule h.right s.on w w (IsWalk-last y.1)).0 turn in
     (w, x.0, y.0, z.0, record { back_some = back; on_some = on; left = x.1; middle = y.1; right = z.1 })
 
-pub walks-Starts : {r : LocalRule} {t : TailConfig} {parts : PartRelations} {s : Shape} {v w : ℕ} {x y z : List ℕ} → AreTailParts r t parts → AreLoopWalks r t s v w x y z → Starts r parts s v
+pub walks-Starts : {r : LocalRule} {t : TailConfig} {parts : PartRelations} {s : Shape} {v w : ℕ} {x y z : List ℕ} → AreTailParts r t parts
+    → AreLoopWalks r t s v w x y z → Starts r parts s v
 walks-Starts {s = s} {v = v} {w = w} {x = x} {y = y} {z = z} h walks =
     let (u, n, u_node, n_node, lefts, middle, rights) = (HasWalk-stretch h s.before s.after v w).0 (y, walks.middle) in
     let turn = (Steps-repeat h.rule h.right s.on w w (IsWalk-last walks.middle)).1 (z, walks.right) in
     ((Steps-reversed h.rule h.left s.back v v (IsWalk-first walks.left)).1 (x, walks.left), (u, u_node, lefts, (n, n_node, middle, (w, rights, turn))))
 
 -- a stretch is an orphan exactly where its periods and the middle lead nowhere
-pub IsOrphan-PassesThrough : {r : LocalRule} {t : TailConfig} {parts : PartRelations} → IsTail r.states t → AreTailParts r t parts → (b a : ℕ) → IsOrphan r (stretch t b a) ↔ ¬ PassesThrough r parts b a
+pub IsOrphan-PassesThrough : {r : LocalRule} {t : TailConfig} {parts : PartRelations} → IsTail r.states t → AreTailParts r t parts → (b a : ℕ)
+    → IsOrphan r (stretch t b a) ↔ ¬ PassesThrough r parts b a
 IsOrphan-PassesThrough ht h b a = (
   λ orphan (v, w, v_node, w_node, (u, lefts), middle, (s, rights)).
       let (x, walk) = (HasWalk-stretch h b a u s).1 (v, w, v_node, w_node, lefts, middle, rights) in
@@ -99,10 +104,12 @@ IsOrphan-PassesThrough ht h b a = (
 )
 
 -- where 16 periods lead somewhere, few lead to a loop
-pub SomeRounds-periods : {r : LocalRule} {E : ℕ → ℕ → Type 0} {table : List ℕ} {u : ℕ} → IsRule r → IsRelation r E table → u < node_count r → Open (HasBit table) 16 u
+pub SomeRounds-periods : {r : LocalRule} {E : ℕ → ℕ → Type 0} {table : List ℕ} {u : ℕ} → IsRule r → IsRelation r E table → u < node_count r
+    → Open (HasBit table) 16 u
     → (sum : ℕ) × (sum ≤ 16) × SomeRounds (HasBit table) sum u
 SomeRounds-periods rule h l leads = SomeRounds-open rule.shape.most_nodes (λ v w node bit. (IsRelation-below h v w node bit).0) l leads
 
 -- where walks of 16 periods begin in a set, rounds of at most 16 periods do
-pub Meets-rounds : {r : LocalRule} {E : ℕ → ℕ → Type 0} {table : List ℕ} (set : ℕ) → IsRule r → IsRelation r E table → Meets r (Open (HasBit table) 16) set → (sum : ℕ) × (sum ≤ 16) × Meets r (SomeRounds (HasBit table) sum) set
+pub Meets-rounds : {r : LocalRule} {E : ℕ → ℕ → Type 0} {table : List ℕ} (set : ℕ) → IsRule r → IsRelation r E table
+    → Meets r (Open (HasBit table) 16) set → (sum : ℕ) × (sum ≤ 16) × Meets r (SomeRounds (HasBit table) sum) set
 Meets-rounds set rule h (u, node, leads, bit) = let (sum, few, rounds) = SomeRounds-periods rule h node leads in (sum, few, (u, node, rounds, bit))

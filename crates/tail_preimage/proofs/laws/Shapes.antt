@@ -15,22 +15,14 @@ pub IsFirst-le : (P : ℕ → Type 0) (n i : ℕ) → IsFirst P n → P i → n 
 IsFirst-le P n i h holds = ⊎_elim (λ less. absurd (h.none i less holds)) (λ l. l) (cases_lt i n)
 
 -- the middle leads from a node of P to one of Q exactly where one of P is a node from which the middle leads into the set of Q
-pub Through-before : {Q : ℕ → Type 0} {set rears : ℕ} → (r : LocalRule) (parts : PartRelations) (P : ℕ → Type 0) → IsNodeSet r Q set → IsNodeSet r (λ v. (w : ℕ) × HasBit parts.middle v w × IsBitSet set w) rears → Meets r P rears ↔ Through r parts P Q
-Through-before {set = set} r parts P h g = (
-  (λ (v, node, before, bit).
-      let (w, row, behind) = (g.nodes v node).0 bit in
-      let below = IsBitSet-below (node_count r) set w h.within behind in
-      (v, w, node, below, before, row, (h.nodes w below).0 behind)),
-  (λ (v, w, v_node, w_node, before, row, behind). (v, v_node, before, (g.nodes v v_node).1 (w, row, (h.nodes w w_node).1 behind))),
-)
+pub Through-before : {Q : ℕ → Type 0} {set rears : ℕ} → (r : LocalRule) (parts : PartRelations) (P : ℕ → Type 0) → IsNodeSet r Q set
+    → IsNodeSet r (λ v. (w : ℕ) × HasBit parts.middle v w × IsBitSet set w) rears → Meets r P rears ↔ Through r parts P Q
+Through-before {set = set} r parts P h g = grind (arith, IsBitSet-below)
 
 -- a set meets the nodes to which the middle leads from a set exactly where something leads through
 pub Through-behind : {P : ℕ → Type 0} {set fronts : ℕ} → (r : LocalRule) (parts : PartRelations) (Q : ℕ → Type 0) → IsNodeSet r P set
     → IsNodeSet r (λ w. (v : ℕ) × (v < node_count r) × (IsBitSet set v × HasBit parts.middle v w)) fronts → Meets r Q fronts ↔ Through r parts P Q
-Through-behind r parts Q h g = (
-  (λ (w, w_node, behind, bit). let (v, node, (before, row)) = (g.nodes w w_node).0 bit in (v, w, node, w_node, (h.nodes v node).0 before, row, behind)),
-  (λ (v, w, v_node, w_node, before, row, behind). (w, w_node, behind, (g.nodes w w_node).1 (v, v_node, ((h.nodes v v_node).1 before, row)))),
-)
+Through-behind r parts Q h g = grind arith
 
 -- what the four keys of the first shape are: walks have them, and each in turn is the least
 pub record AreFirstKeys (r : LocalRule) (parts : PartRelations) (left right before after : ℕ) : Type 0 where
@@ -41,11 +33,14 @@ pub record AreFirstKeys (r : LocalRule) (parts : PartRelations) (left right befo
   pub holds : Through r parts (Rounds (HasBit parts.left.period) before (left - before)) (Rounds (HasBit parts.right.period) after (right - after))
   pub left_least : (n : ℕ) → Through r parts (SomeRounds (HasBit parts.left.period) n) (Open (HasBit parts.right.period) 16) → left ≤ n
   pub right_least : (n : ℕ) → Through r parts (SomeRounds (HasBit parts.left.period) left) (SomeRounds (HasBit parts.right.period) n) → right ≤ n
-  pub before_least : (n : ℕ) → Through r parts (Rounds (HasBit parts.left.period) n (left - n)) (SomeRounds (HasBit parts.right.period) right) → before ≤ n
-  pub after_least : (n : ℕ) → Through r parts (Rounds (HasBit parts.left.period) before (left - before)) (Rounds (HasBit parts.right.period) n (right - n)) → after ≤ n
+  pub before_least : (n : ℕ) → Through r parts (Rounds (HasBit parts.left.period) n (left - n)) (SomeRounds (HasBit parts.right.period) right)
+      → before ≤ n
+  pub after_least : (n : ℕ)
+      → Through r parts (Rounds (HasBit parts.left.period) before (left - before)) (Rounds (HasBit parts.right.period) n (right - n)) → after ≤ n
 
 -- the first keys of both sides are those of the first shape
-pub IsFirstShape-keys : {r : LocalRule} {t : TailConfig} {parts : PartRelations} → AreTailParts r t parts → (left right before after : ℕ) → AreFirstKeys r parts left right before after
+pub IsFirstShape-keys : {r : LocalRule} {t : TailConfig} {parts : PartRelations} → AreTailParts r t parts → (left right before after : ℕ)
+    → AreFirstKeys r parts left right before after
     → IsFirstShape r parts (record { before = before; back = left - before; after = after; on = right - after })
 IsFirstShape-keys {r} {t} {parts} h left right before after keys =
     let A : ℕ → ℕ → Type 0 = HasBit parts.left.period in

@@ -1,5 +1,5 @@
 -- Steps of a relation between at most 16 nodes: one after another, round and round, and that 16 of them pass some node twice.
-use Rattle.std.proofs.Common.{◌≡◌, ℕ, zero, suc, ◌+◌, ◌-◌, ◌*◌, ◌<◌, ◌≤◌, replicate, refl, sym, subst, arith, suc-mul, zero-mul, mul-one, mul-le-mul_left}
+use Rattle.std.proofs.Common.{◌≡◌, ℕ, zero, suc, ◌+◌, ◌-◌, ◌*◌, ◌<◌, ◌≤◌, replicate, refl, sym, subst, arith, suc-mul, zero-mul, mul-le-mul_left}
 use Rattle.word_image.proofs.Common.{replicate-append-replicate, twice_below}
 use Rattle.search_laws.proofs.Common.{Walk, Walk-join, Walk-cut}
 use Rattle.tail_preimage.specs.Relations.{Unlettered, Steps, Open, Rounds, SomeRounds}
@@ -21,9 +21,7 @@ Steps-first h = let (w, step, rest) = h.walk in (w, step, record { walk = rest }
 
 -- steps in a row
 pub Steps-add : {E : ℕ → ℕ → Type 0} {u v w : ℕ} → (i j : ℕ) → Steps E i u v → Steps E j v w → Steps E (i + j) u w
-Steps-add {E} {u} {v} {w} i j h g = record {
-  walk = subst (λ l. Walk (Unlettered E) u l w) (replicate-append-replicate i j tt) (Walk-join (Unlettered E) (replicate i tt) (replicate j tt) u v w h.walk g.walk);
-}
+Steps-add i j h g = grind (arith, replicate-append-replicate, Walk-join)
 
 -- where steps lead from nodes to nodes, they end with one
 pub Steps-end : {E : ℕ → ℕ → Type 0} {count n u v : ℕ} → ((a b : ℕ) → a < count → E a b → b < count) → u < count → Steps E n u v → v < count
@@ -53,29 +51,25 @@ Steps-between n h zero (suc j) zero e l = absurd (omega arith)
 Steps-between n h (suc i) j zero e l = absurd (omega arith)
 
 -- where 16 steps lead somewhere, some steps lead to a node to which others lead back, at most 16 in all
-pub SomeRounds-open : {E : ℕ → ℕ → Type 0} {count u : ℕ} → count ≤ 16 → ((a b : ℕ) → a < count → E a b → b < count) → u < count → Open E 16 u → (sum : ℕ) × (sum ≤ 16) × SomeRounds E sum u
-SomeRounds-open {E} {count} {u} few closed node (v, h) =
+pub SomeRounds-open : {E : ℕ → ℕ → Type 0} {count u : ℕ} → count ≤ 16 → ((a b : ℕ) → a < count → E a b → b < count) → u < count → Open E 16 u
+    → (sum : ℕ) × (sum ≤ 16) × SomeRounds E sum u
+SomeRounds-open {E} few closed node (v, h) =
     let (i, j, less, most, same) = twice_below 16 (after 16 h) (λ k l. let below = Steps-end closed node (Steps-between 16 h 0 k k (omega arith) l) in omega arith) in
     let there : i + (j - i) ≡ j = omega arith in
-    let round = Steps-between 16 h i (j - i) j there most in
-    (j, most, (i, j - i, there, omega arith, (after 16 h i, Steps-between 16 h 0 i i (omega arith) (omega arith), subst (Steps E (j - i) (after 16 h i)) (sym same) round)))
+    (j, most, (i, j - i, there, omega arith, (after 16 h i, Steps-between 16 h 0 i i (omega arith) (omega arith), subst (Steps E (j - i) (after 16 h i)) (sym same) (Steps-between 16 h i (j - i) j there most))))
 
 -- steps that lead from a node back to it lead round as often as one likes
 Steps-round : {E : ℕ → ℕ → Type 0} {on v : ℕ} → Steps E on v v → (n : ℕ) → Steps E (n * on) v v
 Steps-round {E} {on} {v} h zero = subst (λ m. Steps E m v v) (sym (zero-mul on)) (Steps-none refl)
-Steps-round {E} {on} {v} h (suc n) =
-    subst (λ m. Steps E m v v) (omega (arith, suc-mul n on)) (Steps-add on (n * on) h (Steps-round h n))
+Steps-round h (suc n) = grind (arith, suc-mul, Steps-add, Steps-round h n)
 
 -- where it goes round as often as one likes, any number of steps leads somewhere
 pub Open-rounds : (E : ℕ → ℕ → Type 0) (n on u : ℕ) → 1 ≤ on → Rounds E n on u → (b : ℕ) → Open E b u
 Open-rounds E n on u some (v, to, round) b =
     let many : b * 1 ≤ b * on = mul-le-mul_left b some in
-    let enough : b + (n + b * on - b) ≡ n + b * on = omega (arith, mul-one b) in
-    let (w, first, rest) = Steps-cut b (n + b * on - b) (subst (λ i. Steps E i u v) (sym enough) (Steps-add n (b * on) to (Steps-round round b))) in
+    let (w, first, rest) = Steps-cut b (n + b * on - b) (subst (λ i. Steps E i u v) (sym (omega arith)) (Steps-add n (b * on) to (Steps-round round b))) in
     (w, first)
 
 -- rounds of one side, whose sum is known, by their number
 pub exact_rounds : (E : ℕ → ℕ → Type 0) (n m on sum v : ℕ) → n ≡ m → n + on ≡ sum → Rounds E n on v → Rounds E m (sum - m) v
-exact_rounds E n m on sum v same both h =
-    let rest : on ≡ sum - m = omega arith in
-    subst (λ k. Rounds E m k v) rest (subst (λ k. Rounds E k on v) same h)
+exact_rounds E n m on sum v same both h = grind arith

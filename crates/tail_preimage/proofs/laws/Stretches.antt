@@ -31,9 +31,7 @@ drop-more w n inside = grind (arith, drop-first)
 -- copies of copies
 pub repeat-repeat : {X : Type 0} (m n : ℕ) (x : List X) → repeat m (repeat n x) ≡ repeat (m * n) x
 repeat-repeat zero n x = ap (λ i. repeat i x) (sym (zero-mul n))
-repeat-repeat (suc m) n x =
-    let next : n + m * n ≡ suc m * n = omega (arith, suc-mul m n) in
-    ap (λ y. repeat n x ++ y) (repeat-repeat m n x) ∙ sym (repeat-add n (m * n) x) ∙ ap (λ i. repeat i x) next
+repeat-repeat (suc m) n x = grind (arith, repeat-add, repeat-repeat m n x)
 
 -- copies of a word are a word
 pub IsWord-repeat : {k : ℕ} (x : List ℕ) → IsWord k x → (n : ℕ) → IsWord k (repeat n x)
@@ -45,8 +43,7 @@ abbrev pub stretch_length : TailConfig → ℕ → ℕ → ℕ
 stretch_length t b a = b * length t.left + length t.middle + a * length t.right
 
 pub length-stretch : (t : TailConfig) (b a : ℕ) → length (stretch t b a) ≡ stretch_length t b a
-length-stretch t b a =
-    omega (arith, length-append (repeat b t.left ++ t.middle) (repeat a t.right), length-append (repeat b t.left) t.middle, length-repeat b t.left, length-repeat a t.right)
+length-stretch t b a = grind (arith, length-append, length-repeat)
 
 -- the letters between b left periods and a right ones are a word
 pub IsWord-stretch : {k : ℕ} {t : TailConfig} → IsTail k t → (b a : ℕ) → IsWord k (stretch t b a)
@@ -55,13 +52,13 @@ IsWord-stretch {k} {t} h b a =
     (All-append (λ c. c < k) (repeat b t.left) t.middle (IsWord-repeat t.left h.left_word b) h.middle_word) (IsWord-repeat t.right h.right_word a)
 
 -- a run of n periods, each of which is w
-run-repeats : (x : Config) (i : ℤ) (n : ℕ) (w : List ℕ) → ((m : ℕ) → m < n → run x (i +ℤ pos (m * length w)) (length w) ≡ w) → run x i (n * length w) ≡ repeat n w
+run-repeats : (x : Config) (i : ℤ) (n : ℕ) (w : List ℕ) → ((m : ℕ) → m < n → run x (i +ℤ pos (m * length w)) (length w) ≡ w)
+    → run x i (n * length w) ≡ repeat n w
 run-repeats x i zero w each = ap (run x i) (zero-mul (length w))
 run-repeats x i (suc n) w each =
     let p : ℕ = length w in
-    let long : suc n * p ≡ n * p + p = omega (arith, suc-mul n p) in
     let next : n + 1 ≡ suc n = omega arith in
-    ap (run x i) long ∙ run-append x i (i +ℤ pos (n * p)) (n * p) p refl
+    ap (run x i) (omega arith) ∙ run-append x i (i +ℤ pos (n * p)) (n * p) p refl
     ∙ ap₂ (λ (u v : List ℕ). u ++ v) (run-repeats x i n w (λ m l. each m (omega arith))) (each n (omega arith)) ∙ sym (repeat-more n w) ∙ ap (λ m. repeat m w) next
 
 -- the place at which b left periods before place 0 begin
@@ -80,7 +77,8 @@ cells-lefts t b n i e = run-repeats (cell t) i n t.left (λ m l.
     ∙ cells-left t)
 
 -- n right periods from a periods after the middle on
-pub cells-rights : (t : TailConfig) (a n : ℕ) (i : ℤ) → i ≡ pos (length t.middle + a * length t.right) → cells t i (n * length t.right) ≡ repeat n t.right
+pub cells-rights : (t : TailConfig) (a n : ℕ) (i : ℤ) → i ≡ pos (length t.middle + a * length t.right)
+    → cells t i (n * length t.right) ≡ repeat n t.right
 cells-rights t a n i e = run-repeats (cell t) i n t.right (λ m l.
     let p : ℕ = length t.right in
     let start : ℤ = pos (length t.middle) in

@@ -1,6 +1,7 @@
 -- Walks: cut in two, joined, and one edge longer at either end.
-use Rattle.std.proofs.Common.{◌≡◌, ◌↔◌, ℕ, ◌+◌, ◌-◌, ◌<◌, List, [], ◌∷◌, ◌++◌, length, take, drop, get_or, refl, sym, ap, ap₂, ◌∙◌, subst, arith, length-append, length-drop, append_assoc, length-take-le, take_all, take_at, drop_at, take-take, drop-drop, take-append-drop, get_or-take, drop-cons}
-use Rattle.word_image.proofs.Common.{length_push, take-append-le, All-append, All-take, All-drop, LocalRule, IsRule, IsWord, value, word_of, node_count, node_letter, IsOrphan, next, label, IsEdge, value-injective, length-word_of, IsWord-word_of, value-word_of, IsPreimage-empty, IsPreimage-snoc, IsPreimage-push, image-take, image-drop, value-node, value-next, local_map-label}
+use Rattle.std.proofs.lemmas.Grind.{common_steps}
+use Rattle.std.proofs.Common.{◌≡◌, ◌↔◌, ℕ, ◌+◌, ◌-◌, ◌<◌, List, [], ◌∷◌, ◌++◌, length, take, drop, get_or, refl, sym, ap, ◌∙◌, subst, arith, append_assoc, length-take-le, take_all, take_at, take-append-drop, get_or-take, drop-cons}
+use Rattle.word_image.proofs.Common.{length_push, take-append-le, All-take, LocalRule, IsRule, IsWord, value, word_of, node_count, node_letter, IsOrphan, next, label, IsEdge, value-injective, length-word_of, IsWord-word_of, value-word_of, IsPreimage-snoc, IsPreimage-push, image-take, image-drop, value-node, value-next, local_map-label}
 use Rattle.word_image.specs.declared.side.Side.TheVariants.{Right}
 use Rattle.word_image.proofs.laws.LastNodes.{IsLastNode-below, last_edge}
 use Rattle.pair_laws.proofs.Common.{drop-join_more, image-join, same_node, value-cut}
@@ -8,8 +9,7 @@ use Rattle.tail_preimage.specs.Walks.{IsWalk, HasWalk, before_last}
 
 -- a walk begins with a node
 pub IsWalk-first : {r : LocalRule} {w x : List ℕ} {u v : ℕ} → IsWalk r w u v x → u < node_count r
-IsWalk-first {r} {x = x} h =
-    rw (← h.first) (value-node r (take (r.width - 1) x) (All-take (λ a. a < r.states) (r.width - 1) x h.preimage.word) (length-take-le (r.width - 1) x (omega arith)))
+IsWalk-first {x = x} h = grind (arith, common_steps, value-node)
 
 -- a walk ends with a node
 pub IsWalk-last : {r : LocalRule} {w x : List ℕ} {u v : ℕ} → IsWalk r w u v x → v < node_count r
@@ -24,36 +24,16 @@ same_first {r} {x = x} {y = y} h g =
 
 -- the letters of a node are a walk of no edge
 pub IsWalk-none : (r : LocalRule) (u : ℕ) → u < node_count r → IsWalk r [] u u (word_of r.states (r.width - 1) u)
-IsWalk-none r u l =
-    let x : List ℕ = word_of r.states (r.width - 1) u in
-    let long : length x ≡ r.width - 1 = length-word_of r.states (r.width - 1) u in
-    record {
-      preimage = IsPreimage-empty r x (IsWord-word_of r.states (r.width - 1) u l) long;
-      first = ap (value r.states) (take_all (r.width - 1) x (omega arith)) ∙ value-word_of r.states (r.width - 1) u l;
-      last = value-word_of r.states (r.width - 1) u l;
-    }
+IsWalk-none r u l = grind (arith, length-word_of, take_all, value-word_of, IsWord-word_of)
 
 -- a walk of no edge stays at its node
 pub IsWalk-stays : {r : LocalRule} {u v : ℕ} {x : List ℕ} → IsWalk r [] u v x → u ≡ v
-IsWalk-stays {r} {x = x} h =
-    sym h.first ∙ ap (value r.states) (take_all (r.width - 1) x (omega arith)) ∙ h.last
+IsWalk-stays {x = x} h = grind (arith, take_all)
 
 -- a walk that ends where another begins goes on as that one
-pub IsWalk-join : {r : LocalRule} {u v s : ℕ} {w z x y : List ℕ} → IsRule r → IsWalk r w u v x → IsWalk r z v s y → IsWalk r (w ++ z) u s (x ++ drop (r.width - 1) y)
-IsWalk-join {r} {w = w} {z = z} {x = x} {y = y} rule h g =
-    let d : ℕ = r.width - 1 in
-    let long_x : length x ≡ length w + d = h.preimage.long in
-    let seam : drop (length w) x ≡ take d y = same_node r.states (length w) d x y h.preimage.word g.preimage.word long_x (omega arith) (h.last ∙ sym g.first) in
-    record {
-      preimage = record {
-        word = All-append (λ a. a < r.states) x (drop d y) h.preimage.word (All-drop (λ a. a < r.states) d y g.preimage.word);
-        long = omega (arith, length-append x (drop d y), length-drop d y, length-append w z);
-        maps = image-join rule (length w) x y long_x seam ∙ ap₂ (λ (a b : List ℕ). a ++ b) h.preimage.maps g.preimage.maps;
-      };
-      first = ap (value r.states) (take-append-le d x (drop d y) (omega arith)) ∙ h.first;
-      last = ap (λ n. value r.states (drop n (x ++ drop d y))) (length-append w z)
-          ∙ ap (value r.states) (drop-join_more (length w) (length z) d x y long_x seam) ∙ g.last;
-    }
+pub IsWalk-join : {r : LocalRule} {u v s : ℕ} {w z x y : List ℕ} → IsRule r → IsWalk r w u v x → IsWalk r z v s y
+    → IsWalk r (w ++ z) u s (x ++ drop (r.width - 1) y)
+IsWalk-join {w = w} {z = z} {x = x} {y = y} rule h g = grind (arith, common_steps, same_node, image-join, drop-join_more)
 
 -- before its last node a walk has a letter for each edge
 pub length-before_last : {r : LocalRule} {w x : List ℕ} {u v : ℕ} → IsWalk r w u v x → length (before_last r x) ≡ length w
@@ -64,19 +44,20 @@ pub IsWord-before_last : {r : LocalRule} {w x : List ℕ} {u v : ℕ} → IsWalk
 IsWord-before_last {r} {x = x} h = All-take (λ a. a < r.states) (length x - (r.width - 1)) x h.preimage.word
 
 -- a joined walk is the letters of the first before its last node, and the second
-pub join-before_last : {r : LocalRule} {u v s : ℕ} {w z x y : List ℕ} → IsWalk r w u v x → IsWalk r z v s y → x ++ drop (r.width - 1) y ≡ before_last r x ++ y
+pub join-before_last : {r : LocalRule} {u v s : ℕ} {w z x y : List ℕ} → IsWalk r w u v x → IsWalk r z v s y
+    → x ++ drop (r.width - 1) y ≡ before_last r x ++ y
 join-before_last {r} {w = w} {z = z} {x = x} {y = y} h g =
     let d : ℕ = r.width - 1 in
     let long_x : length x ≡ length w + d = h.preimage.long in
-    let here : length x - d ≡ length w = omega arith in
     let seam : drop (length x - d) x ≡ take d y =
-    ap (λ n. drop n x) here ∙ same_node r.states (length w) d x y h.preimage.word g.preimage.word long_x (omega arith) (h.last ∙ sym g.first) in
+    ap (λ n. drop n x) (omega arith) ∙ same_node r.states (length w) d x y h.preimage.word g.preimage.word long_x (omega arith) (h.last ∙ sym g.first) in
     ap (λ a. a ++ drop d y) (sym (take-append-drop (length x - d) x))
     ∙ append_assoc (before_last r x) (drop (length x - d) x) (drop d y)
     ∙ ap (λ a. before_last r x ++ a) (ap (λ a. a ++ drop d y) seam ∙ take-append-drop d y)
 
 -- a walk to a node and a walk from it on are joined into one
-pub IsWalk-then : {r : LocalRule} {u v s : ℕ} {w z x y : List ℕ} → IsRule r → IsWalk r w u v x → IsWalk r z v s y → IsWalk r (w ++ z) u s (before_last r x ++ y)
+pub IsWalk-then : {r : LocalRule} {u v s : ℕ} {w z x y : List ℕ} → IsRule r → IsWalk r w u v x → IsWalk r z v s y
+    → IsWalk r (w ++ z) u s (before_last r x ++ y)
 IsWalk-then {r} {u} {s = s} {w = w} {z = z} rule h g = subst (IsWalk r (w ++ z) u s) (join-before_last h g) (IsWalk-join rule h g)
 
 -- a walk of two words in a row is one of each
@@ -86,35 +67,11 @@ pub record IsCutWalk (r : LocalRule) (w z : List ℕ) (u s : ℕ) (x : List ℕ)
   pub after : IsWalk r z node s (drop (length w) x)
 
 pub IsWalk-cut : {r : LocalRule} {u s : ℕ} {x : List ℕ} → IsRule r → (w z : List ℕ) → IsWalk r (w ++ z) u s x → IsCutWalk r w z u s x
-IsWalk-cut {r} {x = x} rule w z h =
-    let d : ℕ = r.width - 1 in
-    let n : ℕ = length w in
-    let long : length x ≡ n + length z + d = h.preimage.long ∙ ap (λ i. i + d) (length-append w z) in
-    let back : n + d - d ≡ n = omega arith in
-    record {
-      node = value r.states (take d (drop n x));
-      before = record {
-        preimage = record {
-          word = All-take (λ a. a < r.states) (n + d) x h.preimage.word;
-          long = length-take-le (n + d) x (omega arith);
-          maps = image-take rule (n + d) x ∙ ap₂ (λ (i : ℕ) (y : List ℕ). take i y) back h.preimage.maps ∙ take_at w z n refl;
-        };
-        first = ap (value r.states) (take-take d (n + d) x (omega arith)) ∙ h.first;
-        last = value-cut r.states d n x;
-      };
-      after = record {
-        preimage = record {
-          word = All-drop (λ a. a < r.states) n x h.preimage.word;
-          long = omega (arith, length-drop n x);
-          maps = image-drop r n x ∙ ap (drop n) h.preimage.maps ∙ drop_at w z n refl;
-        };
-        first = refl;
-        last = ap (value r.states) (drop-drop (length z) n x) ∙ ap (λ i. value r.states (drop i x)) (sym (length-append w z)) ∙ h.last;
-      };
-    }
+IsWalk-cut {x = x} rule w z h = grind (arith, common_steps, image-take, value-cut, image-drop)
 
 -- a walk goes on along an edge
-pub IsWalk-push : {r : LocalRule} {u v : ℕ} {w x : List ℕ} → IsRule r → IsWalk r w u v x → (a b : ℕ) → b < r.states → label r v b ≡ a → IsWalk r (w ++ a ∷ []) u (next r v b) (x ++ b ∷ [])
+pub IsWalk-push : {r : LocalRule} {u v : ℕ} {w x : List ℕ} → IsRule r → IsWalk r w u v x → (a b : ℕ) → b < r.states → label r v b ≡ a
+    → IsWalk r (w ++ a ∷ []) u (next r v b) (x ++ b ∷ [])
 IsWalk-push {r} {w = w} {x = x} rule h a b l e =
     record {
       preimage = IsPreimage-push rule h.preimage a b l (local_map-label r (drop (length w) x) b ∙ ap (λ n. label r n b) h.last ∙ e);
@@ -132,7 +89,8 @@ IsWalk-letter {r} {x = x} {u = u} rule h =
     drop-cons x 0 0 (omega arith) ∙ ap (λ a. a ∷ drop 1 x) first
 
 -- an edge, and then a walk from its end
-pub IsWalk-cons : {r : LocalRule} {w x : List ℕ} {a u v s : ℕ} → IsRule r → u < node_count r → IsEdge Right r a u v → IsWalk r w v s x → IsWalk r (a ∷ w) u s (node_letter r u 0 ∷ x)
+pub IsWalk-cons : {r : LocalRule} {w x : List ℕ} {a u v s : ℕ} → IsRule r → u < node_count r → IsEdge Right r a u v → IsWalk r w v s x
+    → IsWalk r (a ∷ w) u s (node_letter r u 0 ∷ x)
 IsWalk-cons {r} {w} {x} {a} {u} {s = s} rule l (b, letter, (spells, leads)) h =
     let edge = IsWalk-push rule (IsWalk-none r u l) a b letter spells in
     let y : List ℕ = word_of r.states (r.width - 1) u ++ b ∷ [] in
@@ -140,18 +98,18 @@ IsWalk-cons {r} {w} {x} {a} {u} {s = s} rule l (b, letter, (spells, leads)) h =
     subst (λ z. IsWalk r (a ∷ w) u s (z ++ x)) (ap (λ n. take n y) one ∙ ap (take 1) (IsWalk-letter rule edge)) (IsWalk-then rule edge (subst (λ n. IsWalk r w n s x) (sym leads) h))
 
 -- the first edge of a walk, and the walk after it
-pub IsWalk-uncons : {r : LocalRule} {u s : ℕ} {x : List ℕ} → IsRule r → (a : ℕ) (w : List ℕ) → IsWalk r (a ∷ w) u s x → (v : ℕ) × IsEdge Right r a u v × IsWalk r w v s (drop 1 x)
-IsWalk-uncons {r} {u} {x = x} rule a w h =
+pub IsWalk-uncons : {r : LocalRule} {u s : ℕ} {x : List ℕ} → IsRule r → (a : ℕ) (w : List ℕ) → IsWalk r (a ∷ w) u s x
+    → (v : ℕ) × IsEdge Right r a u v × IsWalk r w v s (drop 1 x)
+IsWalk-uncons {r} {x = x} rule a w h =
     let d : ℕ = r.width - 1 in
     let cut = IsWalk-cut rule (a ∷ []) w h in
     let p = IsPreimage-snoc rule [] a (take (1 + d) x) cut.before.preimage in
     let (spells, leads) = last_edge rule [] a (take (1 + d) x) p in
-    let here : value r.states p.before ≡ u =
-    ap (value r.states) (sym (take_at p.before (p.letter ∷ []) d (omega (arith, p.preimage.long)))) ∙ ap (λ y. value r.states (take d y)) (sym p.splits) ∙ cut.before.first in
-    (cut.node, (p.letter, p.within, (ap (λ n. label r n p.letter) (sym here) ∙ spells, ap (λ n. next r n p.letter) (sym here) ∙ leads ∙ cut.before.last)), cut.after)
+    grind (arith, take_at)
 
 -- from a node a word leads on after an edge with its first letter, and only so
-pub HasWalk-cons : {r : LocalRule} → IsRule r → (a : ℕ) (w : List ℕ) (u s : ℕ) → u < node_count r → HasWalk r (a ∷ w) u s ↔ ((v : ℕ) × (v < node_count r) × IsEdge Right r a u v × HasWalk r w v s)
+pub HasWalk-cons : {r : LocalRule} → IsRule r → (a : ℕ) (w : List ℕ) (u s : ℕ) → u < node_count r
+    → HasWalk r (a ∷ w) u s ↔ ((v : ℕ) × (v < node_count r) × IsEdge Right r a u v × HasWalk r w v s)
 HasWalk-cons {r} rule a w u s l = (
   (λ (x, h). let (v, edge, rest) = IsWalk-uncons rule a w h in (v, IsWalk-first rest, edge, (drop 1 x, rest))),
   (λ (v, node, edge, (y, rest)). (_, IsWalk-cons rule l edge rest)),

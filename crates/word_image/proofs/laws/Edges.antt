@@ -1,8 +1,8 @@
 -- Rows of edges, one edge more at a time.
-use Rattle.std.proofs.Common.{◌≡◌, ℕ, ◌+◌, ◌*◌, ◌/◌, ◌%◌, ◌^◌, ◌<◌, ◌↔◌, List, [], length, replicate, IsBitSet, bit_or, slice_index, slice_index_or, slice_set, sym, ap, ap₂, ◌∙◌, subst, subst₂, arith, ⊎_elim, mod-lt, length-set}
+use Rattle.std.proofs.Common.{◌≡◌, ℕ, ◌+◌, ◌*◌, ◌/◌, ◌%◌, ◌^◌, ◌<◌, List, [], length, replicate, bit_or, slice_index, slice_index_or, slice_set, sym, ap, ap₂, ◌∙◌, subst, arith, ⊎_elim, length-set, rules}
 use Rattle.std.proofs.lemmas.Bool.{cases_eq}
 use Rattle.std.proofs.lemmas.List.{get_or-replicate, length-replicate}
-use Rattle.std.proofs.lemmas.Nat.{div-mul-add, mod-mul-add, div_below, mul-add-lt}
+use Rattle.std.proofs.lemmas.Nat.{div-mul-add, mod-mul-add}
 use Rattle.std.proofs.Math.Pow.{pow-lt}
 use Rattle.word_image.specs.LocalRules.{LocalRule, IsRule, node_count}
 use Rattle.word_image.specs.Ends.{window_with, label_at, end_at}
@@ -11,7 +11,7 @@ use Rattle.word_image.specs.declared.side.Side.{Side}
 use Rattle.word_image.proofs.laws.Places.{at-set}
 use Rattle.word_image.proofs.laws.Bits.{IsBitSet-pow, IsBitSet-some}
 use Rattle.word_image.proofs.laws.Unions.{IsUnion, IsUnion-none, IsUnion-skip, IsUnion-take}
-use Rattle.word_image.proofs.laws.WindowParts.{some_letter, window_with-within, end_node-below}
+use Rattle.word_image.proofs.laws.WindowParts.{window_with-within, end_node-below}
 
 -- node by node and letter by letter, edge i leads from node u to node v with this label
 abbrev pub IsEdgeAt : Side → LocalRule → ℕ → ℕ → ℕ → ℕ → Type 0
@@ -39,66 +39,52 @@ abbrev pub with_ends : List (List ℕ) → ℕ → ℕ → ℕ → List (List �
 with_ends rows i j set = slice_set rows i (slice_set (slice_index_or rows i []) j (bit_or (slice_index (slice_index_or rows i []) j) set))
 
 -- the rows with one edge more
-pub HaveEdges-more : {side : Side} {r : LocalRule} {w a : ℕ} {rows : List (List ℕ)} → IsRule r → w < node_count r → a < r.states → HaveEdges side r (w * r.states + a) rows → (i j set : ℕ)
-    → i ≡ label_at side r w a → j ≡ w → set ≡ 2 ^ end_at side r w a → i < 16 → j < 16 → HaveEdges side r (w * r.states + a + 1) (with_ends rows i j set)
+pub HaveEdges-more : {side : Side} {r : LocalRule} {w a : ℕ} {rows : List (List ℕ)} → IsRule r → w < node_count r → a < r.states
+    → HaveEdges side r (w * r.states + a) rows → (i j set : ℕ)
+    → i ≡ label_at side r w a → j ≡ w → set ≡ 2 ^ end_at side r w a → i < 16 → j < 16
+    → HaveEdges side r (w * r.states + a + 1) (with_ends rows i j set)
 HaveEdges-more {side} {r} {w} {a} {rows} rule node letter h i j set labelled leaves arrives in_i in_j =
     let n = w * r.states + a in
     let row = slice_index_or rows i [] in
     let changed = slice_set row j (bit_or (slice_index row j) set) in
     let from = div-mul-add w r.states a letter in
     let by = mod-mul-add w r.states a letter in
-    let to : end_at side r (n / r.states) (n % r.states) ≡ end_at side r w a = ap₂ (end_at side r) from by in
     let below = end_node-below side rule (window_with side r w a) (window_with-within side rule w a node letter) in
     record {
       tall = length-set rows i changed ∙ h.tall;
-      wide = λ label inside. at-set (λ _ l. length l ≡ 16) rows i [] changed (omega (arith, h.tall)) label (λ _. h.wide label inside)
-          (length-set row j (bit_or (slice_index row j) set) ∙ h.wide i in_i);
-      ends = λ label u inside small. at-set (λ l s. IsUnion (node_count r) (IsEdgeAt side r l u) (n + 1) (slice_index s u)) rows i [] changed (omega (arith, h.tall)) label
+      wide = λ label inside. search rules;
+      ends = λ label u inside small. at-set (λ l s. IsUnion (node_count r) (IsEdgeAt side r l u) (n + 1) (slice_index s u)) rows i [] changed (omega arith) label
           (λ differs. IsUnion-skip (h.ends label u inside small) (λ v edge. differs (sym edge.0 ∙ ap₂ (label_at side r) from by ∙ sym labelled)))
-          (at-set (λ x s. IsUnion (node_count r) (IsEdgeAt side r i x) (n + 1) s) row j 0 (bit_or (slice_index row j) set) (omega (arith, h.wide i in_i)) u
+          (at-set (λ x s. IsUnion (node_count r) (IsEdgeAt side r i x) (n + 1) s) row j 0 (bit_or (slice_index row j) set) (omega arith) u
           (λ differs. IsUnion-skip (h.ends i u in_i small) (λ v edge. differs (sym edge.1 ∙ from ∙ sym leaves)))
-          (IsUnion-take (h.ends i j in_i in_j) (subst (λ s. s < 2 ^ node_count r) (sym arrives) (pow-lt below)) (λ v within.
-          let bit = subst (λ s. IsBitSet s v ↔ (v ≡ end_at side r w a)) (sym arrives) (IsBitSet-pow (end_at side r w a) v) in (
-            (λ some. (ap₂ (label_at side r) from by ∙ sym labelled, from ∙ sym leaves, to ∙ sym (bit.0 some))),
-            (λ edge. bit.1 (sym edge.2 ∙ to)),
-          ))));
+          (IsUnion-take (h.ends i j in_i in_j) (subst (λ s. s < 2 ^ node_count r) (sym arrives) (pow-lt below)) (grind (arith, IsBitSet-pow))));
     }
 
 -- the edges of all nodes
-pub AreEdgeRows-all : {side : Side} {r : LocalRule} {rows : List (List ℕ)} → IsRule r → HaveEdges side r (node_count r * r.states) rows → AreEdgeRows side r rows
+pub AreEdgeRows-all : {side : Side} {r : LocalRule} {rows : List (List ℕ)} → IsRule r → HaveEdges side r (node_count r * r.states) rows
+    → AreEdgeRows side r rows
 AreEdgeRows-all {side} {r} {rows} rule h = record {
   ends = λ label u below node.
-      let union = h.ends label u below (omega (arith, rule.shape.most_nodes)) in
       record {
-        within = union.within;
+        within = (h.ends label u below (omega arith)).within;
         nodes = λ v inside. (
-          (λ some.
-              let (i, less, (labelled, leaves, arrives)) = (union.nodes v inside).0 some in
-              let a = i % r.states in
-              (a, mod-lt i (some_letter rule), (ap (λ x. label_at side r x a) (sym leaves) ∙ labelled, ap (λ x. end_at side r x a) (sym leaves) ∙ arrives))),
+          grind arith,
           (λ (a, letter, (labelled, arrives)).
               let from = div-mul-add u r.states a letter in
-              let by = mod-mul-add u r.states a letter in
-              (union.nodes v inside).1 (
-                u * r.states + a,
-                omega (arith, mul-add-lt u r.states a (node_count r) node letter),
-                (ap₂ (label_at side r) from by ∙ labelled, from, ap₂ (end_at side r) from by ∙ arrives),
-              )),
+              grind (arith, mod-mul-add)),
         );
       };
   past = λ label u below small more.
-      let union = h.ends label u below small in
       ⊎_elim
       (λ empty. empty)
       (λ some.
-      let (v, node, bit) = IsBitSet-some (node_count r) (ends_at rows label u) union.within some in
-      let (i, less, edge) = (union.nodes v node).0 bit in
-      absurd (omega (arith, div_below i r.states (node_count r) (some_letter rule) less, edge.1)))
+      let (v, node, bit) = IsBitSet-some (node_count r) (ends_at rows label u) (h.ends label u below small).within some in
+      grind arith)
       (cases_eq (ends_at rows label u) 0);
 }
 
 -- the ends of a node's edges, by a label below k
-pub AreEdgeRows-ends : {side : Side} {r : LocalRule} {rows : List (List ℕ)} → IsRule r → AreEdgeRows side r rows → (label u i j : ℕ) → label < r.states → u < node_count r → i ≡ label → j ≡ u
+pub AreEdgeRows-ends : {side : Side} {r : LocalRule} {rows : List (List ℕ)} → IsRule r → AreEdgeRows side r rows → (label u i j : ℕ)
+    → label < r.states → u < node_count r → i ≡ label → j ≡ u
     → IsEnds side r u label (ends_at rows i j)
-AreEdgeRows-ends {side} {r} {rows} rule h label u i j letter node at_label at_node =
-    subst₂ (λ x y. IsEnds side r u label (ends_at rows x y)) (sym at_label) (sym at_node) (h.ends label u (omega (arith, rule.shape.most_states, letter)) node)
+AreEdgeRows-ends rule h label u i j letter node at_label at_node = grind arith

@@ -1,5 +1,6 @@
 -- The de Bruijn graph of a rule read on words: nodes are ends of words, edges are windows.
-use Rattle.std.proofs.Common.{◌≡◌, ℕ, ◌+◌, ◌-◌, ◌*◌, ◌/◌, ◌%◌, ◌^◌, ◌<◌, ◌≤◌, List, [], ◌∷◌, ◌++◌, length, take, drop, get_or, slice_index, sym, ap, ◌∙◌, subst, arith, length-drop, mod-lt, mul-pos, mul-le-mul, drop-drop, take_all}
+use Rattle.std.proofs.lemmas.Grind.{common_steps}
+use Rattle.std.proofs.Common.{◌≡◌, ℕ, ◌+◌, ◌-◌, ◌*◌, ◌/◌, ◌%◌, ◌^◌, ◌<◌, ◌≤◌, List, [], ◌∷◌, ◌++◌, length, take, drop, slice_index, sym, ap, ◌∙◌, subst, arith, length-drop, mod-lt, mul-pos, mul-le-mul, drop-drop}
 use Rattle.std.proofs.Math.Nat.{one-le-pow}
 use Rattle.std.proofs.lemmas.Nat.{div-mul-add}
 use Rattle.std.proofs.lemmas.List.{drop-append-le, length_push}
@@ -30,25 +31,21 @@ value-node r z h e = subst (λ n. value r.states z < r.states ^ n) e (value-belo
 
 -- the value of a word without its last letter
 pub value-front : (k d : ℕ) (y : List ℕ) → IsWord k y → length y ≡ d + 1 → value k (take d y) ≡ value k y / k
-value-front k d y h e =
-    sym (ap (λ v. v / k) (sym (ap (value k) (take_all (d + 1) y (omega arith))) ∙ value-take_more k y d (omega arith))
-    ∙ div-mul-add (value k (take d y)) k (get_or y d 0) (h d 0 (omega arith)))
+value-front k d y h e = grind (arith, common_steps, value-take_more, div-mul-add)
 
 -- the value of a word without its first letter
 pub value-tail : (k d : ℕ) (y : List ℕ) → IsWord k y → length y ≡ d + 1 → value k (drop 1 y) ≡ value k y % k ^ d
 value-tail k d y h e =
-    let long : length y - 1 ≡ d = omega arith in
-    value-drop k 1 y h (omega arith) ∙ ap (λ n. value k y % k ^ n) long
+    value-drop k 1 y h (omega arith) ∙ ap (λ n. value k y % k ^ n) (omega arith)
 
 -- where one more letter leads from the last node of a word
 pub value-next : {r : LocalRule} → IsRule r → (n : ℕ) (x : List ℕ) (b : ℕ) → IsWord r.states x → length x ≡ n + (r.width - 1) → b < r.states
     → value r.states (drop (n + 1) (x ++ b ∷ [])) ≡ next r (value r.states (drop n x)) b
 value-next {r} rule n x b h e l =
     let word = All-push (λ a. a < r.states) (drop n x) b (All-drop (λ a. a < r.states) n x h) l in
-    let long : length (drop n x ++ b ∷ []) ≡ r.width - 1 + 1 = omega (arith, length_push (drop n x) b, length-drop n x) in
     ap (value r.states) (sym (drop-drop 1 n (x ++ b ∷ [])))
     ∙ ap (λ z. value r.states (drop 1 z)) (drop-append-le n x (b ∷ []) (omega arith))
-    ∙ value-tail r.states (r.width - 1) (drop n x ++ b ∷ []) word long
+    ∙ value-tail r.states (r.width - 1) (drop n x ++ b ∷ []) word (omega (arith, length_push (drop n x) b, length-drop n x))
     ∙ ap (λ v. v % node_count r) (value-snoc r.states (drop n x) b)
 
 -- the label of that edge is what the rule gives on its window

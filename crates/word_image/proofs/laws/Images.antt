@@ -1,9 +1,8 @@
 -- Images of parts of a word, and of a word that is read backwards.
-use Rattle.std.proofs.Common.{◌≡◌, ℕ, ◌+◌, ◌-◌, ◌^◌, ◌<◌, List, length, take, drop, reverse, get_or, slice_index, slice_range, ℤ, pos, ◌+ℤ◌, neg_ℤ, sym, ap, ap₂, subst, ◌∙◌, arith, length-drop, length-take-le, get_or-drop, drop-drop}
-use Rattle.std.specs.List.{range_with_len}
+use Rattle.std.proofs.Common.{◌≡◌, ℕ, ◌+◌, ◌-◌, ◌^◌, ◌<◌, List, length, take, drop, reverse, get_or, slice_index, slice_range, ℤ, pos, ◌+ℤ◌, neg_ℤ, sym, ap, ap₂, subst, ◌∙◌, arith, length-drop, length-take-le, get_or-drop, drop-drop, rules}
 use Rattle.std.proofs.lemmas.List.{length-reverse, reverse-reverse, get_or-reverse, drop-take}
 use Rattle.std.proofs.lemmas.List.FromFn.{length-map-range_with_len, get_or-map-range_with_len, fill_by_all}
-use Rattle.std.proofs.lemmas.List.Elements.{All-take, All-drop, All-map, All-from_get_or}
+use Rattle.std.proofs.lemmas.List.Elements.{All-take, All-drop, All-map}
 use Rattle.std.proofs.lemmas.Int.{ints}
 use Rattle.std.proofs.Math.IntN.{neg_ℤ-+ℤ, neg_ℤ-neg_ℤ, +ℤ-neg_ℤ_cancel}
 use Rattle.word_image.specs.LocalRules.{LocalRule, IsRule, IsWord, value, word_of, local_map, mirrored}
@@ -11,7 +10,6 @@ use Rattle.word_image.specs.Words.{image}
 use Rattle.word_image.proofs.laws.Values.{value-below, word_of-value, length-word_of, IsWord-word_of, value-word_of}
 use Rattle.word_image.proofs.laws.Lists.{reverse-cut}
 use Rattle.word_image.proofs.laws.Words.{length-image, get_or-image, image-by_letters, entry-below}
-use Rattle.word_image.proofs.laws.RuleFaults.{IsShape-offset}
 
 -- the image of a word without its first n letters is the image without its first n letters
 pub image-drop : (r : LocalRule) (n : ℕ) (x : List ℕ) → image r (drop n x) ≡ drop n (image r x)
@@ -25,9 +23,7 @@ image-drop r n x =
 
 -- a word read backwards is a word
 pub IsWord-reverse : (k : ℕ) (x : List ℕ) → IsWord k x → IsWord k (reverse x)
-IsWord-reverse k x h = All-from_get_or (λ a. a < k) (reverse x) 0 (λ i l.
-    let within : i < length x = omega (arith, length-reverse x) in
-    subst (λ a. a < k) (sym (get_or-reverse x i 0 within)) (h (length x - 1 - i) 0 (omega arith)))
+IsWord-reverse k x h = grind (arith, length-reverse, get_or-reverse)
 
 -- what stands between two places of a list, in the list that is read backwards
 pub slice_range-reverse : (x : List ℕ) (i j n : ℕ) → i + n + j ≡ length x → reverse (slice_range (reverse x) i (i + n)) ≡ slice_range x j (j + n)
@@ -66,13 +62,7 @@ image-mirrored {r} rule x h =
 
 -- the mirrored rule of an accepted rule is accepted
 pub IsRule-mirrored : {r : LocalRule} → IsRule r → IsRule (mirrored r)
-IsRule-mirrored {r} rule =
-    let shape = rule.shape in
-    record {
-      shape = IsShape-offset _ shape (grind (arith, ints)) (grind (arith, ints));
-      entries = length-map-range_with_len (λ v. local_map r (reverse (word_of r.states r.width v))) 0 (r.states ^ r.width);
-      letters = All-map (λ a. a < r.states) (λ v. local_map r (reverse (word_of r.states r.width v))) (range_with_len 0 (r.states ^ r.width)) (λ i d l. entry-below rule _);
-    }
+IsRule-mirrored rule = search (rules, ints, length-map-range_with_len, entry-below, All-map)
 
 -- mirrored twice, a rule is itself
 pub mirrored-mirrored : {r : LocalRule} → IsRule r → mirrored (mirrored r) ≡ r

@@ -1,7 +1,7 @@
 -- The last nodes of the preimages of a word, one letter at a time.
-use Rattle.std.proofs.Common.{◌≡◌, ℕ, ◌-◌, ◌<◌, List, [], ◌∷◌, ◌++◌, length, drop, refl, sym, ap, ◌∙◌, arith, length-drop}
+use Rattle.std.proofs.lemmas.Grind.{common_steps}
+use Rattle.std.proofs.Common.{◌≡◌, ℕ, ◌-◌, ◌<◌, List, [], ◌∷◌, ◌++◌, length, drop, refl, ap, ◌∙◌, arith}
 use Rattle.std.proofs.lemmas.List.{length_push}
-use Rattle.std.proofs.lemmas.List.Elements.{All-drop}
 use Rattle.word_image.specs.LocalRules.{LocalRule, IsRule, value, word_of, node_count}
 use Rattle.word_image.specs.Words.{IsPreimage}
 use Rattle.word_image.specs.Graphs.{next, label}
@@ -27,8 +27,7 @@ IsLastNode-preimage {r} {w} {x} p = record { x = x; preimage = p; last = refl }
 
 -- a last node is a node
 pub IsLastNode-below : {r : LocalRule} {w : List ℕ} {u : ℕ} → IsLastNode r w u → u < node_count r
-IsLastNode-below {r} {w} h =
-    rw (← h.last) (value-node r _ (All-drop (λ a. a < r.states) (length w) h.x h.preimage.word) (rw (length-drop) (omega arith)))
+IsLastNode-below h = grind (arith, common_steps, value-node)
 
 -- an edge with label a leads from a last node of w to a last node of w a
 pub IsLastNode-push : {r : LocalRule} {w : List ℕ} {u a v : ℕ} → IsRule r → IsLastNode r w u → IsEdge Right r a u v → IsLastNode r (w ++ a ∷ []) v
@@ -42,12 +41,7 @@ IsLastNode-push {r} {w} {u} {a} rule h (b, l, (e, f)) =
 -- the last letter of a preimage of w a goes along an edge with label a to its last node
 pub last_edge : {r : LocalRule} → IsRule r → (w : List ℕ) (a : ℕ) (x : List ℕ) → (p : IsLongerPreimage r w a x) → let u = value r.states (drop (length w) p.before) in
     (label r u p.letter ≡ a) × (next r u p.letter ≡ value r.states (drop (length (w ++ a ∷ [])) x))
-last_edge {r} rule w a x p = (
-  sym (local_map-label r (drop (length w) p.before) p.letter) ∙ p.gives,
-  sym (value-next rule (length w) p.before p.letter p.preimage.word p.preimage.long p.within)
-      ∙ ap (λ n. value r.states (drop n (p.before ++ p.letter ∷ []))) (sym (length_push w a))
-      ∙ ap (λ y. value r.states (drop (length (w ++ a ∷ [])) y)) (sym p.splits),
-)
+last_edge rule w a x p = grind (arith, local_map-label, value-next, length_push)
 
 -- a last node of w a is reached from a last node of w by an edge with label a
 pub IsLastNode-snoc : {r : LocalRule} → IsRule r → (w : List ℕ) (a v : ℕ) → IsLastNode r (w ++ a ∷ []) v

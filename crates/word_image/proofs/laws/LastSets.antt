@@ -1,7 +1,7 @@
 -- Sets of last nodes, step by step, and what they say of preimages.
 use Rattle.std.proofs.Common.{◌≡◌, ℕ, ◌<◌, List, [], ◌∷◌, ◌++◌, length, drop, arith, IsBitSet, pow_pos}
 use Rattle.std.proofs.lemmas.Nat.Bits.{bit_at_ones}
-use Rattle.std.proofs.lemmas.List.Elements.{All-nil, All-push}
+use Rattle.std.proofs.lemmas.List.Elements.{All-push}
 use Rattle.word_image.specs.LocalRules.{LocalRule, IsRule, value, node_count}
 use Rattle.word_image.specs.Words.{IsPreimage, IsOrphan, IsSurjective}
 use Rattle.word_image.specs.Graphs.{full_set}
@@ -16,17 +16,11 @@ IsBitSet-full r u l = (bit_at-IsBitSet (full_set r) u).1 (bit_at_ones (node_coun
 
 -- every node is a last node of the empty word
 pub IsLastSet-full : (r : LocalRule) → IsLastSet r [] (full_set r)
-IsLastSet-full r =
-    record {
-      word = All-nil (λ a. a < r.states);
-      last = record {
-        within = omega (arith, pow_pos (node_count r));
-        nodes = λ u l. ((λ _. IsLastNode-empty r u l), (λ _. IsBitSet-full r u l));
-      };
-    }
+IsLastSet-full r = grind (arith, pow_pos, IsLastNode-empty, IsBitSet-full)
 
 -- a step leads from the last nodes of w to those of w a
-pub IsLastSet-step : {r : LocalRule} {w : List ℕ} {set a after : ℕ} → IsRule r → IsLastSet r w set → a < r.states → IsStep r set a after → IsLastSet r (w ++ a ∷ []) after
+pub IsLastSet-step : {r : LocalRule} {w : List ℕ} {set a after : ℕ} → IsRule r → IsLastSet r w set → a < r.states → IsStep r set a after
+    → IsLastSet r (w ++ a ∷ []) after
 IsLastSet-step {r} {w} {set} {a} rule h l s =
     record {
       word = All-push (λ b. b < r.states) w a h.word l;

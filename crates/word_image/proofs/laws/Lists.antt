@@ -1,5 +1,5 @@
 -- Lists that know no rule: a list that grows by what a function gives at each place, two lists that are paired, and one that is read backwards.
-use Rattle.std.proofs.Common.{◌≡◌, ℕ, zero, suc, ◌+◌, ◌-◌, ◌<◌, Contains, List, [], ◌∷◌, ◌++◌, length, get_or, map, set, take, drop, reverse, length-drop, map-id, replicate, Some, refl, sym, ap, ap₂, ◌∙◌, arith, append_assoc, slice_index, slice_get, take-append-drop, take_at, drop_at}
+use Rattle.std.proofs.Common.{◌≡◌, ℕ, zero, suc, ◌+◌, ◌-◌, ◌<◌, Contains, List, [], ◌∷◌, ◌++◌, length, get_or, map, set, take, drop, reverse, length-drop, map-id, replicate, Some, refl, sym, ap, ◌∙◌, arith, append_assoc, slice_index, slice_get, take-append-drop, take_at, drop_at}
 use Rattle.std.specs.List.{AllZip, range_with_len}
 use Rattle.std.proofs.lemmas.List.{length-reverse, reverse-append}
 use Rattle.std.proofs.lemmas.List.FromFn.{length-range_with_len, get_or-range_with_len, length-map-range_with_len, map-range_with_len_more}
@@ -8,22 +8,14 @@ use Rattle.std.proofs.Math.Seq.{set-append_seam}
 -- what f gives at the first i places, with its value at i after it, is what it gives at one place more
 pub letters_more : (f : ℕ → ℕ) (i a : ℕ) (before after : List ℕ) → before ≡ map f (range_with_len 0 i) → a ≡ f i → after ≡ before ++ a ∷ []
     → after ≡ map f (range_with_len 0 (i + 1))
-letters_more f i a before after e g h =
-    h ∙ ap₂ (λ (z : List ℕ) (b : ℕ). z ++ b ∷ []) e g ∙ sym (map-range_with_len_more f 0 i i (omega arith))
+letters_more f i a before after e g h = grind (arith, map-range_with_len_more)
 
 -- the first i places of a row of n are filled so, and the others are d: what is stored at the next place fills it
 pub filled_more : {X : Type 0} (f : ℕ → X) (d : X) (n i : ℕ) (y : X) → i < n → y ≡ f i
     → set (map f (range_with_len 0 i) ++ replicate (n - i) d) i y ≡ map f (range_with_len 0 (i + 1)) ++ replicate (n - (i + 1)) d
-filled_more {X} f d n i y l e =
-    let before : List X = map f (range_with_len 0 i) in
-    let others : List X = replicate (n - (i + 1)) d in
+filled_more f d n i y l e =
     let long = length-map-range_with_len f 0 i in
-    let next : n - i ≡ suc (n - (i + 1)) = omega arith in
-    ap₂ (λ (j k : ℕ). set (before ++ replicate j d) k y) next (sym long)
-    ∙ set-append_seam before d others y
-    ∙ ap (λ a. before ++ a ∷ others) e
-    ∙ sym (append_assoc before (f i ∷ []) others)
-    ∙ ap (λ xs. xs ++ others) (sym (map-range_with_len_more f 0 i i (omega arith)))
+    grind (arith, set-append_seam, append_assoc, map-range_with_len_more)
 
 -- two lists of one length are paired if their elements at each place are
 pub AllZip-places : {X Y : Type 0} (R : X → Y → Type 0) (xs : List X) (ys : List Y) → length xs ≡ length ys
@@ -34,7 +26,8 @@ AllZip-places R (x ∷ xs) [] long each = absurd (omega arith)
 AllZip-places R (x ∷ xs) (y ∷ ys) long each = (each 0 x y refl refl, AllZip-places R xs ys (omega arith) (λ i z w at also. each (suc i) z w at also))
 
 -- of two lists that are paired the elements at a place are
-pub paired_at : {X Y : Type 0} (R : X → Y → Type 0) (xs : List X) (ys : List Y) (i : ℕ) (d : X) (e : Y) → AllZip R xs ys → i < length xs → R (get_or xs i d) (get_or ys i e)
+pub paired_at : {X Y : Type 0} (R : X → Y → Type 0) (xs : List X) (ys : List Y) (i : ℕ) (d : X) (e : Y) → AllZip R xs ys → i < length xs
+    → R (get_or xs i d) (get_or ys i e)
 paired_at R [] ys i d e all below = absurd (omega arith)
 paired_at R (x ∷ xs) [] i d e all below = absurd all
 paired_at R (x ∷ xs) (y ∷ ys) zero d e all below = all.0
@@ -66,5 +59,4 @@ Contains-range n a l = (a, omega (arith, length-range_with_len 0 n), get_or-rang
 pub reverse-cut : (i j : ℕ) (x : List ℕ) → length x ≡ i + j → (take j (reverse x) ≡ reverse (drop i x)) × (drop j (reverse x) ≡ reverse (take i x))
 reverse-cut i j x e =
     let split : reverse x ≡ reverse (drop i x) ++ reverse (take i x) = ap reverse (sym (take-append-drop i x)) ∙ reverse-append (take i x) (drop i x) in
-    let long : length (reverse (drop i x)) ≡ j = omega (arith, length-reverse (drop i x), length-drop i x) in
-    (ap (take j) split ∙ take_at (reverse (drop i x)) (reverse (take i x)) j long, ap (drop j) split ∙ drop_at (reverse (drop i x)) (reverse (take i x)) j long)
+    grind (arith, length-reverse, length-drop, take_at, drop_at)

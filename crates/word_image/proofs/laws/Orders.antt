@@ -1,5 +1,5 @@
 -- Dictionary order of words of one length is the order of their values.
-use Rattle.std.proofs.Common.{◌≡◌, ℕ, ◌+◌, ◌*◌, ◌^◌, ◌<◌, List, [], ◌∷◌, length, refl, ap, ◌∙◌, arith, mul_comm, nat_cmp, Ordering, Equal}
+use Rattle.std.proofs.Common.{◌≡◌, ℕ, ◌+◌, ◌*◌, ◌<◌, List, [], ◌∷◌, length, refl, ap, ◌∙◌, arith, mul_comm, nat_cmp, Ordering, Equal}
 use Rattle.std.proofs.lemmas.Nat.{mul-add-lt}
 use Rattle.std.proofs.lemmas.List.Elements.{All-tail}
 use Rattle.std.specs.Ordering.{ordering_then}
@@ -33,10 +33,6 @@ slice_cmp-value k [] [] h g e = refl
 slice_cmp-value k [] (b ∷ y) h g e = absurd (omega arith)
 slice_cmp-value k (a ∷ x) [] h g e = absurd (omega arith)
 slice_cmp-value k (a ∷ x) (b ∷ y) h g e =
-    let long : length x ≡ length y = omega arith in
     let first = All-tail (λ c. c < k) a x h in
     let second = All-tail (λ c. c < k) b y g in
-    let below : value k y < k ^ length x = rw long (value-below k y second) in
-    ap (ordering_then (nat_cmp a b)) (slice_cmp-value k x y first second long)
-    ∙ nat_cmp-digits a b (value k x) (value k y) (k ^ length x) (value-below k x first) below
-    ∙ ap (λ n. nat_cmp (a * k ^ length x + value k x) (b * k ^ n + value k y)) long
+    grind (arith, value-below, nat_cmp-digits, slice_cmp-value k x y first second (omega arith))

@@ -1,6 +1,5 @@
 -- The element at a place of a list, where there is one.
-use Rattle.std.proofs.Common.{◌≡◌, ◌≢◌, ℕ, zero, suc, ◌+◌, ◌<◌, ◌⊎◌, inl, inr, List, [], ◌∷◌, ◌++◌, length, get_or, set, take, drop, Some, Contains, refl, sym, ap, ◌∙◌, subst, ⊎_elim, arith, slice_get, get_or-set_same, get_or-set_other, length-set}
-use Rattle.std.proofs.lemmas.Bool.{cases_eq}
+use Rattle.std.proofs.Common.{◌≡◌, ◌≢◌, ℕ, zero, suc, ◌+◌, ◌<◌, ◌⊎◌, inl, inr, List, [], ◌∷◌, ◌++◌, length, get_or, set, take, drop, Some, Contains, refl, ap, ◌∙◌, arith, slice_get, get_or-set_same, get_or-set_other, length-set}
 use Rattle.std.proofs.lemmas.Option.{slice_get_within, slice_get-get_or, get_or_from_slice_get, none-some, same_Some}
 
 -- a place keeps its element where the list grows
@@ -20,8 +19,7 @@ pub slice_get-push_cases : {X : Type 0} (xs : List X) (y : X) (i : ℕ) (x : X) 
 slice_get-push_cases [] y zero x at = inr (refl, cc)
 slice_get-push_cases [] y (suc i) x at = absurd (none-some x at)
 slice_get-push_cases (z ∷ xs) y zero x at = inl at
-slice_get-push_cases (z ∷ xs) y (suc i) x at =
-    ⊎_elim (λ before. inl before) (λ last. inr (ap suc last.0, last.1)) (slice_get-push_cases xs y i x at)
+slice_get-push_cases (z ∷ xs) y (suc i) x at = grind (arith, slice_get-push_cases xs y i x at)
 
 -- a list of one element has one place
 pub only_place : {X : Type 0} (x y : X) (i : ℕ) → slice_get (x ∷ []) i ≡ Some y → (i ≡ 0) × (x ≡ y)
@@ -49,18 +47,16 @@ slice_get-cut (y ∷ xs) (suc i) x e = ap (λ l. y ∷ l) (slice_get-cut xs i x 
 -- what holds of an entry, if it is another one, and of the one that is stored, holds of the entry then
 pub at-set : {X : Type 0} (P : ℕ → X → Type 0) (xs : List X) (i : ℕ) (d y : X) → i < length xs
     → (v : ℕ) → (v ≢ i → P v (get_or xs v d)) → P i y → P v (get_or (set xs i y) v d)
-at-set P xs i d y inside v before here =
-    ⊎_elim
-    (λ same. rw same (subst (P i) (sym (get_or-set_same xs i y d inside)) here))
-    (λ other. rw (get_or-set_other xs i v y d other) (before other))
-    (cases_eq v i)
+at-set P xs i d y inside v before here = grind (arith, get_or-set_same, get_or-set_other)
 
 -- what holds of each other entry, and of the one that is stored, holds of each entry
-pub each-set : {X : Type 0} (P : ℕ → X → Type 0) (xs : List X) (i : ℕ) (d y : X) → i < length xs → ((v : ℕ) → v < length xs → v ≢ i → P v (get_or xs v d)) → P i y
+pub each-set : {X : Type 0} (P : ℕ → X → Type 0) (xs : List X) (i : ℕ) (d y : X) → i < length xs
+    → ((v : ℕ) → v < length xs → v ≢ i → P v (get_or xs v d)) → P i y
     → (v : ℕ) → v < length (set xs i y) → P v (get_or (set xs i y) v d)
 each-set P xs i d y inside before here v l = at-set P xs i d y inside v (before v (omega (arith, length-set xs i y))) here
 
 -- what holds of the first i entries, and of the one that is stored next, holds of one entry more
-pub set_more : {X : Type 0} (P : ℕ → X → Type 0) (xs : List X) (i j : ℕ) (d y : X) → i < length xs → j ≡ i → ((v : ℕ) → v < i → P v (get_or xs v d)) → P i y
+pub set_more : {X : Type 0} (P : ℕ → X → Type 0) (xs : List X) (i j : ℕ) (d y : X) → i < length xs → j ≡ i → ((v : ℕ) → v < i → P v (get_or xs v d))
+    → P i y
     → (v : ℕ) → v < i + 1 → P v (get_or (set xs j y) v d)
 set_more P xs i j d y inside e before here v l = rw e (at-set P xs i d y inside v (λ other. before v (omega arith)) here)

@@ -48,17 +48,14 @@ pub IsFormFault-rest : {IsText IsRest : List ℕ → Type 0} (text : List ℕ) (
     → ((rest : List ℕ) → IsRest rest → IsText (take i text ++ rest)) → ((rest : List ℕ) → IsText (take i text ++ rest) → IsRest rest)
     → IsFormFault IsRest (drop i text) n → IsFormFault IsText text (i + n)
 IsFormFault-rest {IsText} text i n inside whole only f =
-    let first = take i text in
     let rest = drop i text in
     let left = length-drop i text in
-    let cut : (m : ℕ) (more : List ℕ) → take (i + m) text ++ more ≡ first ++ (take m rest ++ more) = λ m more.
-    ap (λ x. x ++ more) (take-add i m text) ∙ append_assoc first (take m rest) more in
+    let cut : (m : ℕ) (more : List ℕ) → take (i + m) text ++ more ≡ (take i text) ++ (take m rest ++ more) = grind (arith, take-add, append_assoc) in
     record {
       outside = λ text_is. f.outside (only rest (subst IsText (sym (take-append-drop i text)) text_is));
-      within = omega (arith, f.within);
+      within = omega arith;
       begins = record { more = f.begins.more; whole = subst IsText (sym (cut n f.begins.more)) (whole _ f.begins.whole) };
       longest = λ m past within longer.
-          let split : m ≡ i + (m - i) = omega arith in
-          let there = subst IsText (ap (λ j. take j text ++ longer.more) split ∙ cut (m - i) longer.more) longer.whole in
+          let there = subst IsText (ap (λ j. take j text ++ longer.more) (omega arith) ∙ cut (m - i) longer.more) longer.whole in
           f.longest (m - i) (omega arith) (omega arith) (record { more = longer.more; whole = only _ there });
     }

@@ -28,14 +28,12 @@ turn-next : {A B : Type 0} (F : List A → B) → KeepsTurns F → (g : ℤ → 
 turn-next F turns g zero again o = refl
 turn-next F turns g (suc n) again o =
     let next : suc n ≡ n + 1 = omega arith in
-    let last : pos n +ℤ (o +ℤ pos 1) ≡ o +ℤ pos (suc n) = omega (arith, ints) in
-    let first : o ≡ pos 0 +ℤ o = omega (arith, ints) in
     let others = ap (λ h. map h (range_with_len 0 n)) (fun_ext (λ i.
     let e : pos i +ℤ (o +ℤ pos 1) ≡ pos (i + 1) +ℤ o = omega (arith, ints) in ap g e)) in
     ap (λ j. F (terms g j (o +ℤ pos 1))) next
     ∙ ap F (map-range_with_len_more (λ i. g (pos i +ℤ (o +ℤ pos 1))) 0 n n (omega arith))
     ∙ turns (terms g n (o +ℤ pos 1)) (g (pos n +ℤ (o +ℤ pos 1)))
-    ∙ ap₂ (λ a xs. F (a ∷ xs)) (ap g last ∙ again o ∙ ap g first) (others ∙ sym (map-shifted (λ i. g (pos i +ℤ o)) 0 n))
+    ∙ ap₂ (λ a xs. F (a ∷ xs)) (ap g (omega (arith, ints)) ∙ again o ∙ ap g (omega (arith, ints))) (others ∙ sym (map-shifted (λ i. g (pos i +ℤ o)) 0 n))
 
 -- so n terms from any place on give one thing
 turn-any : {A B : Type 0} (F : List A → B) → KeepsTurns F → (g : ℤ → A) (n : ℕ) → ((i : ℤ) → g (i +ℤ pos n) ≡ g i) → (o : ℤ)
@@ -68,8 +66,7 @@ ring_letters-turn p o n some =
 pub sum_by-ring_letters : (weight : ℕ → ℕ) (p : List ℕ) (o : ℤ) → 0 < length p → sum_by weight (ring_letters p o (length p)) ≡ sum_by weight p
 sum_by-ring_letters weight p o some =
     let whole = fill_by_all (λ i. ring_letter p (pos i)) p (length p) 0 refl (λ i l. ap (slice_index p) (sym (mod-eq_of_lt l))) in
-    ap (λ h. sum_by weight (map h (range_with_len 0 (length p)))) (fun_ext (λ j.
-    let e : o +ℤ pos j ≡ pos j +ℤ o = omega (arith, ints) in ap (ring_letter p) e))
+    ap (λ h. sum_by weight (map h (range_with_len 0 (length p)))) (fun_ext (grind arith))
     ∙ turn-all (sum_by weight) (sum_by-turned weight) (ring_letter p) (length p) (λ i. ring_letter-turn p i some) o ∙ ap (sum_by weight) (sym whole)
 
 -- what the rule gives on the windows of a full turn weighs the same from any place on

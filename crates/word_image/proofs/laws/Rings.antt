@@ -1,5 +1,5 @@
 -- Rings read from any place on: the letters come again after a full turn.
-use Rattle.std.proofs.Common.{◌≡◌, ℕ, zero, suc, ◌+◌, ◌-◌, ◌*◌, ◌/◌, ◌%◌, ◌<◌, List, length, map, slice_index, ℤ, pos, negsuc, ◌+ℤ◌, sym, ap, ◌∙◌, arith, suc-mul, zero-mul, mod-lt, mod-eq_of_lt}
+use Rattle.std.proofs.Common.{◌≡◌, ℕ, zero, suc, ◌+◌, ◌-◌, ◌*◌, ◌/◌, ◌%◌, ◌<◌, List, length, map, slice_index, ℤ, pos, negsuc, ◌+ℤ◌, sym, ap, ◌∙◌, arith, mod-lt, mod-eq_of_lt, rules}
 use mathlib.Core.Path.{fun_ext}
 use Rattle.std.specs.Int.{int_rem_euclid}
 use Rattle.std.specs.List.{range_with_len}
@@ -17,19 +17,17 @@ ring_letter-turn p (negsuc i) some = grind (arith, ints, mod-eq_of_lt, mod-eq-su
 
 -- what comes again after d places comes again after each multiple of d
 pub again-times : {B : Type 0} (h : ℤ → B) (d : ℕ) → ((i : ℤ) → h (i +ℤ pos d) ≡ h i) → (n : ℕ) (i : ℤ) → h (i +ℤ pos (n * d)) ≡ h i
-again-times h d again zero i = let e : i +ℤ pos (zero * d) ≡ i = omega (arith, ints, zero-mul d) in ap h e
-again-times h d again (suc n) i =
-    let e : i +ℤ pos (suc n * d) ≡ (i +ℤ pos (n * d)) +ℤ pos d = omega (arith, ints, suc-mul n d) in
-    ap h e ∙ again (i +ℤ pos (n * d)) ∙ again-times h d again n i
+again-times h d again zero i = let e : i +ℤ pos (zero * d) ≡ i = omega (arith, ints) in ap h e
+again-times h d again (suc n) i = search (rules, again-times h d again n i)
 
 -- the letter at j places after i stands j places after the remainder of i
-ring_letter-rem : (p : List ℕ) (i : ℤ) (t j : ℕ) → 0 < length p → int_rem_euclid i (pos (length p)) ≡ pos t → ring_letter p (i +ℤ pos j) ≡ ring_letter p (pos (t + j))
+ring_letter-rem : (p : List ℕ) (i : ℤ) (t j : ℕ) → 0 < length p → int_rem_euclid i (pos (length p)) ≡ pos t
+    → ring_letter p (i +ℤ pos j) ≡ ring_letter p (pos (t + j))
 ring_letter-rem p (pos i) t j some e =
-    let rest : i % length p ≡ t = omega (arith, ints) in
-    ap (slice_index p) (sym (mod-add-mod i (length p) j) ∙ ap (λ s. (s + j) % length p) rest)
+    ap (slice_index p) (sym (mod-add-mod i (length p) j) ∙ ap (λ s. (s + j) % length p) (omega (arith, ints)))
 ring_letter-rem p (negsuc i) t j some e =
     let turns : ℕ = suc (i / length p) in
-    let whole : (negsuc i +ℤ pos j) +ℤ pos (turns * length p) ≡ pos (t + j) = omega (arith, ints, suc-mul (i / length p) (length p)) in
+    let whole : (negsuc i +ℤ pos j) +ℤ pos (turns * length p) ≡ pos (t + j) = omega (arith, ints) in
     sym (again-times (ring_letter p) (length p) (λ o. ring_letter-turn p o some) turns (negsuc i +ℤ pos j)) ∙ ap (ring_letter p) whole
 
 -- the letters of a ring from i places after a place on are those from a place of the ring on

@@ -1,11 +1,11 @@
 -- No limit is broken exactly where the rule is accepted.
-use Rattle.std.proofs.Common.{◌≡◌, ℕ, suc, ap, pow-suc, mul-le-mul, ◌+◌, ◌-◌, ◌^◌, ◌<◌, ◌≤◌, List, length, take, leb, None, ℤ, pos, ◌+ℤ◌, ◌≤ℤ◌, ◌∙◌, arith, length-take-le, nat_le, position}
+use Rattle.std.proofs.lemmas.Grind.{common_steps}
+use Rattle.std.proofs.Common.{◌≡◌, ℕ, ◌+◌, ◌-◌, ◌^◌, ◌≤◌, List, length, take, leb, None, ℤ, pos, ◌+ℤ◌, ◌≤ℤ◌, ◌∙◌, arith, length-take-le, nat_le, position}
 use Rattle.std.proofs.Math.Nat.{pow-le-pow_left, pow-le-pow_right}
 use Rattle.std.proofs.lemmas.Bool.Decides.{nat_tests}
 use Rattle.std.proofs.lemmas.Int.{ints}
 use Rattle.std.specs.List.{position_or_len}
 use Rattle.std.proofs.lemmas.List.Sums.{position_or_len_is, fails_before_first}
-use Rattle.std.proofs.lemmas.List.Elements.{All-from_get_or}
 use Rattle.word_image.specs.LocalRules.{IsWord, IsShape, most_states, most_width, most_sets, least_place, greatest_place}
 use Rattle.word_image.specs.RuleFaults.{shape_fault, table_fault}
 
@@ -15,15 +15,7 @@ power-few j few short = grind (arith, pow-le-pow_left, pow-le-pow_right)
 
 -- a shape with no fault is accepted
 pub IsShape-shape_fault : (k m : ℕ) (o : ℤ) → shape_fault k m o ≡ None → IsShape k m o
-IsShape-shape_fault k m o none = record {
-  least_states = grind (arith, nat_tests);
-  most_states = grind (arith, nat_tests);
-  least_width = grind (arith, nat_tests);
-  most_width = grind (arith, nat_tests);
-  most_nodes = grind (arith, nat_tests);
-  least_offset = grind (arith, ints);
-  most_offset = grind (arith, ints);
-}
+IsShape-shape_fault k m o none = grind arith
 
 -- an accepted shape has no fault
 pub shape_fault-IsShape : (k m : ℕ) (o : ℤ) → IsShape k m o → shape_fault k m o ≡ None
@@ -31,31 +23,15 @@ shape_fault-IsShape k m o shape = grind (arith, nat_tests, ints)
 
 -- an accepted shape is accepted at each offset within the limits
 pub IsShape-offset : {k m : ℕ} {o : ℤ} (p : ℤ) → IsShape k m o → least_place ≤ℤ p → (p +ℤ pos (m - 1)) ≤ℤ greatest_place → IsShape k m p
-IsShape-offset p shape least most = record {
-  least_states = shape.least_states;
-  most_states = shape.most_states;
-  least_width = shape.least_width;
-  most_width = shape.most_width;
-  most_nodes = shape.most_nodes;
-  least_offset = least;
-  most_offset = most;
-}
-
--- where no letter has a fault, each is a letter
-no_fault_before : (k : ℕ) (table : List ℕ) → length table ≤ position_or_len (λ a. leb k a) table → IsWord k table
-no_fault_before k table none =
-    All-from_get_or (λ a. a < k) table 0 (λ i h. grind (arith, nat_tests, fails_before_first (λ a. leb k a) table i 0 (omega arith)))
+IsShape-offset p shape least most = grind arith
 
 -- a list with no letter that is not below k is a word
 pub IsWord-position : (k : ℕ) (w : List ℕ) → position (λ a. nat_le k a) w ≡ None → IsWord k w
-IsWord-position k w none =
-    no_fault_before k w (grind (arith, nat_tests))
+IsWord-position k w none = grind (arith, fails_before_first)
 
 -- a table with no fault has a letter for each window
 pub IsWord-table_fault : (k m : ℕ) (table : List ℕ) → table_fault k m table ≡ None → (length table ≡ k ^ m) × IsWord k table
-IsWord-table_fault k m table none =
-    let long : length table ≡ k ^ m = grind (arith, nat_tests) in
-    (long, no_fault_before k table (grind (arith, nat_tests)))
+IsWord-table_fault k m table none = grind (arith, fails_before_first)
 
 -- a table with a letter for each window has no fault
 pub table_fault-IsWord : (k m : ℕ) (table : List ℕ) → length table ≡ k ^ m → IsWord k table → table_fault k m table ≡ None
@@ -66,11 +42,7 @@ table_fault-IsWord k m table long word =
 
 -- an accepted shape has at most 256 windows
 pub window_count-le : (k m : ℕ) (o : ℤ) → IsShape k m o → k ^ m ≤ 256
-window_count-le k m o shape =
-    let split = pow-suc k (m - 1) in
-    let whole : k ^ m ≡ k ^ suc (m - 1) = let e : m ≡ suc (m - 1) = omega arith in ap (λ j. k ^ j) e in
-    let few = mul-le-mul shape.most_nodes shape.most_states in
-    omega arith
+window_count-le k m o shape = grind (arith, common_steps)
 
 -- a part of the room for a table
 pub part_long : (size windows : ℕ) (room : List ℕ) → length room ≡ 256 → size ≡ windows → windows ≤ 256 → length (take size room) ≡ windows

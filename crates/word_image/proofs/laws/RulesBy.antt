@@ -1,30 +1,22 @@
 -- Rules by what they give at each value of a window, as they are passed.
-use Rattle.std.proofs.Common.{◌≡◌, ℕ, ◌^◌, ◌<◌, map, slice_index, sym, ap, ap₂, subst, ◌∙◌, ℤ, w8, FitsSigned, to_z, of_z, arith}
+use Rattle.std.proofs.Common.{◌≡◌, ℕ, ◌^◌, ◌<◌, map, slice_index, ℤ, w8, FitsSigned, to_z, of_z, arith}
 use Rattle.std.specs.List.{range_with_len}
-use Rattle.std.proofs.lemmas.Int.{to_z-of_z, ints}
+use Rattle.std.proofs.lemmas.Int.{ints}
 use Rattle.std.proofs.lemmas.List.FromFn.{get_or-map-range_with_len}
 use Rattle.word_image.specs.LocalRules.{LocalRule, IsRule}
 use Rattle.word_image.specs.RulesBy.{IsRuleBy}
 
 -- the offset of an accepted rule is one of an i8
 pub FitsSigned-offset : {r : LocalRule} → IsRule r → FitsSigned w8 r.offset
-FitsSigned-offset rule =
-    grind (arith, ints)
+FitsSigned-offset rule = omega (arith, ints)
 
 -- a rule is given by its entries
 pub IsRuleBy-entries : {r : LocalRule} {k m : ℕ} {o : ℤ} {gives : ℕ → ℕ → Type 0} → IsRule r → k ≡ r.states → m ≡ r.width → o ≡ r.offset
     → ((v a : ℕ) → v < r.states ^ r.width → gives v a → a ≡ slice_index r.table v) → IsRuleBy k m (to_z w8 (of_z w8 o)) gives r
-IsRuleBy-entries {r} rule states width offset entries = record {
-  rule = rule;
-  states = sym states;
-  width = sym width;
-  offset = sym (ap (λ p. to_z w8 (of_z w8 p)) offset ∙ to_z-of_z w8 r.offset (FitsSigned-offset rule));
-  entries = λ v a l h. entries v a (subst (λ n. v < n) (ap₂ (λ (b e : ℕ). b ^ e) states width) l) h;
-}
+IsRuleBy-entries rule states width offset entries = grind arith
 
 -- a rule whose table a function fills is given by that function
 pub IsRuleBy-map : {r : LocalRule} {k m : ℕ} {o : ℤ} {gives : ℕ → ℕ → Type 0} (f : ℕ → ℕ) → IsRule r → k ≡ r.states → m ≡ r.width → o ≡ r.offset
     → r.table ≡ map f (range_with_len 0 (r.states ^ r.width)) → ((v a : ℕ) → v < r.states ^ r.width → gives v a → a ≡ f v)
     → IsRuleBy k m (to_z w8 (of_z w8 o)) gives r
-IsRuleBy-map {r} f rule states width offset table given = IsRuleBy-entries rule states width offset (λ v a l h.
-    given v a l h ∙ sym (ap (λ t. slice_index t v) table ∙ get_or-map-range_with_len f 0 (r.states ^ r.width) v v 0 l (omega arith)))
+IsRuleBy-map f rule states width offset table given = grind (arith, get_or-map-range_with_len)

@@ -1,7 +1,6 @@
 -- Sets of numbers as unions, one part at a time.
-use Rattle.std.proofs.Common.{◌≡◌, ℕ, ◌+◌, ◌^◌, ◌<◌, ◌↔◌, inl, inr, IsBitSet, bit_or, refl, sym, subst, arith, ⊎_elim, pow_pos}
+use Rattle.std.proofs.Common.{◌≡◌, ℕ, ◌+◌, ◌^◌, ◌<◌, ◌↔◌, IsBitSet, bit_or, sym, subst, arith, pow_pos}
 use Rattle.std.proofs.Math.Pow.{pow-lt}
-use Rattle.std.proofs.lemmas.Bool.{cases_eq}
 use Rattle.std.proofs.lemmas.Nat.{or_lt}
 use Rattle.word_image.specs.Graphs.{IsSetOf}
 use Rattle.word_image.proofs.laws.Bits.{IsBitSet-or, IsBitSet-pow, IsBitSet-zero}
@@ -20,34 +19,21 @@ IsUnion-none count Has = record { within = pow_pos count; nodes = λ v _. ((λ s
 
 -- the union stays as it is where the next part is empty
 pub IsUnion-skip : {count : ℕ} {Has : ℕ → ℕ → Type 0} {n set : ℕ} → IsUnion count Has n set → ((v : ℕ) → ¬ Has n v) → IsUnion count Has (n + 1) set
-IsUnion-skip {Has = Has} {n = n} h none = IsSetOf-same (λ v _. (
-  (λ (i, less, has). (i, omega (arith, less), has)),
-  (λ (i, less, has). (i, ⊎_elim (λ same. absurd (none v (subst (λ j. Has j v) same has))) (λ no. omega (arith, less, no)) (cases_eq i n), has)),
-)) h
+IsUnion-skip {Has = Has} {n = n} h none = grind arith
 
 -- the next part is added to the union
-pub IsUnion-take : {count : ℕ} {Has : ℕ → ℕ → Type 0} {n set part : ℕ} → IsUnion count Has n set → part < 2 ^ count → ((v : ℕ) → v < count → (IsBitSet part v ↔ Has n v))
+pub IsUnion-take : {count : ℕ} {Has : ℕ → ℕ → Type 0} {n set part : ℕ} → IsUnion count Has n set → part < 2 ^ count
+    → ((v : ℕ) → v < count → (IsBitSet part v ↔ Has n v))
     → IsUnion count Has (n + 1) (bit_or set part)
-IsUnion-take {count} {Has} {n} {set} {part} h small same = record {
-  within = or_lt count set part h.within small;
-  nodes = λ v inside. (
-    (λ some. ⊎_elim
-        (λ before. let one = (h.nodes v inside).0 before in (one.0, omega (arith, one.1), one.2))
-        (λ here. (n, omega arith, (same v inside).0 here))
-        ((IsBitSet-or set part v).0 some)),
-    (λ one. (IsBitSet-or set part v).1 (⊎_elim
-        (λ last. inr ((same v inside).1 (subst (λ i. Has i v) last one.2)))
-        (λ no. inl ((h.nodes v inside).1 (one.0, omega (arith, one.1, no), one.2)))
-        (cases_eq one.0 n))),
-  );
-}
+IsUnion-take h small same = grind (arith, or_lt, IsBitSet-or)
 
 -- the set of those of the first i numbers of which something holds
 abbrev pub IsSetTo : ℕ → (ℕ → Type 0) → ℕ → ℕ → Type 0
 IsSetTo count Holds = IsUnion count (λ i v. (v ≡ i) × Holds i)
 
 -- the set of numbers of which something holds has one number more, of which it holds
-pub IsSetTo-take : {count i set one : ℕ} (Holds : ℕ → Type 0) → IsSetTo count Holds i set → i < count → one ≡ 2 ^ i → Holds i → IsSetTo count Holds (i + 1) (bit_or set one)
+pub IsSetTo-take : {count i set one : ℕ} (Holds : ℕ → Type 0) → IsSetTo count Holds i set → i < count → one ≡ 2 ^ i → Holds i
+    → IsSetTo count Holds (i + 1) (bit_or set one)
 IsSetTo-take {count} {i} {set} Holds h inside alone holds =
     subst (λ x. IsSetTo count Holds (i + 1) (bit_or set x)) (sym alone)
     (IsUnion-take h (pow-lt inside) (λ v _. ((λ some. ((IsBitSet-pow i v).0 some, holds)), (λ here. (IsBitSet-pow i v).1 here.0))))
@@ -58,7 +44,4 @@ IsSetTo-skip Holds h none = IsUnion-skip h (λ v here. none here.1)
 
 -- the set of all numbers below a bound of which something holds
 pub IsSetTo-all : {count n set : ℕ} (Holds : ℕ → Type 0) → n ≡ count → IsSetTo count Holds n set → IsSetOf count Holds set
-IsSetTo-all Holds all h = IsSetOf-same (λ v l. (
-  (λ (i, less, (same, holds)). subst Holds (sym same) holds),
-  (λ holds. (v, omega (arith, all, l), (refl, holds))),
-)) h
+IsSetTo-all Holds all h = grind arith

@@ -1,9 +1,10 @@
 -- Words and their values: each word of n letters is one number below k ^ n.
-use Rattle.std.proofs.Common.{◌≡◌, ℕ, zero, suc, ◌+◌, ◌-◌, ◌*◌, ◌/◌, ◌%◌, ◌^◌, ◌<◌, ◌≤◌, List, [], ◌∷◌, ◌++◌, length, take, drop, get_or, refl, sym, ap, ap₂, ◌∙◌, arith, length-append, length-drop, take-append-drop, add-mul, mul_assoc, mul_comm, mul-one, zero-mul, one-mul, pow-suc, mod-lt, length-take-le, replicate, pos_of_ne-zero, pow-add, div-add-mod'}
+use Rattle.std.proofs.lemmas.Grind.{common_steps}
+use Rattle.std.proofs.Common.{◌≡◌, ℕ, zero, suc, ◌+◌, ◌-◌, ◌*◌, ◌/◌, ◌%◌, ◌^◌, ◌<◌, ◌≤◌, List, [], ◌∷◌, ◌++◌, length, take, drop, get_or, refl, sym, ap, ap₂, ◌∙◌, arith, length-append, length-drop, take-append-drop, add-mul, mul_assoc, mul-one, zero-mul, one-mul, pow-suc, mod-lt, length-take-le, replicate, pos_of_ne-zero, pow-add, div-add-mod'}
 use Rattle.std.proofs.Math.Nat.{pow-zero, pow-le-pow_right}
 use Rattle.std.proofs.lemmas.Nat.{mul-add-lt, same_from_place, div_below, div-mul-add, mod-mul-add}
 use Rattle.std.proofs.lemmas.List.{nil_from_length, take_more}
-use Rattle.std.proofs.lemmas.List.Elements.{All-nil, All-cons, All-head, All-tail, All-take, All-drop}
+use Rattle.std.proofs.lemmas.List.Elements.{All-nil, All-head, All-tail, All-take}
 use Rattle.word_image.specs.LocalRules.{IsWord, value, word_of}
 
 -- the value of two words in a row
@@ -19,9 +20,7 @@ value-snoc k w a = grind (arith, value-append, pow-suc, pow-zero, one-mul, mul-o
 pub value-below : (k : ℕ) (w : List ℕ) → IsWord k w → value k w < k ^ length w
 value-below k [] h = rw pow-zero (omega arith)
 value-below k (a ∷ w) h =
-    let first = All-head (λ a. a < k) a w h in
-    let rest = value-below k w (All-tail (λ a. a < k) a w h) in
-    let bound = mul-add-lt a (k ^ length w) (value k w) k first rest in
+    let bound = mul-add-lt a (k ^ length w) (value k w) k (All-head (λ a. a < k) a w h) (value-below k w (All-tail (λ a. a < k) a w h)) in
     let power = pow-suc k (length w) in
     omega arith
 
@@ -32,9 +31,7 @@ value-injective k (a ∷ x) [] h g e f = absurd (omega arith)
 value-injective k (a ∷ x) (b ∷ y) h g e f =
     let long : length x ≡ length y = omega arith in
     let below_x = value-below k x (All-tail (λ a. a < k) a x h) in
-    let below_y : value k y < k ^ length x = rw long (value-below k y (All-tail (λ a. a < k) b y g)) in
-    let same : a * k ^ length x + value k x ≡ b * k ^ length x + value k y = f ∙ ap (λ n. b * k ^ n + value k y) (sym long) in
-    let parts = same_from_place a (value k x) b (value k y) (k ^ length x) below_x below_y same in
+    let parts = same_from_place a (value k x) b (value k y) (k ^ length x) below_x (rw long (value-below k y (All-tail (λ a. a < k) b y g))) (f ∙ ap (λ n. b * k ^ n + value k y) (sym long)) in
     ap₂ (λ (c : ℕ) (z : List ℕ). c ∷ z) parts.0 (value-injective k x y (All-tail (λ a. a < k) a x h) (All-tail (λ a. a < k) b y g) long parts.1)
 
 -- the word of a number has the length that is asked for
@@ -50,28 +47,20 @@ power_positive k n v l = grind (arith, pos_of_ne-zero, pow-suc, zero-mul)
 pub IsWord-word_of : (k n v : ℕ) → v < k ^ n → IsWord k (word_of k n v)
 IsWord-word_of k zero v l = All-nil (λ a. a < k)
 IsWord-word_of k (suc n) v l =
-    let positive = power_positive k n v l in
-    let power = pow-suc k n in
-    let swapped = mul_comm (k ^ n) k in
-    All-cons (λ a. a < k) (v / k ^ n) (word_of k n (v % k ^ n)) (div_below v (k ^ n) k positive (omega arith)) (IsWord-word_of k n (v % k ^ n) (mod-lt v positive))
+    grind (arith, pow-suc, div_below, IsWord-word_of k n (v % k ^ n) (mod-lt v (power_positive k n v l)))
 
 -- the word of a number has that number for its value
 pub value-word_of : (k n v : ℕ) → v < k ^ n → value k (word_of k n v) ≡ v
 value-word_of k zero v l = let power : k ^ zero ≡ 1 = pow-zero k in omega arith
 value-word_of k (suc n) v l =
-    let positive = power_positive k n v l in
-    let rest = value-word_of k n (v % k ^ n) (mod-lt v positive) in
-    ap₂ (λ (i j : ℕ). v / k ^ n * k ^ i + j) (length-word_of k n (v % k ^ n)) rest ∙ div-add-mod' v (k ^ n)
+    ap₂ (λ (i j : ℕ). v / k ^ n * k ^ i + j) (length-word_of k n (v % k ^ n)) (value-word_of k n (v % k ^ n) (mod-lt v (power_positive k n v l))) ∙ div-add-mod' v (k ^ n)
 
 -- a word is the word of its value
 pub word_of-value : (k : ℕ) (w : List ℕ) → IsWord k w → word_of k (length w) (value k w) ≡ w
 word_of-value k [] h = refl
 word_of-value k (a ∷ w) h =
     let tail = All-tail (λ a. a < k) a w h in
-    let below = value-below k w tail in
-    let first = div-mul-add a (k ^ length w) (value k w) below in
-    let rest = mod-mul-add a (k ^ length w) (value k w) below in
-    ap₂ (λ (c : ℕ) (v : ℕ). c ∷ word_of k (length w) v) first rest ∙ ap (λ z. a ∷ z) (word_of-value k w tail)
+    grind (arith, value-below, div-mul-add, mod-mul-add, word_of-value k w tail)
 
 -- the value of the first letters of a word, with one letter more
 pub value-take_more : (k : ℕ) (w : List ℕ) (i : ℕ) → i < length w → value k (take (i + 1) w) ≡ value k (take i w) * k + get_or w i 0
@@ -81,10 +70,8 @@ value-take_more k w i h = ap (value k) (take_more w i 0 h) ∙ value-snoc k (tak
 pub value-take-below : (k : ℕ) (w : List ℕ) (i n : ℕ) → IsWord k w → i < length w → k ^ length w ≤ n → value k (take i w) * k + get_or w i 0 < n
 value-take-below k w i n word h fits =
     let letter : get_or w i 0 < k = word i 0 h in
-    let positive : 0 < k = omega arith in
-    let long : length (take (i + 1) w) ≡ i + 1 = length-take-le (i + 1) w (omega arith) in
-    let below : value k (take (i + 1) w) < k ^ (i + 1) = rw long at (value-below k (take (i + 1) w) (All-take (λ a. a < k) (i + 1) w word)) in
-    let grows : k ^ (i + 1) ≤ k ^ length w = pow-le-pow_right positive (omega arith) in
+    let below : value k (take (i + 1) w) < k ^ (i + 1) = rw (length-take-le (i + 1) w (omega arith)) at (value-below k (take (i + 1) w) (All-take (λ a. a < k) (i + 1) w word)) in
+    let grows : k ^ (i + 1) ≤ k ^ length w = pow-le-pow_right (omega arith) (omega arith) in
     omega (arith, value-take_more k w i h)
 
 -- a word is its first n letters and the others
@@ -96,8 +83,7 @@ value-cut k n w h =
 
 -- the value of the letters behind the first n is below that of as many letters
 rest_below : (k n : ℕ) (w : List ℕ) → IsWord k w → value k (drop n w) < k ^ (length w - n)
-rest_below k n w word =
-    rw length-drop at (value-below k (drop n w) (All-drop (λ a. a < k) n w word))
+rest_below k n w word = grind (arith, common_steps, value-below)
 
 -- the value of the first n letters
 pub value-take : (k n : ℕ) (w : List ℕ) → IsWord k w → n ≤ length w → value k (take n w) ≡ value k w / k ^ (length w - n)

@@ -1,4 +1,5 @@
 -- Images and preimages, one letter at a time.
+use Rattle.std.proofs.lemmas.Grind.{common_steps}
 use Rattle.std.proofs.Common.{◌≡◌, ℕ, ◌+◌, ◌-◌, ◌<◌, ◌≤◌, List, [], ◌∷◌, ◌++◌, length, take, drop, get_or, slice_index, slice_range, true, refl, sym, ap, ap₂, ◌∙◌, arith, length-drop, nat_lt, length-take, length-take-le, get_or-take, take-take, take_all}
 use Rattle.std.specs.List.{range_with_len, list_all}
 use Rattle.std.proofs.lemmas.Bool.{cases_lt}
@@ -6,14 +7,13 @@ use Rattle.std.proofs.lemmas.Bool.Decides.{Decides-by_and, Decides-ltb}
 use Rattle.std.proofs.lemmas.List.{length_push, same_from_push, nil_from_length, drop-append-le, drop-take, take_more, get_or_past}
 use Rattle.std.proofs.Math.Seq.{take-append_seam}
 use Rattle.std.proofs.lemmas.List.FromFn.{length-map-range_with_len, get_or-map-range_with_len, fill_by_all}
-use Rattle.std.proofs.lemmas.List.Elements.{All-push, All-take, All-map}
+use Rattle.std.proofs.lemmas.List.Elements.{All-take, All-map}
 use Rattle.word_image.specs.LocalRules.{LocalRule, IsRule, IsWord, local_map}
 use Rattle.word_image.specs.Words.{image, IsPreimage}
 
 -- a list that is not empty is what stands before its last element, and that element
 pub split_last : (y : List ℕ) → 0 < length y → y ≡ take (length y - 1) y ++ get_or y (length y - 1) 0 ∷ []
-split_last y h =
-    sym (take_all (length y - 1 + 1) y (omega arith)) ∙ take_more y (length y - 1) 0 (omega arith)
+split_last y h = grind (arith, take_all, take_more)
 
 -- what the table holds is a letter
 pub entry-below : {r : LocalRule} → IsRule r → (v : ℕ) → slice_index r.table v < r.states
@@ -42,7 +42,8 @@ pub image-short : (r : LocalRule) (x : List ℕ) → length x ≤ r.width - 1 �
 image-short r x h = nil_from_length (image r x) (omega (arith, length-image r x))
 
 -- a letter of an image is what the rule gives on the window there
-pub get_or-image : (r : LocalRule) (x : List ℕ) (i : ℕ) → i < length x - (r.width - 1) → get_or (image r x) i 0 ≡ local_map r (slice_range x i (i + r.width))
+pub get_or-image : (r : LocalRule) (x : List ℕ) (i : ℕ) → i < length x - (r.width - 1)
+    → get_or (image r x) i 0 ≡ local_map r (slice_range x i (i + r.width))
 get_or-image r x i h = get_or-map-range_with_len (λ j. local_map r (slice_range x j (j + r.width))) 0 (length x - (r.width - 1)) i i 0 h (omega arith)
 
 -- a list is an image if it has the image's length, and what the rule gives on each window
@@ -115,11 +116,4 @@ IsPreimage-snoc {r} rule w a y p =
 -- a preimage of a word and one more letter, whose last window gives a, is a preimage of the longer word
 pub IsPreimage-push : {r : LocalRule} {w x : List ℕ} → IsRule r → IsPreimage r w x → (a b : ℕ) → b < r.states
     → local_map r (drop (length w) x ++ b ∷ []) ≡ a → IsPreimage r (w ++ a ∷ []) (x ++ b ∷ [])
-IsPreimage-push {r} {w} {x} rule p a b l e =
-    let start : length x - (r.width - 1) ≡ length w = let long = p.long in omega arith in
-    record {
-      word = All-push (λ c. c < r.states) x b p.word l;
-      long = let long = p.long in omega (arith, length_push x b, length_push w a);
-      maps = image-snoc rule x b (let long = p.long in omega arith)
-          ∙ ap₂ (λ (u : List ℕ) (c : ℕ). u ++ c ∷ []) p.maps (ap (λ i. local_map r (drop i x ++ b ∷ [])) start ∙ e);
-    }
+IsPreimage-push rule p a b l e = grind (arith, common_steps, image-snoc)

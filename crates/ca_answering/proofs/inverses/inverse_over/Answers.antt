@@ -1,5 +1,3 @@
-use Rattle.std.proofs.Common.{◌<◌, ◌^◌, subst}
-use Rattle.inverse_table.specs.InverseFaults.{IsNoMap}
 use Rattle.ca_questions.proofs.Common.{IsFinding, IsUnfitFor}
 use Rattle.ca_answering.proofs.inverses.inverse_over.Goals as goal
 use Rattle.ca_answering.proofs.inverses.inverse_over.Goals.{in-Ok, in-Err-Wide}
@@ -19,6 +17,5 @@ returns c =
             as_rule = w.map_rule-rule.ensures;
           }))
       | in-Err-Wide w ↦
-          let wide : 65536 < r.states ^ at.n = subst (IsNoMap r at.n at.c) w.in-Err-Wide.field-0-is w.in-Err-Wide.ensures.fault in
-          rw w.result-is (IsUnfitFor.Wide r at.n at.c c.requires.least wide)
+          rw w.result-is (IsUnfitFor.Wide r at.n at.c c.requires.least (rw w.in-Err-Wide.field-0-is at w.in-Err-Wide.ensures.fault))
     ]

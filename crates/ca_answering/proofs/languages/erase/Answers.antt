@@ -6,7 +6,8 @@ use Rattle.ca_questions.specs.Values.{pair_of}
 use Rattle.ca_answering.proofs.languages.erase.Goals as goal
 
 -- the least erasable pair, or that there is none, answers the question
-IsErasedFound-pair : {r : LocalRule} (found : Option ShortPair) → IsNone found ↔ IsSurjective r → MatchOption found ((x y : List ℕ) → ¬ IsErasable r x y) (λ pair. IsLeastErasable r pair.x pair.y)
+IsErasedFound-pair : {r : LocalRule} (found : Option ShortPair) → IsNone found ↔ IsSurjective r
+    → MatchOption found ((x y : List ℕ) → ¬ IsErasable r x y) (λ pair. IsLeastErasable r pair.x pair.y)
     → IsErasedFound r (pair_of found)
 IsErasedFound-pair None exact none = (exact.0 refl, none)
 IsErasedFound-pair (Some pair) exact least = ((λ every. false≢true (sym (exact.1 every))), least)

@@ -1,11 +1,7 @@
-use Rattle.std.proofs.Common.{◌≡◌, ◌+◌, ◌-◌, ◌^◌, ◌≤◌, IfOk, length, reverse, ap, ◌∙◌, subst, arith}
+use Rattle.std.proofs.Common.{◌≡◌, ◌+◌, ◌^◌, ◌≤◌, length, reverse, ap, ◌∙◌, arith}
 use Rattle.word_image.proofs.Common.{value}
-use Rattle.rule_text.specs.RuleTexts.{number_fault}
-use Rattle.rule_text.proofs.laws.AcceptedRules.{none_or}
-use Rattle.rule_verdicts.proofs.laws.Numbers.{few_states, numbers_fault-room}
+use Rattle.rule_verdicts.proofs.laws.Numbers.{numbers_fault-room}
 use Rattle.rule_verdicts.proofs.laws.Tables.{length-numbered, value-numbered}
-use Rattle.ca_questions.specs.Samples.{survey_rules, sample_fault}
-use Rattle.ca_answering.specs.ClassTallies.{IsClassTally}
 use Rattle.ca_answering.proofs.summaries.classes_of_numbers.Goals.{After-copy_from_slice}
 use Rattle.ca_answering.proofs.summaries.classes_of_numbers.Goals as goal
 
@@ -18,11 +14,6 @@ number : (c : After-copy_from_slice) → value c.args.k (reverse c.copy_from_sli
 number c =
     value-numbered c.args.k c.args.m c.args.first c.first_rule-rule.result c.copy_from_slice.new.self (omega (arith, room c, c.requires.some)) c.first_rule-rule.ensures (c.copy_from_slice.ensures.after ∙ c.table-2.ensures.table)
 
-pub classes_from-requires-clause-states : goal.classes_from-requires-clause-states
-classes_from-requires-clause-states c =
-    let last = c.args.first + c.args.count - 1 in
-    few_states c.args.k c.args.m last (none_or (sample_fault c.args.k c.args.m) (number_fault c.args.k c.args.m last) c.requires.accepted).1
-
 pub classes_from-requires-clause-room : goal.classes_from-requires-clause-room
 classes_from-requires-clause-room c =
     let d : After-copy_from_slice = (goal.at.classes_from-requires-clause-room c).After-copy_from_slice in
@@ -33,4 +24,4 @@ classes_from-requires-clause-room c =
 pub returns : goal.returns
 returns c =
     let d : After-copy_from_slice = (goal.at.returns c).After-copy_from_slice in
-    subst (λ n. IfOk c.classes_from.result (IsClassTally c.args.k c.args.m (survey_rules c.args.k c.args.m n c.args.count))) (number d) c.classes_from.ensures
+    rw (number d) at c.classes_from.ensures

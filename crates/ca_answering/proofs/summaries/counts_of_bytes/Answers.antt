@@ -1,11 +1,9 @@
-use Rattle.std.proofs.Common.{◌≡◌, ◌+◌, ◌<◌, length, sym, subst, arith, pos}
+use Rattle.std.proofs.Common.{◌≡◌, ◌+◌, ◌<◌, length, arith, pos}
 use Rattle.word_image.proofs.Common.{length-map-range_with_len, IsRule}
 use Rattle.rule_text.specs.RuleTexts.{by_number}
 use Rattle.rule_text.proofs.laws.AcceptedRules.{IsRule-said}
-use Rattle.rule_verdicts.specs.Truths.{AreTruths}
 use Rattle.rule_verdicts.specs.Numbers.{numbered_rule}
 use Rattle.ca_questions.specs.Samples.{survey_rules}
-use Rattle.ca_questions.proofs.Common.{AreCounts, counts_of}
 use Rattle.ca_answering.proofs.laws.Samples.{survey_rules-more, survey-accepted}
 use Rattle.ca_answering.proofs.summaries.counts_of_bytes.Goals as goal
 
@@ -25,10 +23,10 @@ loop-byte-preserved c =
     let within : i < length c.args.bytes.now = omega arith in
     let rule : IsRule (numbered_rule k m (first + i)) = IsRule-said (by_number k m (pos 0) (first + i)) (survey-accepted k m first (length c.args.bytes.now) i c.requires.accepted within) in
     let said = c.requires.bytes i within in
-    let truths : AreTruths (numbered_rule k m (first + i)) c.from_byte.result = subst (AreTruths (numbered_rule k m (first + i))) (sym (c.from_byte.ensures said.truths said.is)) said.are in
-    subst (λ rules. AreCounts rules (counts_of c.add.new.counts)) (sym (survey_rules-more k m first i)) (c.add.ensures (survey_rules k m first i) (numbered_rule k m (first + i)) c.loop-byte.invariant rule truths)
+    rw (survey_rules-more k m first i)
+    (c.add.ensures (survey_rules k m first i) (numbered_rule k m (first + i)) c.loop-byte.invariant rule (rw (c.from_byte.ensures said.truths said.is) said.are))
 
 pub returns : goal.returns
 returns c =
     let all : c.loop-byte.byte-index ≡ length c.args.bytes.now = omega arith in
-    subst (λ i. AreCounts (survey_rules c.args.k c.args.m c.args.first i) (counts_of c.loop-byte.counts)) all c.loop-byte.invariant
+    rw all at c.loop-byte.invariant

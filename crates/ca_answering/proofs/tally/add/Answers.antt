@@ -1,6 +1,7 @@
-use Rattle.std.proofs.Common.{◌+◌, refl, ap, sym, ◌∙◌, arith, length-append}
+use mathlib.Core.Logic.Iff.{trans as iff_then}
+use Rattle.std.proofs.Common.{◌+◌, ap, sym, ◌∙◌, arith, length-append}
 use Rattle.word_image.proofs.Common.{from_bool}
-use Rattle.ca_answering.proofs.laws.OwnWeights.{IsConserving-tested}
+use Rattle.ring_laws.proofs.SameWeights.{IsConserving-own}
 use Rattle.ca_answering.proofs.laws.Counts.{AreMany-le, AreMany-push}
 use Rattle.ca_answering.proofs.tally.add.Goals as goal
 
@@ -30,5 +31,5 @@ returns c rules r tally rule truths = record {
   right_true = AreMany-push r c.from-3.ensures truths.right tally.right_true;
   left_true = AreMany-push r c.from-4.ensures truths.left tally.left_true;
   open_true = AreMany-push r (c.from-5.ensures ∙ ap from_bool c.is_open.ensures) truths.open_ tally.open_true;
-  conserving_true = AreMany-push r c.from-6.ensures (IsConserving-tested rule refl truths.conserving) tally.conserving_true;
+  conserving_true = AreMany-push r c.from-6.ensures (iff_then truths.conserving (IsConserving-own rule)) tally.conserving_true;
 }

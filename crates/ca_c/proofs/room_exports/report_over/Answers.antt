@@ -7,7 +7,8 @@ use Rattle.ca_c.proofs.room_exports.report_over.Goals as goal
 use Rattle.ca_c.proofs.room_exports.report_over.Goals.{After-report-made}
 
 -- the report that the room makes
-made : (c : After-report-made) → IsReported (rule_with c.args.states c.args.width c.args.offset c.args.table.now) (named_weights c.args.weights.now) c.report-made.result c.report-made.new.self
+made : (c : After-report-made)
+    → IsReported (rule_with c.args.states c.args.width c.args.offset c.args.table.now) (named_weights c.args.weights.now) c.report-made.result c.report-made.new.self
 made c =
     let fits : FitsSigned w8 c.args.offset = search rules in
     let offset : to_z w8 (of_z w8 c.args.offset) ≡ c.args.offset = to_z-of_z w8 c.args.offset fits in

@@ -19,7 +19,8 @@ abbrev IsRefused : Refusal → Result code.Reply InputFault → Type 0
 IsRefused f result = MatchResult result (λ reply. (reply ≡ said.Refused f) × (f ≢ refusal.Memory alloc_error)) (λ e. e ≡ fault.Memory alloc_error)
 
 -- a refusal of the whole input is right for `check`
-refused_reply : {input : Option (List ℕ)} {bytes : List ℕ} {f : Refusal} (result : Result code.Reply InputFault) → IsWholeInput input bytes → (f ≡ refusal.Memory alloc_error) ⊎ IsRefusal bytes f
+refused_reply : {input : Option (List ℕ)} {bytes : List ℕ} {f : Refusal} (result : Result code.Reply InputFault) → IsWholeInput input bytes
+    → (f ≡ refusal.Memory alloc_error) ⊎ IsRefusal bytes f
     → IsRefused f result → IfOk result (λ reply. (c : Command) → c.name ≡ name.Check → IsReply input c (reply_of reply))
 refused_reply {input = input} {bytes = bytes} {f = f} (Ok reply) whole refuses (is, other) =
     subst (λ r. (c : Command) → c.name ≡ name.Check → IsReply input c (reply_of r)) (sym is)

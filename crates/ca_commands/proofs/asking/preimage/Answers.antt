@@ -14,7 +14,8 @@ use Rattle.ca_commands.proofs.laws.Asking.{asks, failed, first_refused, read_one
 use Rattle.ca_commands.proofs.asking.preimage.Goals as goal
 
 -- a fault of the parts is why nothing fits
-unfits : {words : List (List ℕ)} {r : LocalRule} {t : List ℕ} {f : TailFault} → IsCall words name.Preimage (r ∷ []) (t ∷ []) → IsTailTextFault r.states t (text.Tail f)
+unfits : {words : List (List ℕ)} {r : LocalRule} {t : List ℕ} {f : TailFault} → IsCall words name.Preimage (r ∷ []) (t ∷ [])
+    → IsTailTextFault r.states t (text.Tail f)
     → (q : Question) × Ask words q × IsUnfitFor q (Unfit.Tail f)
 unfits {r = r} call (Refused t f parts refused) = (Question.Preimage r t, asks refl call (Asks.Preimage r _ t parts), IsUnfitFor.Tail r t f refused)
 

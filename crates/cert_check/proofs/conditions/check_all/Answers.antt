@@ -1,7 +1,7 @@
-use Rattle.std.proofs.Common.{subst, All, take_all}
-use Rattle.word_image.proofs.Common.{err_from_is_err_and}
+use Rattle.std.proofs.Common.{take_all}
+use Rattle.word_image.proofs.Common.{All-more, err_from_is_err_and}
 use Rattle.cert_conditions.proofs.Common.{conditions, Holds}
-use Rattle.cert_conditions.proofs.laws.Breaches.{IsFirstUnmet-at, All-more, MeetsConditions-all}
+use Rattle.cert_conditions.proofs.laws.Breaches.{IsFirstUnmet-at, MeetsConditions-all}
 use Rattle.cert_check.proofs.conditions.check_all.Goals as goal
 
 pub returns-in_err-check : goal.returns-in_err-check
@@ -17,4 +17,4 @@ loop-condition-preserved c =
 pub returns : goal.returns
 returns c =
     MeetsConditions-all c.args.cert.now
-    (subst (All (Holds c.args.cert.now)) (take_all c.loop-condition.condition-index conditions c.loop-condition-test.false) c.loop-condition.invariant)
+    (rw (take_all c.loop-condition.condition-index conditions c.loop-condition-test.false) at c.loop-condition.invariant)

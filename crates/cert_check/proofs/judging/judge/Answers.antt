@@ -1,12 +1,10 @@
 use Rattle.std.proofs.Common.{◌≡◌, Ok, Err, inl, inr, sym, ap, ◌∙◌, ⊎_elim}
 use Rattle.word_image.proofs.Common.{err_from_is_err_and, handed_on}
-use Rattle.cert_format.specs.declared.cert_fault.CertFault.TheVariants as cert_fault
-use Rattle.cert_conditions.specs.declared.refusal.Refusal.TheVariants as refusal
 use Rattle.cert_conditions.proofs.Common.{AreTrue-accepted}
 use Rattle.cert_conditions.specs.Refusals.IsRefusal.{NoShape, Unmet}
 use Rattle.cert_conditions.proofs.laws.Breaches.{unmet_fails}
 use Rattle.cert_conditions.proofs.laws.OneBreach.{one_unmet}
-use Rattle.cert_check.proofs.laws.Judging.{accepted-read, refusal-read, accepted-named, refusal-named}
+use Rattle.cert_check.proofs.laws.Judging.{accepted-read, refusal-read, refusal-named}
 use Rattle.cert_check.proofs.judging.judge.Goals as goal
 
 pub returns-in_err-check_all-in-Ok-clause-refused : goal.returns-in_err-check_all-in-Ok-clause-refused
@@ -44,10 +42,8 @@ returns-in-Err-Format-clause-refused c =
 
 pub returns-in-Err-Format-clause-every_accepted : goal.returns-in-Err-Format-clause-every_accepted
 returns-in-Err-Format-clause-every_accepted c = λ v h.
-    let named : c.from_bytes.result ≡ Err (cert_fault.Format c.in-Err-Format.fault) = cc in
-    absurd (accepted-named c.from_bytes.ensures.every_cert named h)
+    ⊎_elim (λ same. absurd (cc)) (λ none. absurd (cc)) (c.from_bytes.ensures.every_cert h.certificate h.text)
 
 pub returns-in-Err-Format-clause-every_refusal : goal.returns-in-Err-Format-clause-every_refusal
 returns-in-Err-Format-clause-every_refusal c = λ f h.
-    let named : c.from_bytes.result ≡ Err (cert_fault.Format c.in-Err-Format.fault) = cc in
-    inl (ap Err (refusal-named c.from_bytes.ensures.every_cert c.from_bytes.ensures.every_fault named h))
+    inl (ap Err (refusal-named {s = c.in-Err-Format.fault} c.from_bytes.ensures.every_cert c.from_bytes.ensures.every_fault (cc) h))

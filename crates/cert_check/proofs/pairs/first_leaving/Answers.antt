@@ -1,5 +1,4 @@
-use Rattle.std.proofs.Common.{slice_index, ⊎_elim, below_more}
-use Rattle.cert_conditions.proofs.Common.{StepsAreListed}
+use Rattle.std.proofs.Common.{arith}
 use Rattle.cert_check.proofs.pairs.first_leaving.Goals as goal
 
 pub returns-in-Some : goal.returns-in-Some
@@ -19,7 +18,4 @@ loop-place-preserved c =
     let pairs = c.args.pairs.now in
     let inv = c.loop-place.invariant in
     let here = c.in_default.ensures pairs c.of-listed.ensures in
-    record {
-      so_far = below_more (λ i. StepsAreListed r pairs (slice_index pairs i)) c.loop-place.place inv.so_far here;
-      marked = λ p some. ⊎_elim (λ same. rw same here) (λ old. inv.marked p old) ((c.mark.ensures p).0 some);
-    }
+    grind arith

@@ -1,6 +1,5 @@
 use Rattle.std.proofs.Common.{ℕ, List, sym, ap, ap₂, ◌∙◌}
 use Rattle.cert_values.proofs.Common.{Twins, injective_of}
-use Rattle.cert_conditions.specs.declared.refusal.Refusal.TheVariants as refusal
 use Rattle.cert_conditions.proofs.Common.{NoTwins}
 use Rattle.cert_check.proofs.twins.twins_alike.Goals as goal
 

@@ -1,6 +1,5 @@
 use Rattle.std.proofs.Common.{ap}
 use Rattle.cert_values.proofs.Common.{injective_of}
-use Rattle.cert_conditions.specs.declared.refusal.Refusal.TheVariants as refusal
 use Rattle.cert_conditions.proofs.Common.{NoWindow}
 use Rattle.cert_check.proofs.windows.window_claims.Goals as goal
 

@@ -1,5 +1,5 @@
-use Rattle.std.proofs.Common.{◌≡◌, ◌≤◌, ◌∙◌, refl, ap, subst, take, length, All, arith}
-use Rattle.word_image.proofs.Common.{take-length, All-more}
+use Rattle.std.proofs.Common.{◌≤◌, refl, take_all}
+use Rattle.word_image.proofs.Common.{All-more}
 use Rattle.cert_format.proofs.evidence.are_within.Goals as goal
 
 pub loop-number-preserved : goal.loop-number-preserved
@@ -7,5 +7,4 @@ loop-number-preserved c = All-more (λ n. n ≤ c.args.most) c.args.numbers.now 
 
 pub returns : goal.returns
 returns c =
-    let end : c.loop-number.number-index ≡ length c.args.numbers.now = omega (arith, c.loop-number-test.false, c.loop-number.auto.number-index-end) in
-    ((λ t. subst (All (λ n. n ≤ c.args.most)) (ap (λ n. take n c.args.numbers.now) end ∙ take-length c.args.numbers.now) c.loop-number.invariant), λ all. refl)
+    ((λ t. rw (take_all c.loop-number.number-index c.args.numbers.now c.loop-number-test.false) at c.loop-number.invariant), λ all. refl)

@@ -1,7 +1,6 @@
-use Rattle.std.proofs.Common.{sym, subst, ◌∙◌}
+use Rattle.std.proofs.Common.{sym, ◌∙◌}
 use Rattle.serde_json.specs.View.{view}
 use Rattle.word_image.proofs.Common.{handed_on}
-use Rattle.cert_format.specs.Readings.{IsFluxFor}
 use Rattle.cert_format.proofs.laws.Evidence.{IsFluxFor-array, no_flux}
 use Rattle.cert_format.proofs.evidence.flux.Goals as goal
 
@@ -11,4 +10,4 @@ returns-in_err-flows-clause-none c =
 
 pub returns-clause-flux : goal.returns-clause-flux
 returns-clause-flux c =
-    subst (IsFluxFor c.args.rule.now (view c.args.value.now)) (sym c.of.ensures) (IsFluxFor-array c.args.rule.now (view c.args.value.now) c.in_ok-flows.flows.items c.in_ok-flows.ensures.items (c.in_ok-flows.ensures.count ∙ c.from.ensures ∙ c.nodes.ensures.nodes))
+    rw c.of.ensures (IsFluxFor-array c.args.rule.now (view c.args.value.now) c.in_ok-flows.flows.items c.in_ok-flows.ensures.items (c.in_ok-flows.ensures.count ∙ c.from.ensures ∙ c.nodes.ensures.nodes))

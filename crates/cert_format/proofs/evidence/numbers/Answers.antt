@@ -1,8 +1,7 @@
-use Rattle.std.proofs.Common.{◌≡◌, ◌≤◌, sym, subst, true, All, arith}
+use Rattle.std.proofs.Common.{◌≡◌, ◌≤◌, true, All, arith}
 use Rattle.serde_json.specs.View.{view}
 use Rattle.word_image.proofs.Common.{handed_on}
 use Rattle.cert_values.specs.CertificateTexts.{IsWhole}
-use Rattle.cert_format.specs.Readings.{AreNumbers}
 use Rattle.cert_format.proofs.laws.Evidence.{within-IsArrayOf, no_numbers_array, no_numbers_above}
 use Rattle.cert_format.proofs.evidence.numbers.Goals as goal
 
@@ -13,11 +12,10 @@ returns-in_err-numbers-clause-none c =
 pub returns-then-not-are_within-clause-none : goal.returns-then-not-are_within-clause-none
 returns-then-not-are_within-clause-none c same =
     let above : ¬ All (λ n. n ≤ c.args.most) c.in_ok-numbers.numbers.items =
-    λ all. absurd (let within : c.are_within.result ≡ true = c.are_within.ensures.1 (subst (All (λ n. n ≤ c.args.most)) (sym c.deref.ensures.value) all) in cc) in
+    λ all. absurd (let within : c.are_within.result ≡ true = c.are_within.ensures.1 (rw c.deref.ensures.value all) in cc) in
     no_numbers_above (view c.args.value.now) c.args.most c.in_ok-numbers.numbers.items c.in_ok-numbers.ensures.items above
 
 pub returns-clause-numbers : goal.returns-clause-numbers
 returns-clause-numbers c =
     let within : c.are_within.result ≡ true = cc in
-    let all = subst (All (λ n. n ≤ c.args.most)) c.deref.ensures.value (c.are_within.ensures.0 within) in
-    subst (AreNumbers c.args.most (view c.args.value.now)) (sym c.of.ensures) ((within-IsArrayOf IsWhole (λ n. n ≤ 65535) (view c.args.value.now) c.in_ok-numbers.numbers.items c.in_ok-numbers.ensures.items).0, all)
+    rw c.of.ensures ((within-IsArrayOf IsWhole (λ n. n ≤ 65535) (view c.args.value.now) c.in_ok-numbers.numbers.items c.in_ok-numbers.ensures.items).0, rw c.deref.ensures.value at (c.are_within.ensures.0 within))

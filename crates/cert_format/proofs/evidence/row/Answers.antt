@@ -1,7 +1,6 @@
-use Rattle.std.proofs.Common.{sym, subst, ◌∙◌}
+use Rattle.std.proofs.Common.{sym, ◌∙◌}
 use Rattle.serde_json.specs.View.{view}
 use Rattle.word_image.proofs.Common.{handed_on}
-use Rattle.cert_format.specs.Readings.{IsRowFor}
 use Rattle.cert_format.proofs.laws.Evidence.{IsRowFor-array, no_row}
 use Rattle.cert_format.proofs.evidence.row.Goals as goal
 
@@ -11,4 +10,4 @@ returns-in_err-claims-clause-none c =
 
 pub returns-clause-row : goal.returns-clause-row
 returns-clause-row c =
-    subst (IsRowFor c.args.rule.now (view c.args.value.now)) (sym c.of.ensures) (IsRowFor-array c.args.rule.now (view c.args.value.now) c.in_ok-claims.claims.items c.in_ok-claims.ensures.items (c.in_ok-claims.ensures.count ∙ c.from.ensures ∙ c.pairs.ensures.count))
+    rw c.of.ensures (IsRowFor-array c.args.rule.now (view c.args.value.now) c.in_ok-claims.claims.items c.in_ok-claims.ensures.items (c.in_ok-claims.ensures.count ∙ c.from.ensures ∙ c.pairs.ensures.count))

@@ -1,7 +1,6 @@
-use Rattle.std.proofs.Common.{◌≡◌, ◌≢◌, refl, sym, ap, subst, length, ◌∙◌}
+use Rattle.std.proofs.Common.{◌≡◌, ◌≢◌, refl, sym, ap, length, ◌∙◌}
 use Rattle.word_image.proofs.Common.{false≢true, handed_on}
 use Rattle.serde_json.specs.View.{view}
-use Rattle.cert_format.specs.Readings.{IsWeightsFor}
 use Rattle.cert_format.proofs.laws.Evidence.{IsWeightsFor-array, no_weights_array, no_weights_long}
 use Rattle.cert_format.proofs.evidence.weights.Goals as goal
 
@@ -19,6 +18,5 @@ returns-clause-none c shape =
 pub returns-in-Ok-clause-weights : goal.returns-in-Ok-clause-weights
 returns-in-Ok-clause-weights c =
     let r = c.args.rule.now in
-    let items : c.in-Ok.weights ≡ c.in_ok-numbers.numbers.items = c.in-Ok.ensures.weights ∙ c.deref.ensures.value in
     let long : length c.in_ok-numbers.numbers.items ≡ r.states = ap length (sym c.deref.ensures.value) ∙ c.in-Ok.ensures.accepted.0 refl ∙ c.k.ensures.states in
-    subst (IsWeightsFor r (view c.args.value.now)) (sym items) (IsWeightsFor-array r (view c.args.value.now) c.in_ok-numbers.numbers.items c.in_ok-numbers.ensures.items long)
+    rw (c.in-Ok.ensures.weights, c.deref.ensures.value) (IsWeightsFor-array r (view c.args.value.now) c.in_ok-numbers.numbers.items c.in_ok-numbers.ensures.items long)

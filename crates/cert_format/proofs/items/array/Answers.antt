@@ -1,5 +1,4 @@
-use Rattle.std.proofs.Common.{◌≡◌, ◌+◌, ◌∙◌, sym, ap, subst, map, take, length, arith}
-use Rattle.word_image.proofs.Common.{AllZip, take-length}
+use Rattle.std.proofs.Common.{take_all}
 use Rattle.serde_json.specs.View.{view}
 use Rattle.cert_format.proofs.laws.Arrays.{IsArrayOf-values, AllZip-more, not_array}
 use Rattle.cert_format.proofs.items.array.Goals as goal
@@ -11,13 +10,11 @@ returns-in_default-read-clause-none g c same =
 
 pub loop-entry-preserved : goal.loop-entry-preserved
 loop-entry-preserved g c =
-    subst (AllZip g.T.Item.is_item (map view (take (c.loop-entry.entry-index + 1) c.deref-entry-items.result.now))) (sym c.in_ok-push.ensures.items)
+    rw c.in_ok-push.ensures.items
     (AllZip-more g.T.Item.is_item c.deref-entry-items.result.now c.loop-entry.entry-index c.entry-item.result c.loop-entry.items.items c.in-Some-read.item c.loop-entry-test.true c.entry-item.is c.loop-entry.invariant c.in-Some-read.ensures.some)
 
 pub returns-clause-items : goal.returns-clause-items
 returns-clause-items g c =
     let vs = c.deref-entry-items.result.now in
-    let end : c.loop-entry.entry-index ≡ length vs = omega (arith, c.loop-entry-test.false, c.loop-entry.auto.entry-index-end) in
-    let whole : AllZip g.T.Item.is_item (map view vs) c.loop-entry.items.items =
-    subst (λ l. AllZip g.T.Item.is_item (map view l) c.loop-entry.items.items) (ap (λ n. take n vs) end ∙ take-length vs) c.loop-entry.invariant in
+    let whole = rw (take_all c.loop-entry.entry-index vs c.loop-entry-test.false) at c.loop-entry.invariant in
     IsArrayOf-values g.T.Item.is_item (view c.args.value.now) vs c.loop-entry.items.items (rw c.deref-entry-items.ensures.value c.in-Some.ensures) whole

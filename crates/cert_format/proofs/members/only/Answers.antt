@@ -1,11 +1,11 @@
 use Rattle.std.proofs.Common.{◌≡◌, ◌∙◌, sym, length, true}
 use Rattle.serde_json.specs.View.{view}
-use Rattle.cert_format.proofs.laws.Objects.{length-HasOnly, key-HasOnly, HasOnly-entry}
+use Rattle.cert_format.proofs.laws.Objects.{length-members, key-HasOnly, HasOnly-entry}
 use Rattle.cert_format.proofs.members.only.Goals as goal
 
 pub returns-then-len-ne1-clause-none : goal.returns-then-len-ne1-clause-none
 returns-then-len-ne1-clause-none c d only =
-    c.if-len-ne1.true (c.len.ensures.len ∙ length-HasOnly (view c.args.value.now) c.in_ok-members.members.now.entries c.in_ok-members.ensures only)
+    c.if-len-ne1.true (c.len.ensures.len ∙ length-members (view c.args.value.now) c.in_ok-members.members.now.entries c.in_ok-members.ensures only)
 
 pub returns-then-not-is_named-clause-none : goal.returns-then-not-is_named-clause-none
 returns-then-not-is_named-clause-none c d only =

@@ -1,12 +1,12 @@
 use Rattle.std.proofs.Common.{◌≡◌, ◌-◌, ◌∙◌, sym, subst, length, true, Some, slice_get}
 use Rattle.serde_json.specs.View.{view}
-use Rattle.cert_format.proofs.laws.Objects.{length-HasOnlyBoth, keys-HasOnlyBoth, HasOnlyBoth-entries}
+use Rattle.cert_format.proofs.laws.Objects.{length-members, keys-HasOnlyBoth, HasOnlyBoth-entries}
 use Rattle.cert_format.proofs.members.only_both.Goals.{else-is_named-via-then-is_named+else-is_named-2, else-is_named-via-else-is_named}
 use Rattle.cert_format.proofs.members.only_both.Goals as goal
 
 pub returns-then-len-ne2-clause-none : goal.returns-then-len-ne2-clause-none
 returns-then-len-ne2-clause-none c d e both =
-    c.if-len-ne2.true (c.len.ensures.len ∙ length-HasOnlyBoth (view c.args.value.now) c.in_ok-members.members.now.entries c.in_ok-members.ensures both)
+    c.if-len-ne2.true (c.len.ensures.len ∙ length-members (view c.args.value.now) c.in_ok-members.members.now.entries c.in_ok-members.ensures both)
 
 pub returns-then-is_named-2-clause-some : goal.returns-then-is_named-2-clause-some
 returns-then-is_named-2-clause-some c =

@@ -1,6 +1,4 @@
 use Rattle.serde_json.specs.View.{view}
-use Rattle.std.proofs.Common.{subst}
-use Rattle.rule_text.specs.RuleTexts.{IsTextFault}
 use Rattle.cert_format.specs.Readings.{members_in}
 use Rattle.cert_values.specs.ShapeFaults.IsShapeFault.{NoRule, BadRule}
 use Rattle.cert_format.proofs.reading.read_head.Goals as goal
@@ -11,4 +9,4 @@ returns-in_default-clause-fault c bytes json = NoRule (members_in (view c.args.v
 pub returns-in-Err-clause-fault : goal.returns-in-Err-clause-fault
 returns-in-Err-clause-fault c bytes json =
     BadRule (members_in (view c.args.value.now)) c.in_ok-version.version c.in-Some.text.now json c.in_ok-version.ensures.version c.in-Some.ensures.some c.in-Err.fault
-    (subst (λ text. IsTextFault text c.in-Err.fault) c.as_bytes.ensures.value c.in-Err.ensures.fault)
+    (rw c.as_bytes.ensures.value at c.in-Err.ensures.fault)

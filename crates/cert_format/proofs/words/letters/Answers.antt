@@ -1,5 +1,5 @@
-use Rattle.std.proofs.Common.{ℕ, ◌<◌, List, [], ◌∷◌, ◌++◌, map, take, get_or, Option, Some, sym, ap, ap₂, ◌∙◌}
-use Rattle.word_image.proofs.Common.{take_more, map-append, All-push, hex_value}
+use Rattle.std.proofs.Common.{◌<◌}
+use Rattle.word_image.proofs.Common.{take_more, map-append, All-push}
 use Rattle.cert_format.proofs.laws.Spellings.{not_letters}
 use Rattle.cert_format.proofs.words.letters.Goals as goal
 
@@ -14,7 +14,6 @@ loop-digit-preserved c =
     let (spells, word) = c.loop-digit.invariant in
     let (digit, below) = c.in-Some.ensures.some in
     rw c.in_ok-push.ensures.items (
-      ap (map hex_value) (take_more digits i 0 c.loop-digit-test.true) ∙ map-append hex_value (take i digits) (get_or digits i 0 ∷ [])
-          ∙ ap₂ (λ (x : List (Option ℕ)) (y : Option ℕ). x ++ y ∷ []) spells digit ∙ sym (map-append Some w (c.in-Some.letter ∷ [])),
+      simp (take_more digits i 0 c.loop-digit-test.true, map-append) cc,
       All-push (λ a. a < c.args.k) w c.in-Some.letter word below,
     )

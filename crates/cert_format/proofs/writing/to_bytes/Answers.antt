@@ -1,4 +1,4 @@
-use Rattle.std.proofs.Common.{◌∙◌, ap, sym, subst, Result, Ok, Err, arith, Some, IfOk}
+use Rattle.std.proofs.Common.{◌∙◌, ap, Result, Ok, Err, arith, Some, IfOk}
 use Rattle.word_image.proofs.Common.{IfOk-weaker}
 use Rattle.serde_json.specs.View.{view}
 use Rattle.serde_json.specs.Written.{compact_text}
@@ -13,15 +13,14 @@ both_ok (Err e) gives p q = tt
 
 pub returns-clause-text : goal.returns-clause-text
 returns-clause-text c =
-    let cert = c.args.cert.now in
     let value = c.in_ok-certificate_value.ensures.value in
-    let plain : IsPlain 3 (view c.in_ok-certificate_value.field-0) = subst (IsPlain 3) (sym value) (IsPlain-certificate cert) in
+    let plain : IsPlain 3 (view c.in_ok-certificate_value.field-0) = rw value (IsPlain-certificate c.args.cert.now) in
     IfOk-weaker c.to_vec.result _ _ (λ text h. h plain.no_float ∙ ap compact_text value) c.to_vec.ensures.text
 
 pub returns-clause-read_back : goal.returns-clause-read_back
 returns-clause-read_back c =
     let cert = c.args.cert.now in
     let value = c.in_ok-certificate_value.ensures.value in
-    let plain : IsPlain 3 (view c.in_ok-certificate_value.field-0) = subst (IsPlain 3) (sym value) (IsPlain-certificate cert) in
+    let plain : IsPlain 3 (view c.in_ok-certificate_value.field-0) = rw value (IsPlain-certificate cert) in
     both_ok c.to_vec.result (λ text utf8 reads. IsCertificateText-written {c = cert} (utf8, reads (omega (arith, plain.depth)) ∙ ap Some value) c.in_ok-certificate_value.ensures.shaped)
     c.to_vec.ensures.utf8 c.to_vec.ensures.reads_back

@@ -1,7 +1,5 @@
-use Rattle.std.proofs.Common.{◌≡◌, subst, arith}
-use Rattle.word_image.proofs.Common.{PairGoes}
-use Rattle.closing_test.specs.LeastAheads.{IsLeastFor, IsFirstWith}
-use Rattle.closing_test.proofs.LookAheads.{Below, IsLeastFor-next, IsLeastFor-letters, ord_max-le}
+use Rattle.std.proofs.Common.{◌≡◌, arith}
+use Rattle.closing_test.proofs.LookAheads.{IsLeastFor-next, IsLeastFor-same, ord_max-le}
 use Rattle.closing_test.proofs.look_ahead.ahead_at.Goals as goal
 
 pub loop-letter-preserved : goal.loop-letter-preserved
@@ -13,5 +11,4 @@ loop-letter-preserved c = record {
 pub returns-clause-least : goal.returns-clause-least
 returns-clause-least c =
     let all : c.loop-letter.letter ≡ c.args.rule.now.states = omega (arith, c.loop-letter.auto.letter-end, c.loop-letter-test.false, c.k-letter-end.ensures.states) in
-    IsLeastFor-letters c.args.side c.args.rule.now c.args.window c.loop-letter.ahead
-    (subst (λ i. IsLeastFor (Below (IsFirstWith c.args.side c.args.rule.now c.args.window) i) (PairGoes c.args.side c.args.rule.now) c.loop-letter.ahead) all c.loop-letter.invariant.least)
+    IsLeastFor-same (λ p. (λ (a, l, here). (a, here), λ (a, here). (a, here.0.letter, here))) (rw all at c.loop-letter.invariant.least)

@@ -1,8 +1,6 @@
-use Rattle.std.proofs.Common.{◌≡◌, ℕ, ◌+◌, ◌≤◌, List, length, sym, subst, arith, Contains}
-use Rattle.word_image.proofs.Common.{LocalRule, IsRule, marked, pair_count_pos}
-use Rattle.search_laws.proofs.Common.{PairWalk}
-use Rattle.least_walk.specs.Trees.{WalkSource}
-use Rattle.closing_test.proofs.SeenSplits.{IsLeastSeen, IsLeastSeen-start, IsLeastSeen-none, IsLeastSeen-earlier, IsLeastSoFar-seen, reached-below}
+use Rattle.std.proofs.Common.{◌≡◌, ℕ, List, length, subst, arith}
+use Rattle.word_image.proofs.Common.{LocalRule, IsRule, pair_count_pos}
+use Rattle.closing_test.proofs.SeenSplits.{IsLeastSeen-start, IsLeastSeen-none, IsLeastSeen-earlier, IsLeastSoFar-seen, reached-below}
 use Rattle.closing_test.proofs.split.least_walks.Goals as goal
 use Rattle.closing_test.proofs.split.least_walks.Goals.{in-Some, in_default}
 
@@ -21,15 +19,12 @@ loop-i-preserved c =
     let reached : List ℕ = c.of-middles.result.reached in
     let rule : IsRule r = subst IsRule c.rule.ensures c.keeps_limits.ensures in
     elim c.match-earlier.branch [
-      | in-Some w ↦ subst (IsLeastSeen r reached (c.loop-i.i + 1)) (sym w.best-is) (IsLeastSeen-earlier r reached c.loop-i.i c.loop-i.best w.in-Some.found rule c.loop-i.invariant (rw c.pair.ensures at w.in-Some.ensures))
-      | in_default w ↦ subst (IsLeastSeen r reached (c.loop-i.i + 1)) (sym w.best-is) (IsLeastSeen-none r reached c.loop-i.i c.loop-i.best c.loop-i.invariant (rw c.pair.ensures at w.in_default.ensures))
+      | in-Some w ↦ rw w.best-is (IsLeastSeen-earlier r reached c.loop-i.i c.loop-i.best w.in-Some.found rule c.loop-i.invariant (rw c.pair.ensures at w.in-Some.ensures))
+      | in_default w ↦ rw w.best-is (IsLeastSeen-none r reached c.loop-i.i c.loop-i.best c.loop-i.invariant (rw c.pair.ensures at w.in_default.ensures))
     ]
 
 pub returns : goal.returns
 returns c =
-    let r : LocalRule = c.args.pairs.now in
-    let reached : List ℕ = c.of-middles.result.reached in
-    let all : 512 ≤ 512 → (w : List (ℕ × ℕ)) (t : ℕ) → PairWalk (marked r) r.states 0 w t → Contains reached t =
-    subst (λ (s : WalkSource). 512 ≤ s.most → (w : List (ℕ × ℕ)) (t : ℕ) → PairWalk (marked s.rule) s.rule.states s.start w t → Contains reached t) c.of-middles.ensures c.len-i-end.ensures.all in
-    let end : c.loop-i.i ≡ length reached = omega arith in
-    IsLeastSoFar-seen r reached c.loop-i.best (all (omega arith)) (subst (λ n. IsLeastSeen r reached n c.loop-i.best) end c.loop-i.invariant)
+    let all = rw c.of-middles.ensures at c.len-i-end.ensures.all in
+    let end : c.loop-i.i ≡ length c.of-middles.result.reached = omega arith in
+    IsLeastSoFar-seen c.args.pairs.now c.of-middles.result.reached c.loop-i.best (all (omega arith)) (rw end at c.loop-i.invariant)

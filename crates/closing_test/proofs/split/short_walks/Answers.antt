@@ -1,7 +1,5 @@
-use Rattle.std.proofs.Common.{IfSome, Option, sym, subst, arith}
-use Rattle.word_image.proofs.Common.{LocalRule}
-use Rattle.closing_test.specs.declared.walks.Walks.{Walks}
-use Rattle.closing_test.proofs.SeenSplits.{IsSplit, IsSplit-earlier, reached-below}
+use Rattle.std.proofs.Common.{arith}
+use Rattle.closing_test.proofs.SeenSplits.{IsSplit-earlier, reached-below}
 use Rattle.closing_test.proofs.split.short_walks.Goals as goal
 use Rattle.closing_test.proofs.split.short_walks.Goals.{then-is_loop+in-Some, else-is_loop}
 
@@ -13,8 +11,7 @@ earlier-requires-clause-state c = reached-below c.args.middles.now c.loop-i.i c.
 
 pub loop-i-preserved : goal.loop-i-preserved
 loop-i-preserved c =
-    let r : LocalRule = c.args.pairs.now in
     elim c.if-is_loop.branch [
-      | then-is_loop+in-Some w ↦ subst (λ (b : Option Walks). IfSome b (IsSplit r)) (sym w.best-is) (IsSplit-earlier c.loop-i.best w.in-Some.found c.is_loop.ensures w.in-Some.ensures)
-      | else-is_loop w ↦ subst (λ (b : Option Walks). IfSome b (IsSplit r)) (sym w.best-is) c.loop-i.invariant
+      | then-is_loop+in-Some w ↦ rw w.best-is (IsSplit-earlier c.loop-i.best w.in-Some.found c.is_loop.ensures w.in-Some.ensures)
+      | else-is_loop w ↦ rw w.best-is c.loop-i.invariant
     ]

@@ -1,5 +1,4 @@
-use Rattle.std.proofs.Common.{◌≡◌, ℕ, ◌+◌, ◌*◌, ◌<◌, length, sym, ap, ap₂, ◌∙◌, arith, rules}
-use Rattle.std.proofs.Math.Nat.{add-mul, one-mul, zero-mul, mul_comm}
+use Rattle.std.proofs.Common.{◌≡◌, ℕ, ◌+◌, ◌*◌, ◌<◌, length, sym, ap, ap₂, ◌∙◌, arith, rules, add-mul, one-mul, zero-mul, mul_comm}
 use Rattle.word_image.proofs.Common.{nat_tests, eq_of_mul-eq-mul_left, windows-nodes, LocalRule, IsRule, node_count}
 use Rattle.garden_laws.specs.ZeroPairs.{gives_zeros, zero_pairs}
 use Rattle.garden_laws.proofs.Counts.{count_below-none, count_below-add}

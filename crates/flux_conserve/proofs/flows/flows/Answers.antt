@@ -1,4 +1,4 @@
-use Rattle.std.proofs.Common.{◌≡◌, ℕ, ◌/◌, ◌%◌, ◌-ℤ◌, get_or, pos, w32, FitsSigned, sym, ap₂, ◌∙◌, rules}
+use Rattle.std.proofs.Common.{◌≡◌, ℕ, ◌/◌, ◌%◌, get_or, pos, w32, FitsSigned, ◌∙◌, rules}
 use Rattle.word_image.proofs.Common.{node_count}
 use Rattle.flux_conserve.proofs.Differences.{is_passed_difference}
 use Rattle.flux_conserve.proofs.flows.flows.Goals as goal
@@ -13,6 +13,4 @@ returns c =
     let fits_last : FitsSigned w32 (number c.from-2.result) = search rules in
     let first : c.from.result ≡ v / r.states = c.from.ensures ∙ c.end_node.ensures.value in
     let last : c.from-2.result ≡ v % node_count r = c.from-2.ensures ∙ c.end_node-2.ensures.value in
-    let test = is_passed_difference _ _ _ _ _ _ fits fits_first fits_last c.from-3.ensures c.from-4.ensures c.from-5.ensures in
-    let same : (number c.from.result -ℤ number c.from-2.result) ≡ number (v / r.states) -ℤ number (v % node_count r) = ap₂ (λ (i j : ℕ). number i -ℤ number j) first last in
-    (λ yes. sym c.window_flow.ensures.gain ∙ test.0 yes ∙ same, λ flows. test.1 (c.window_flow.ensures.gain ∙ flows ∙ sym same))
+    rw (← c.window_flow.ensures.gain, ← first, ← last) (is_passed_difference _ _ _ _ _ _ fits fits_first fits_last c.from-3.ensures c.from-4.ensures c.from-5.ensures)

@@ -10,7 +10,6 @@ walk_sum-next weight r u n l = let e : r.width - n ≡ suc (r.width - (n + 1)) =
 
 pub loop-init : goal.loop-init
 loop-init c =
-    let r = c.args.rule.now in
     let whole = walk_gain-sum c.m-end.ensures.rule (slice_index c.args.weights.now) c.args.node c.requires.node in
     (c.requires.node, omega (arith, ints), omega (arith, ints), omega (arith, ints))
 
@@ -19,7 +18,6 @@ loop-preserved c =
     let r = c.args.rule.now in
     let u = c.loop.node in
     let weight = slice_index c.args.weights.now in
-    let state = c.loop.invariant in
     let window : c.window_with-window.result ≡ u * r.states = omega (arith, c.window_with-window.ensures.value) in
     let next : c.end_node-node.result ≡ u * r.states % node_count r = c.end_node-node.ensures.value ∙ ap (λ w. w % node_count r) window in
     let more = walk_sum-next weight r u c.loop.counter (omega arith) in

@@ -1,4 +1,4 @@
-use Rattle.std.proofs.Common.{◌≡◌, ℕ, ◌/◌, ◌%◌, ◌<◌, ◌-ℤ◌, get_or, slice_index, ℤ, pos, w32, FitsSigned, sym, ap, ap₂, ◌∙◌, arith, rules}
+use Rattle.std.proofs.Common.{◌≡◌, ℕ, ◌/◌, ◌%◌, ◌<◌, get_or, slice_index, ℤ, pos, w32, FitsSigned, sym, ap, ◌∙◌, arith, rules}
 use Rattle.word_image.proofs.Common.{get_or-map-range_with_len, node_count}
 use Rattle.ring_laws.proofs.FluxWalks.{walk_gain, walk_gains}
 use Rattle.flux_conserve.proofs.Differences.{is_passed_difference}
@@ -16,7 +16,4 @@ returns c =
     let fits : FitsSigned w32 c.window_flow.result = search rules in
     let fits_first : FitsSigned w32 c.walk_flow-first.result = search rules in
     let fits_last : FitsSigned w32 c.walk_flow-last.result = search rules in
-    let test = is_passed_difference _ _ _ _ _ _ fits fits_first fits_last c.from.ensures c.from-2.ensures c.from-3.ensures in
-    let same : (c.walk_flow-first.result -ℤ c.walk_flow-last.result) ≡ get_or (walk_gains weight r) (v / r.states) (pos 0) -ℤ get_or (walk_gains weight r) (v % node_count r) (pos 0) =
-    ap₂ (λ (i j : ℤ). i -ℤ j) first last in
-    (λ yes. sym c.window_flow.ensures.gain ∙ test.0 yes ∙ same, λ flows. test.1 (c.window_flow.ensures.gain ∙ flows ∙ sym same))
+    rw (← c.window_flow.ensures.gain, ← first, ← last) (is_passed_difference _ _ _ _ _ _ fits fits_first fits_last c.from.ensures c.from-2.ensures c.from-3.ensures)

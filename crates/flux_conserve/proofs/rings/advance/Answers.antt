@@ -1,4 +1,4 @@
-use Rattle.std.proofs.Common.{◌≡◌, ◌+◌, ◌-◌, ◌^◌, ◌<◌, length, get_or, set, ap, arith, length-set}
+use Rattle.std.proofs.Common.{◌≡◌, ◌+◌, ◌-◌, ◌^◌, ◌<◌, length, set, ap, arith, length-set}
 use Rattle.word_image.proofs.Common.{All-set}
 use Rattle.flux_conserve.proofs.Counter.{value-set_more, value-set_carry}
 use Rattle.flux_conserve.proofs.rings.advance.Goals as goal
@@ -17,7 +17,6 @@ loop-place-preserved c =
     let p = c.loop-place.place - 1 in
     let n = length w - c.loop-place.place in
     let (word, long, inside, carried) = c.loop-place.invariant in
-    let letter : get_or w p 0 < k = word p 0 (omega arith) in
     let same : length (set w p 0) ≡ length w = length-set w p 0 in
     let carry = value-set_carry k w p n (omega arith) (omega arith) in
     let after : length (set w p 0) - p ≡ n + 1 = omega arith in

@@ -20,7 +20,8 @@ loop-init c =
     )
 
 -- the letters after a step
-stepped : (letters word : List ℕ) (n : ℕ) → length letters ≡ 9 → n ≤ 9 → length word ≡ n → (length (word ++ drop n letters) ≡ 9) × (take n (word ++ drop n letters) ≡ word)
+stepped : (letters word : List ℕ) (n : ℕ) → length letters ≡ 9 → n ≤ 9 → length word ≡ n
+    → (length (word ++ drop n letters) ≡ 9) × (take n (word ++ drop n letters) ≡ word)
 stepped letters word n long fits same = (
   omega (arith, length-append word (drop n letters), length-drop n letters),
   ap (λ j. take j (word ++ drop n letters)) (sym same) ∙ take-append_seam word (drop n letters),
@@ -50,14 +51,13 @@ loop-preserved c =
     let value_is : value k w ≡ c.loop.counter = number (omega arith) in
     let new_long : length c.advance.new.word ≡ n = c.advance.auto.word ∙ ap length cut ∙ w_long in
     let after = stepped c.loop.letters c.advance.new.word n long c.requires.short new_long in
-    let keeps : KeepsSum weight r w = subst (KeepsSum weight r) cut (c.keeps_sum.ensures.0 c.if-not-keeps_sum.false) in
+    let keeps = rw cut at (c.keeps_sum.ensures.0 c.if-not-keeps_sum.false) in
     let next : value k w + 1 < k ^ length w → value k c.advance.new.word ≡ value k w + 1 =
     rw (c.k-k.ensures.states, cut) at c.advance.ensures.next in
-    let new_word : IsWord k c.advance.new.word = subst (λ j. IsWord j c.advance.new.word) c.k-k.ensures.states c.advance.ensures.word in
     let power = ap (λ j. k ^ j) w_long in
     rw c.from-long.ensures (
       after.0,
-      subst (IsWord k) (sym after.1) new_word,
+      rw (after.1, ← c.k-k.ensures.states) c.advance.ensures.word,
       λ l. ap (value k) after.1 ∙ next (omega arith) ∙ ap (λ v. v + 1) value_is,
       kept_more weight r n c.loop.counter w word w_long value_is keeps before,
     )

@@ -1,14 +1,11 @@
-use Rattle.image_minimal.proofs.Common.{◌<◌, ◌∙◌, slice_index, subst, arith, mul-le-mul_right, IsClosedStep, IsInserted}
+use Rattle.image_minimal.proofs.Common.{◌<◌, ◌∙◌, slice_index, subst, arith, mul-le-mul_right, IsInserted}
 use Rattle.image_minimal.proofs.laws.ClosedSteps.{IsClosedStep-unique, closed_step}
 use Rattle.image_minimal.proofs.Searches.{IsSearch-first, IsSearchAt-start, IsSearchAt-insert}
 use Rattle.image_minimal.proofs.ClassSearches.{length-classes-le, class-below, HasClasses-closed}
 use Rattle.image_minimal.proofs.classes.search.Goals as goal
 
 pub loop-place-init : goal.loop-place-init
-loop-place-init c = record {
-  search = IsSearch-first (IsClosedStep c.args.subsets.now) c.args.subsets.now.states c.clear.ensures.sets (subst (IsInserted c.clear.new.self.sets c.insert.new.self.sets) c.full.ensures.set c.insert.ensures.sets);
-  limit = c.insert.ensures.limit ∙ c.clear.ensures.limit ∙ c.count.ensures.count;
-}
+loop-place-init c = grind (arith, IsSearch-first)
 
 pub steps-steps-requires : goal.steps-steps-requires
 steps-steps-requires c = omega (arith, class-below c.loop-place.invariant.search c.loop-place.place (omega (arith, c.len.ensures.len)), c.at-set.ensures)

@@ -4,7 +4,8 @@ use Rattle.image_minimal.proofs.closures.back.Goals as goal
 use Rattle.image_minimal.proofs.closures.back.Goals.{then-ends-set-eq0, else-ends-set-eq0}
 
 -- where the set lacks none of the ends, all edges lead into it
-all_led : {r : LocalRule} {ends set : ℕ} → IsRule r → (u a : ℕ) → set < 2 ^ 16 → IsEnds Right r u a ends → bit_and ends (65535 - set) ≡ 0 → IsLedInto r set a u
+all_led : {r : LocalRule} {ends set : ℕ} → IsRule r → (u a : ℕ) → set < 2 ^ 16 → IsEnds Right r u a ends → bit_and ends (65535 - set) ≡ 0
+    → IsLedInto r set a u
 all_led {r} {ends} {set} rule u a small h none v edge =
     let node : v < node_count r = edge_below rule a u v edge in
     ⊎_elim
@@ -13,7 +14,8 @@ all_led {r} {ends} {set} rule u a small h none v edge =
     (IsBitSet-decide set v)
 
 -- where the set lacks one of the ends, not all edges lead into it
-not_led : {r : LocalRule} {ends set : ℕ} → IsRule r → (u a : ℕ) → set < 2 ^ 16 → IsEnds Right r u a ends → bit_and ends (65535 - set) ≢ 0 → ¬ IsLedInto r set a u
+not_led : {r : LocalRule} {ends set : ℕ} → IsRule r → (u a : ℕ) → set < 2 ^ 16 → IsEnds Right r u a ends → bit_and ends (65535 - set) ≢ 0
+    → ¬ IsLedInto r set a u
 not_led {r} {ends} {set} rule u a small h some led =
     let (v, node, bit) = IsBitSet-some (node_count r) (bit_and ends (65535 - set)) (omega (arith, and_le_l ends (65535 - set), h.within)) some in
     let (there, missing) = (IsBitSet-minus ends set v small (omega (arith, node, rule.shape.most_nodes))).0 bit in

@@ -8,16 +8,10 @@ more : (set u at : ℕ) → u < 16 → at ≡ bit_or set (1 * 2 ^ u % 65536) →
 more set u at small is = is ∙ ap (bit_or set) (one_shl u 16 small)
 
 pub loop-u-init : goal.loop-u-init
-loop-u-init c =
-    let r = c.args.graph.now in
-    rw c.full-closure.ensures.set (record { within = omega (arith, pow_pos (node_count r)); nodes = λ v l. ((λ _ u less. absurd (omega (arith, less))), (λ _. IsBitSet-full r v l)) })
+loop-u-init c = grind (arith, pow_pos, IsBitSet-full)
 
 pub bounds-closures-from : goal.bounds-closures-from
-bounds-closures-from c =
-    let n = node_count c.args.graph.now in
-    let node : c.loop-u.u < n = omega (arith, c.nodes-u-end.ensures.nodes) in
-    let small : c.loop-u.u < 16 = omega (arith, node, c.nodes-u-end.ensures.rule.shape.most_nodes) in
-    omega (arith, more c.args.set c.loop-u.u c.from.result small c.from.ensures, or_lt n c.args.set (2 ^ c.loop-u.u) c.requires.set (pow-lt node), c.requires.closures.long)
+bounds-closures-from c = grind (arith, more, or_lt, pow-lt)
 
 pub loop-u-preserved : goal.loop-u-preserved
 loop-u-preserved c =

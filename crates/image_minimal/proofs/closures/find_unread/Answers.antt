@@ -1,12 +1,9 @@
-use Rattle.image_minimal.proofs.Common.{◌^◌, ◌∙◌, arith, mul-le-mul_right, pow_pos, node_count, IsBack, IsSetOf-unique, length-search-le}
+use Rattle.image_minimal.proofs.Common.{◌^◌, ◌∙◌, arith, mul-le-mul_right, pow_pos, node_count, IsSetOf-unique, length-search-le}
 use Rattle.image_minimal.proofs.Searches.{IsSearch-first, IsSearchAt-start, IsSearchAt-insert, AreUnreadSets-closed}
 use Rattle.image_minimal.proofs.closures.find_unread.Goals as goal
 
 pub loop-place-init : goal.loop-place-init
-loop-place-init c = record {
-  search = IsSearch-first (IsBack c.args.graph.now) c.args.graph.now.states c.clear.ensures.sets c.insert.ensures.sets;
-  limit = omega (arith, c.insert.ensures.limit, c.clear.ensures.limit, c.full.ensures.set, c.from.ensures, pow_pos (node_count c.args.graph.now));
-}
+loop-place-init c = grind (arith, IsSearch-first, pow_pos)
 
 pub loop-a-init : goal.loop-a-init
 loop-a-init c = record { search = IsSearchAt-start c.loop-place.invariant.search (omega (arith, c.len.ensures.len)) c.at-set.ensures; limit = c.loop-place.invariant.limit }

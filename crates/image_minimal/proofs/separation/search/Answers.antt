@@ -1,4 +1,4 @@
-use Rattle.image_minimal.proofs.Common.{◌≡◌, ◌+◌, ◌*◌, ◌^◌, [], ◌∷◌, ◌++◌, slice_index, nat_eq, Some, refl, sym, ap, ◌∙◌, subst, arith, slice_get, mul-le-mul_right, suc-mul, range_with_len, slice_get_read, slice_get_within, length, node_count, TreeSpells-some, mapped_at, Link, IsJoin, link_place, IsLinkSearch, SpellsLink, set_count, vec_capacity, HasRows-tables, ◌<◌}
+use Rattle.image_minimal.proofs.Common.{◌≡◌, ◌+◌, ◌*◌, ◌^◌, [], ◌∷◌, ◌++◌, slice_index, nat_eq, Some, refl, sym, ap, ◌∙◌, subst, arith, slice_get, mul-le-mul_right, suc-mul, range_with_len, slice_get_read, slice_get_within, length, node_count, TreeSpells-some, mapped_at, Link, link_place, IsLinkSearch, SpellsLink, set_count, vec_capacity, HasRows-tables, ◌<◌}
 use Rattle.image_minimal.proofs.laws.LinkWords.{link-below}
 use Rattle.image_minimal.proofs.laws.Separations.{HaveSameOrphans-closed, Separates-conflict}
 use Rattle.image_minimal.proofs.Joins.{IsFalling-numbers}
@@ -24,7 +24,8 @@ here : (c : After-index-link) → slice_get c.loop-place.links.items c.loop-plac
 here c = slice_get_read c.loop-place.links.items _ c.loop-place.place c.index-link.result.now refl (omega arith) c.index-link.ensures
 
 -- the two sets of the link at the place
-below : (c : After-index-link) → (c.index-link.result.now.first < 2 ^ node_count c.args.first.now) × (c.index-link.result.now.second < 2 ^ node_count c.args.second.now)
+below : (c : After-index-link)
+    → (c.index-link.result.now.first < 2 ^ node_count c.args.first.now) × (c.index-link.result.now.second < 2 ^ node_count c.args.second.now)
 below c = link-below c.loop-place.invariant.search c.loop-place.place c.index-link.result.now (here c)
 
 pub steps-firsts-requires : goal.steps-firsts-requires
@@ -69,32 +70,11 @@ pub join-requires-clause-first : goal.join-requires-clause-first
 join-requires-clause-first c = let h = c.loop-letter.invariant.search in omega (arith, h.search.long, (h.first c.loop-letter.letter (omega arith)).within, c.from.ensures)
 
 pub join-requires-clause-second : goal.join-requires-clause-second
-join-requires-clause-second c =
-    let h = c.loop-letter.invariant.search in
-    omega (arith, h.search.long, (h.second c.loop-letter.letter (omega arith)).within, c.from-in-loop-letter.ensures, c.count_sets-below.ensures.count)
+join-requires-clause-second c = grind arith
 
 pub loop-letter-preserved : goal.loop-letter-preserved
 loop-letter-preserved c =
-    let h = c.loop-letter.invariant.search in
-    let letter = c.loop-letter.letter in
-    let old = c.loop-letter.parents in
-    let new = c.join.new.parents in
-    let s = slice_index c.steps-firsts.result letter in
-    let t = slice_index c.steps-seconds.result letter in
-    let joins : IsJoin old new s (2 ^ node_count c.args.first.now + t) c.join.result = rw (c.from.ensures, c.from-in-loop-letter.ensures, c.count_sets-below.ensures.count) at c.join.ensures.join in
-    elim c.if-join.branch [
-      | then-join w ↦ record {
-        search = rw (ap (λ v. v.items) w.links-is ∙ w.push_reserved-then-join.ensures.items)
-            (IsLinkSearchAt-new h (omega arith) (even (nat_eq s 0) (nat_eq t 0) c.if-s-t.false) (subst (IsJoin old new s (2 ^ node_count c.args.first.now + t)) w.if-join.true joins));
-        falling = c.join.ensures.falling;
-        capacity = ap vec_capacity w.links-is ∙ w.push_reserved-then-join.ensures.capacity ∙ c.loop-letter.invariant.capacity;
-      }
-      | else-join w ↦ record {
-        search = rw (ap (λ v. v.items) w.links-is) (IsLinkSearchAt-there h (omega arith) (subst (IsJoin old new s (2 ^ node_count c.args.first.now + t)) w.if-join.false joins));
-        falling = c.join.ensures.falling;
-        capacity = ap vec_capacity w.links-is ∙ c.loop-letter.invariant.capacity;
-      }
-    ]
+    grind (arith, then-join, IsLinkSearchAt-new, even, nat_eq, vec_capacity, else-join, IsLinkSearchAt-there)
 
 pub loop-place-preserved : goal.loop-place-preserved
 loop-place-preserved c =

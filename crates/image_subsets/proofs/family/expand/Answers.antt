@@ -1,5 +1,5 @@
-use Rattle.std.proofs.Common.{◌≡◌, ◌+◌, ◌*◌, ◌^◌, ◌<◌, slice_index, refl, sym, ap, ◌∙◌, subst, arith, vec_capacity, suc-mul}
-use Rattle.word_image.proofs.Common.{length_push, node_count, IsStep}
+use Rattle.std.proofs.Common.{◌≡◌, ◌+◌, ◌*◌, ◌<◌, slice_index, refl, ap, ◌∙◌, subst, arith, vec_capacity}
+use Rattle.word_image.proofs.Common.{length_push, IsStep}
 use Rattle.image_subsets.specs.Searches.{IsTreeSearch}
 use Rattle.image_subsets.proofs.Steps.{HasRows-tables}
 use Rattle.image_subsets.proofs.Searches.{IsTreeSearch-expanding, IsExpanding-there, IsExpanding-new, EndsEmpty-push, set-below, length-search-most}
@@ -8,8 +8,7 @@ use Rattle.image_subsets.proofs.family.expand.Goals.{then-insert+else-after-eq0,
 
 pub steps-steps-requires : goal.steps-steps-requires
 steps-steps-requires c =
-    HasRows-tables c.requires.tables c.at.result
-    (subst (λ s. s < 2 ^ node_count c.args.graph.now) (sym c.at.ensures) (set-below c.requires.search.0 c.args.place c.requires.place))
+    HasRows-tables c.requires.tables c.at.result (rw c.at.ensures (set-below c.requires.search.0 c.args.place c.requires.place))
 
 pub overflow_cast-place : goal.overflow_cast-place
 overflow_cast-place c = record { fits = omega (arith, length-search-most c.requires.tables.rule c.requires.search.0, c.requires.place) }
@@ -30,22 +29,15 @@ loop-letter-init c = record {
 pub push_reserved-requires : goal.push_reserved-requires
 push_reserved-requires c =
     let h = c.loop-letter.invariant in
-    let below : c.loop-letter.letter < c.args.graph.now.states = omega (arith, c.loop-letter-test.true, c.k-letter-end.ensures.states) in
+    let below : c.loop-letter.letter < c.args.graph.now.states = grind arith in
     let new = rw c.if-insert.true at c.insert.ensures in
     let longer = IsTreeSearch-expanding h.search _ below (rw c.from.ensures (h.steps c.loop-letter.letter below)) new.0 in
-    omega (
-      arith,
-      length-search-most c.requires.tables.rule longer,
-      length_push c.loop-letter.sets (slice_index c.steps-steps.result c.from.result),
-      h.search.so_far.one_each,
-      h.capacity,
-      c.requires.room,
-    )
+    omega (arith, length-search-most c.requires.tables.rule longer, length_push c.loop-letter.sets (slice_index c.steps-steps.result c.from.result))
 
 pub returns-then-after-eq0-clause-search : goal.returns-then-after-eq0-clause-search
 returns-then-after-eq0-clause-search c =
     let h = c.loop-letter.invariant in
-    let below : c.loop-letter.letter < c.args.graph.now.states = omega (arith, c.loop-letter-test.true, c.k-letter-end.ensures.states) in
+    let below : c.loop-letter.letter < c.args.graph.now.states = grind arith in
     let new = rw c.if-insert.true at c.insert.ensures in
     let longer = IsTreeSearch-expanding h.search _ below (rw c.from.ensures (h.steps c.loop-letter.letter below)) new.0 in
     rw (new.1, c.push_reserved.ensures.items) ((_, longer), EndsEmpty-push c.loop-letter.sets _ c.if-after-eq0.true)
@@ -53,9 +45,8 @@ returns-then-after-eq0-clause-search c =
 pub loop-letter-preserved : goal.loop-letter-preserved
 loop-letter-preserved c =
     let h = c.loop-letter.invariant in
-    let below : c.loop-letter.letter < c.args.graph.now.states = omega (arith, c.loop-letter-test.true, c.k-letter-end.ensures.states) in
-    let step : IsStep c.args.graph.now _ c.loop-letter.letter (slice_index c.steps-steps.result c.from.result) =
-    rw c.from.ensures (h.steps c.loop-letter.letter below) in
+    let below : c.loop-letter.letter < c.args.graph.now.states = grind arith in
+    let step : IsStep c.args.graph.now _ c.loop-letter.letter (slice_index c.steps-steps.result c.from.result) = grind arith in
     elim c.if-insert.branch [
       | then-insert+else-after-eq0 w ↦
           let new = rw w.if-insert.true at c.insert.ensures in
@@ -78,5 +69,5 @@ pub returns-clause-search : goal.returns-clause-search
 returns-clause-search c =
     let k = c.args.graph.now.states in
     let x = c.loop-letter.invariant.search in
-    let all : c.args.place * k + c.loop-letter.letter ≡ (c.args.place + 1) * k = omega (arith, suc-mul c.args.place k, c.loop-letter-test.false, c.k-letter-end.ensures.states) in
-    (subst (IsTreeSearch c.args.graph.now c.loop-letter.sets c.loop-letter.parents.items) all x.so_far, x.nonempty)
+    let all : c.args.place * k + c.loop-letter.letter ≡ (c.args.place + 1) * k = grind arith in
+    (rw all at x.so_far, x.nonempty)

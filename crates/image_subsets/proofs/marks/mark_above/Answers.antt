@@ -1,5 +1,4 @@
-use Rattle.std.proofs.Common.{◌*◌, length, refl, subst, arith}
-use Rattle.image_subsets.specs.Marks.{AreMarksTo}
+use Rattle.std.proofs.Common.{◌≡◌, ◌*◌, length, refl, arith}
 use Rattle.image_subsets.proofs.MarkSpreads.{AreMarksTo-start, AreMarksTo-next}
 use Rattle.image_subsets.proofs.marks.mark_above.Goals as goal
 
@@ -17,4 +16,4 @@ loop-u-preserved c =
 
 pub returns : goal.returns
 returns c sets listed =
-    subst (λ m. AreMarksTo sets c.args.n m c.loop-u.rows) (omega (arith, c.loop-u.auto.u-end, c.loop-u-test.false)) (c.loop-u.invariant.marks sets listed)
+    let all : c.loop-u.u ≡ c.args.n = omega arith in rw all at (c.loop-u.invariant.marks sets listed)

@@ -1,6 +1,5 @@
-use Rattle.std.proofs.Common.{◌≡◌, ℕ, ◌+◌, ◌-◌, ◌*◌, ◌%◌, ◌^◌, ◌<◌, ◌↔◌, slice_index, IsBitSet, sym, subst, arith}
+use Rattle.std.proofs.Common.{◌≡◌, ℕ, ◌+◌, ◌-◌, ◌*◌, ◌%◌, ◌^◌, ◌<◌, IsBitSet, arith}
 use Rattle.word_image.proofs.Common.{one_shl, bit_set_by_shift, pow_below}
-use Rattle.image_subsets.specs.Marks.{HoldsWithout}
 use Rattle.image_subsets.proofs.RowMarks.{pow-le, with_low_node, with_high_node, with_no_node}
 use Rattle.image_subsets.proofs.rows.with_node.Goals as goal
 
@@ -27,8 +26,7 @@ returns-then-i-u-eq1 c b inside =
     let back : c.args.u ≡ 6 + v = omega (arith, c.if-u-lt-LOW_NODES.false) in
     let some : IsBitSet i v = (bit_set_by_shift i v).0 c.if-i-u-eq1.true in
     let at : i - 1 * 2 ^ v % 2 ^ 64 + 2 ^ v ≡ i = omega (arith, one_shl v 64 (omega (arith, c.requires.node)), pow-le i v some) in
-    subst (λ w. IsBitSet (slice_index c.args.rows.now (i - 1 * 2 ^ v % 2 ^ 64)) b ↔ HoldsWithout c.args.rows.now w (64 * i + b)) (sym back)
-    (with_high_node c.args.rows.now i b v _ inside some at)
+    rw (← back) at (with_high_node c.args.rows.now i b v _ inside some at)
 
 pub returns-else-i-u-eq1 : goal.returns-else-i-u-eq1
 returns-else-i-u-eq1 c b inside =

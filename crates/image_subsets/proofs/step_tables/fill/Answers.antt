@@ -1,6 +1,4 @@
-use Rattle.std.proofs.Common.{◌≡◌, ◌+◌, ◌-◌, ◌∙◌, arith, subst}
-use Rattle.word_image.proofs.Common.{cases_lt}
-use Rattle.image_subsets.specs.StepTables.{AreSteps}
+use Rattle.std.proofs.Common.{◌≡◌, ◌+◌, ◌-◌, ◌∙◌, arith}
 use Rattle.image_subsets.proofs.Steps.{AreSteps-double}
 use Rattle.image_subsets.proofs.step_tables.fill.Goals as goal
 
@@ -18,7 +16,4 @@ loop-u-preserved c =
     }
 
 pub returns-clause-steps : goal.returns-clause-steps
-returns-clause-steps c =
-    let all : c.loop-u.u - c.args.first ≡ c.args.end - c.args.first =
-    grind (arith, cases_lt c.args.end c.args.first, c.loop-u-test.false, c.loop-u.auto.u-end, c.loop-u.invariant.none) in
-    subst (λ n. AreSteps c.args.graph.now c.args.first n c.loop-u.rows.items) all c.loop-u.invariant.steps
+returns-clause-steps c = grind arith

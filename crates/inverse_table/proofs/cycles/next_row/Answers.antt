@@ -14,9 +14,7 @@ next_mod j rows = let e : j + 1 ≡ suc j = omega arith in let f : suc (j % rows
 -- behind the last row the first one comes
 after_last : (row rows j : ℕ) → 0 < row → 0 < rows → j % rows * row + row ≡ rows * row → 0 ≡ (j + 1) % rows * row
 after_last row rows j some few end =
-    let below : j % rows < rows = mod-lt j few in
-    let last : j % rows + 1 ≡ rows =
-    ⊎_elim (λ l. let more : (j % rows + 1) * row + row ≤ rows * row = row_below (j % rows + 1) rows row l in absurd (omega arith)) (λ l. omega arith) (cases_lt (j % rows + 1) rows) in
+    let last : j % rows + 1 ≡ rows = grind (arith, row_below, cases_lt) in
     let zero : 0 ≡ 0 * row = omega arith in
     zero ∙ sym (ap (λ n. n * row) (next_mod j rows ∙ ap (λ n. n % rows) last ∙ mod_self rows))
 
@@ -29,15 +27,7 @@ after_other row rows j few other =
     omega arith
 
 pub returns-then-place-row : goal.returns-then-place-row
-returns-then-place-row c = record {
-  next = λ rows j count place.
-      let few = some_rows c.args.row rows c.args.place c.requires.some (omega (arith, c.requires.inside, count)) in
-      after_last c.args.row rows j c.requires.some few (omega (arith, count, place, c.if-place-row.true));
-}
+returns-then-place-row c = grind (arith, some_rows, after_last)
 
 pub returns : goal.returns
-returns c = record {
-  next = λ rows j count place.
-      let few = some_rows c.args.row rows c.args.place c.requires.some (omega (arith, c.requires.inside, count)) in
-      ap (λ n. n + c.args.row) place ∙ after_other c.args.row rows j few (λ end. c.if-place-row.false (ap (λ n. n + c.args.row) place ∙ end ∙ sym count));
-}
+returns c = grind (arith, some_rows, after_other)

@@ -1,13 +1,10 @@
-use Rattle.std.proofs.Common.{◌+◌, ◌-◌, ◌*◌, ◌≤◌, All, length, refl, sym, ap, subst, ◌∙◌, arith}
+use Rattle.std.proofs.Common.{◌+◌, ◌-◌, ◌*◌, length, refl, ap, ◌∙◌, arith}
 use Rattle.inverse_table.proofs.ImageLaws.{AreImageValues-fit, power-longer}
 use Rattle.inverse_table.proofs.WordCounts.{power-most}
 use Rattle.inverse_table.proofs.image_values.write_images.Goals as goal
 
 pub write_longer-requires-clause-fits : goal.write_longer-requires-clause-fits
-write_longer-requires-clause-fits c =
-    let k = c.args.rule.now.states in
-    subst (λ xs. All (λ image. image * k + k ≤ 65536) xs) (sym c.deref.ensures.value)
-    (AreImageValues-fit c.nodes.ensures.rule c.args.n (omega arith) c.requires.fits c.loop.invariant.images)
+write_longer-requires-clause-fits c = grind (arith, AreImageValues-fit)
 
 pub write_longer-requires-clause-few : goal.write_longer-requires-clause-few
 write_longer-requires-clause-few c =

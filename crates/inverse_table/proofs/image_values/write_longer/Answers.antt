@@ -1,37 +1,23 @@
-use Rattle.std.proofs.Common.{◌≡◌, ℕ, ◌+◌, ◌*◌, ◌%◌, ◌≤◌, ◌++◌, List, length, vec_capacity, map, slice_index, slice_range, refl, sym, ap, subst, ◌∙◌, arith, mod-lt, mod-eq_of_lt}
+use Rattle.std.proofs.Common.{◌≡◌, ℕ, ◌+◌, ◌*◌, ◌%◌, ◌≤◌, ◌++◌, List, length, map, slice_index, slice_range, refl, sym, ap, subst, ◌∙◌, arith, mod-lt}
 use Rattle.word_image.proofs.Common.{LocalRule, IsRule, node_count, node_count_pos, windows-nodes}
 use Rattle.inverse_table.specs.ImageValues.{labels_from}
 use Rattle.inverse_table.proofs.ImageLaws.{AreLonger, AreLonger-row, AreImageValues-longer, row-long}
 use Rattle.inverse_table.proofs.image_values.write_longer.Goals as goal
-
-pub loop-image-init : goal.loop-image-init
-loop-image-init c =
-    let r = c.args.rule.now in
-    let zero : 0 ≡ 0 * r.states = omega arith in
-    record {
-      longer = record { long = ap length c.clear.ensures.items ∙ omega arith; each = λ word a l. absurd (omega arith) };
-      room = omega (arith, c.requires.room, c.clear.ensures.capacity, ap vec_capacity c.replace-list.ensures.value);
-      place = zero ∙ ap (λ u. u * r.states) (sym (mod-eq_of_lt (node_count_pos c.k-k.ensures.rule)));
-    }
 
 -- the row of the node that the words so far have come to is within the table, and has the labels of its edges
 record IsRow (r : LocalRule) (table : List ℕ) (word place row : ℕ) : Type 0 where
   inside : place + row ≤ length table
   labels : slice_range table place (place + row) ≡ labels_from r (word % node_count r)
 
-is_row : {r : LocalRule} {table : List ℕ} {word place row : ℕ} → IsRule r → table ≡ r.table → row ≡ r.states → place ≡ word % node_count r * r.states → IsRow r table word place row
-is_row {r} {table} {word} {place} {row} rule is same at =
-    let within = (row-long rule (word % node_count r) (mod-lt word (node_count_pos rule))).0 in
-    record { inside = omega (arith, within, same, at, ap length is); labels = rw (is, same, at) refl }
+is_row : {r : LocalRule} {table : List ℕ} {word place row : ℕ} → IsRule r → table ≡ r.table → row ≡ r.states → place ≡ word % node_count r * r.states
+    → IsRow r table word place row
+is_row {r} {table} {word} {place} {row} rule is same at = grind (arith, row-long, mod-lt, node_count_pos)
 
 pub row_at-requires : goal.row_at-requires
 row_at-requires c = (is_row c.k-k.ensures.rule c.table-table.ensures.table (c.from-row.ensures ∙ c.k-k.ensures.states) c.loop-image.invariant.place).inside
 
 pub next_row-place-requires : goal.next_row-place-requires
-next_row-place-requires c = record {
-  some = omega (arith, c.from-row.ensures, c.k-k.ensures.states, c.k-k.ensures.rule.shape.least_states);
-  inside = (is_row c.k-k.ensures.rule c.table-table.ensures.table (c.from-row.ensures ∙ c.k-k.ensures.states) c.loop-image.invariant.place).inside;
-}
+next_row-place-requires c = grind (arith, is_row)
 
 pub loop-image-preserved : goal.loop-image-preserved
 loop-image-preserved c =

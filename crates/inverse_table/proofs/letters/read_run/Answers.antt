@@ -1,4 +1,4 @@
-use Rattle.std.proofs.Common.{ℕ, ◌+◌, ◌/◌, ◌<◌, length, sym, ap, subst, ◌∙◌, arith, length-set, mod-lt}
+use Rattle.std.proofs.Common.{ℕ, ◌+◌, ◌/◌, ◌<◌, length, sym, subst, arith, length-set, mod-lt}
 use Rattle.inverse_table.specs.ImageValues.{letter_by_unit, IsRead}
 use Rattle.inverse_table.proofs.ReadLaws.{IsRead-same, IsRead-new, HasApart-read}
 use Rattle.inverse_table.proofs.letters.read_run.Goals as goal
@@ -20,10 +20,7 @@ loop-word-preserved c =
     let is = c.requires.run word (omega arith) (omega arith) in
     let below : (v : ℕ) → letter_by_unit c.args.place.k c.args.place.unit v < 16 = λ v. omega (arith, mod-lt (v / c.args.place.unit) c.args.place.some, c.args.place.most) in
     record {
-      long = elim c.if-letters-image.branch [
-        | then-letters-image+else-letters-image-ne-UNREAD w ↦ ap length w.letters-is ∙ length-set letters image c.args.letter ∙ c.loop-word.invariant.long
-        | else-letters-image w ↦ ap length w.letters-is ∙ c.loop-word.invariant.long
-      ];
+      long = grind (arith, then-letters-image+else-letters-image-ne-UNREAD, length-set, else-letters-image);
       read = elim c.if-letters-image.branch [
         | then-letters-image+else-letters-image-ne-UNREAD w ↦
             subst (IsRead (letter_by_unit c.args.place.k c.args.place.unit) c.args.images.now (word + 1)) (sym w.letters-is) (IsRead-new word image c.args.letter read c.from-image.ensures is (omega arith) within below)

@@ -1,29 +1,20 @@
-use Rattle.std.proofs.Common.{◌≡◌, ℕ, ◌+◌, ◌-◌, ◌%◌, ◌<◌, ◌++◌, List, is_ok, All, length, take, drop, replicate, sym, ap, ap₂, subst, ◌∙◌, arith, take_all}
+use Rattle.std.proofs.Common.{◌≡◌, ℕ, ◌++◌, List, is_ok, length, take, drop, Bool, true, if◌then◌else◌, refl, sym, ap, subst, ◌∙◌, arith, take_all}
 use Rattle.word_image.proofs.Common.{take-append-le}
 use Rattle.inverse_table.specs.InverseMaps.{AreMapLetters}
-use Rattle.inverse_table.proofs.Filled.{items-resized, length-resized}
 use Rattle.inverse_table.proofs.WordCounts.{power-divides}
 use Rattle.inverse_table.proofs.ImageLaws.{AreImageValues-below}
 use Rattle.inverse_table.proofs.InverseLaws.{IsReadingBack-place, AreApartAt-apart, AreMapLetters-read}
 use Rattle.inverse_table.proofs.table_room.read_back.Goals as goal
 
-pub read_letters-requires-clause-unread : goal.read_letters-requires-clause-unread
-read_letters-requires-clause-unread c =
-    let is = c.deref_mut.ensures.value ∙ items-resized _ _ _ _ _ _ c.clear.ensures.items c.clear.ensures.len (ap is_ok c.unwrap.ensures) c.resize.ensures.items in
-    let long = c.deref_mut.ensures.len ∙ length-resized _ _ _ _ (ap is_ok c.unwrap.ensures) c.resize.ensures.len in
-    is ∙ ap (λ n. replicate n 16) (sym long)
+-- a list that `resize` fills up within its capacity has as many items as were asked for
+length-resized : (n len now : ℕ) (ok : Bool) → ok ≡ true → len ≡ (if ok then n else now) → len ≡ n
+length-resized n len now ok succeeds is = is ∙ rw succeeds refl
 
 pub read_letters-requires-clause-within : goal.read_letters-requires-clause-within
-read_letters-requires-clause-within c =
-    let long = c.deref_mut.ensures.len ∙ length-resized _ _ _ _ (ap is_ok c.unwrap.ensures) c.resize.ensures.len in
-    subst (λ n. All (λ image. image < n) c.args.images.now) (sym (long ∙ c.requires.count)) (AreImageValues-below c.place_of-place.ensures.rule c.requires.images)
+read_letters-requires-clause-within c = grind (arith, length-resized, is_ok, AreImageValues-below)
 
 pub read_letters-requires-clause-whole : goal.read_letters-requires-clause-whole
-read_letters-requires-clause-whole c =
-    let r = c.args.rule.now in
-    let long : ℕ = c.args.at.n + (r.width - 1) in
-    let fewer : ℕ = long - 1 - c.args.at.c in
-    ap₂ (λ (i j : ℕ). i % j) c.requires.images.long c.place_of-place.ensures.unit ∙ power-divides r.states long fewer (omega arith)
+read_letters-requires-clause-whole c = grind (arith, power-divides)
 
 -- a list that is written to again from the front, as far as it is long
 written : (n : ℕ) (xs ys : List ℕ) → length xs ≡ n → take n (xs ++ drop (length xs) ys) ≡ xs

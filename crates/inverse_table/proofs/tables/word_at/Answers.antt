@@ -1,19 +1,13 @@
-use Rattle.std.proofs.Common.{◌≡◌, ℕ, ◌+◌, ◌-◌, ◌/◌, ◌%◌, ◌^◌, List, [], ◌∷◌, ◌++◌, slice_index, sym, ap₂, ◌∙◌, arith, take_all}
+use Rattle.std.proofs.Common.{◌≡◌, ℕ, ◌+◌, ◌-◌, ◌/◌, ◌%◌, ◌^◌, List, slice_index, ap₂, ◌∙◌, arith, take_all}
 use Rattle.word_image.proofs.Common.{take_more, word_of, length-word_of, get_or-word_of}
 use Rattle.inverse_table.proofs.WordCounts.{power-most}
 use Rattle.inverse_table.proofs.tables.word_at.Goals as goal
 
 pub pow-requires : goal.pow-requires
-pow-requires c =
-    let behind : ℕ = c.from.result + c.from-2.result - 1 - 1 - c.loop-place.place in
-    let most = power-most c.k.ensures.rule c.args.n behind c.from-k.result c.requires.fits (c.from-k.ensures ∙ c.k.ensures.states) (omega arith) in
-    omega arith
+pow-requires c = grind (arith, power-most)
 
 pub nonzero_div-value : goal.nonzero_div-value
-nonzero_div-value c =
-    let behind : ℕ = c.from.result + c.from-2.result - 1 - 1 - c.loop-place.place in
-    let most = power-most c.k.ensures.rule c.args.n behind c.from-k.result c.requires.fits (c.from-k.ensures ∙ c.k.ensures.states) (omega arith) in
-    omega (arith, c.pow.ensures)
+nonzero_div-value c = grind (arith, power-most)
 
 pub loop-place-preserved : goal.loop-place-preserved
 loop-place-preserved c =
@@ -25,15 +19,8 @@ loop-place-preserved c =
     let same : c.from-k.result ≡ r.states = c.from-k.ensures ∙ c.k.ensures.states in
     let rest : c.from.result + c.from-2.result - 1 - 1 - place ≡ long - 1 - place = omega arith in
     let behind : c.pow.result ≡ r.states ^ (long - 1 - place) = c.pow.ensures ∙ ap₂ (λ (i j : ℕ). i ^ j) same rest in
-    let letter : c.args.value / c.pow.result % c.from-k.result ≡ slice_index w place =
-    ap₂ (λ (u k : ℕ). c.args.value / u % k) behind same ∙ sym (get_or-word_of r.states place long c.args.value (omega arith) c.requires.value) in
-    c.in_ok-push.ensures.items
-    ∙ ap₂ (λ (xs : List ℕ) (a : ℕ). xs ++ a ∷ []) c.loop-place.invariant letter
-    ∙ sym (take_more w place 0 (omega (arith, length-word_of r.states long c.args.value)))
+    let letter : c.args.value / c.pow.result % c.from-k.result ≡ slice_index w place = grind (arith, get_or-word_of) in
+    grind (arith, take_more, length-word_of)
 
 pub returns : goal.returns
-returns c =
-    let r = c.args.rule.now in
-    let long : ℕ = c.args.n + (r.width - 1) in
-    let w : List ℕ = word_of r.states long c.args.value in
-    c.of.ensures ∙ c.loop-place.invariant ∙ take_all c.loop-place.place w (omega (arith, length-word_of r.states long c.args.value))
+returns c = grind (arith, take_all, length-word_of)

@@ -1,6 +1,5 @@
-use Rattle.std.proofs.Common.{◌≡◌, ap, subst, arith}
+use Rattle.std.proofs.Common.{◌≡◌, ap, arith}
 use Rattle.word_image.proofs.Common.{node_count}
-use Rattle.inverse_window.specs.FirstWindows.{IsPast}
 use Rattle.inverse_window.proofs.PastRanks.{IsPast-next}
 use Rattle.inverse_window.proofs.starts.past_ranks.Goals as goal
 
@@ -13,4 +12,4 @@ loop-u-preserved c = record {
 pub returns-clause-past : goal.returns-clause-past
 returns-clause-past c =
     let all : c.loop-u.u ≡ node_count c.args.ranks.now = omega (arith, ap node_count c.rule.ensures.value) in
-    subst (λ n. IsPast c.args.ranks.now n c.loop-u.past) all c.loop-u.invariant.past
+    rw all at c.loop-u.invariant.past

@@ -1,22 +1,17 @@
-use Rattle.std.proofs.Common.{refl, sym, ◌∙◌, ap, subst, arith, ⊎_elim}
-use Rattle.word_image.proofs.Common.{cases_eq, false≢true, node_count}
+use Rattle.std.proofs.Common.{◌≢◌, ℕ, refl, sym, ◌∙◌, ap, arith, below_more}
+use Rattle.word_image.proofs.Common.{false≢true, node_count}
 use Rattle.inverse_window.specs.BothWays.{GoOnBothWays}
 use Rattle.inverse_window.proofs.BothWays.{not_injective, injective_where_none}
 use Rattle.inverse_window.proofs.verdicts.is_injective.Goals as goal
 
 pub returns-then-has_other-clause-injective : goal.returns-then-has_other-clause-injective
 returns-then-has_other-clause-injective c =
-    let (v, different, goes) = c.has_other.ensures.0 c.if-has_other.true in (
-      (λ t. absurd (false≢true t)),
-      (λ injective. absurd (not_injective c.rule.ensures.rule c.loop-u.u v different goes injective)),
-    )
+    let (v, different, goes) = c.has_other.ensures.0 c.if-has_other.true in
+    (λ t. absurd cc, λ injective. absurd (not_injective c.rule.ensures.rule c.loop-u.u v different goes injective))
 
 pub loop-u-preserved : goal.loop-u-preserved
-loop-u-preserved c u v less different goes =
-    ⊎_elim
-    (λ same. false≢true (sym c.if-has_other.false ∙ c.has_other.ensures.1 (v, (λ e. different (same ∙ e)), subst (λ x. GoOnBothWays c.args.endless.now x v) same goes)))
-    (λ other. c.loop-u.invariant u v (omega (arith, less, other)) different goes)
-    (cases_eq u c.loop-u.u)
+loop-u-preserved c u v less = below_more (λ u. (v : ℕ) → u ≢ v → ¬ GoOnBothWays c.args.endless.now u v) c.loop-u.u
+    (λ u less v. c.loop-u.invariant u v less) (λ v different goes. false≢true (sym c.if-has_other.false ∙ c.has_other.ensures.1 (v, different, goes))) u less v
 
 pub returns-clause-injective : goal.returns-clause-injective
 returns-clause-injective c = (

@@ -1,4 +1,4 @@
-use Rattle.std.proofs.Common.{◌≡◌, ◌+◌, ◌-◌, ◌≤◌, refl, ◌∙◌, arith}
+use Rattle.std.proofs.Common.{◌+◌, ◌-◌, ◌≤◌, refl, arith}
 use Rattle.kept_sums.specs.Rows.{at}
 use Rattle.kept_sums.specs.Fluxes.{IsFlowBy}
 use Rattle.kept_sums.proofs.laws.Flows.{IsFluxOf-short_rings, IsKept-flux}
@@ -6,24 +6,13 @@ use Rattle.kept_sums.proofs.laws.Windows.{windows-most, IsFlowBy-flux, IsFlowBy-
 use Rattle.kept_sums.proofs.fluxes.flux.Goals as goal
 
 pub numbers-flux-requires-clause-few : goal.numbers-flux-requires-clause-few
-numbers-flux-requires-clause-few c =
-    rw (c.from-k.ensures, c.k.ensures.states, c.m.ensures.width)
-    (windows-most c.m.ensures.rule c.args.range (c.args.rule.now.width + c.args.range - 2 + 1) (omega (arith, c.m.ensures.rule.shape.least_width, c.requires.some)) c.requires.few)
+numbers-flux-requires-clause-few c = grind (arith, windows-most)
 
 pub flow_by-requires-clause-few : goal.flow_by-requires-clause-few
-flow_by-requires-clause-few c =
-    rw (c.from-k.ensures, c.k.ensures.states, c.m.ensures.width)
-    (windows-most c.m.ensures.rule c.args.range (c.args.rule.now.width + c.args.range - 2 + 1) (omega (arith, c.m.ensures.rule.shape.least_width, c.requires.some)) c.requires.few)
+flow_by-requires-clause-few c = grind (arith, windows-most)
 
 pub returns-then-flow_by-clause-flux : goal.returns-then-flow_by-clause-flux
-returns-then-flow_by-clause-flux c =
-    let base : c.from-k.result ≡ c.args.rule.now.states = c.from-k.ensures ∙ c.k.ensures.states in
-    let by = rw (base, c.m.ensures.width) at (c.flow_by.ensures.0 c.if-flow_by.true) in
-    record {
-      flux = (IsFlowBy-flux c.m.ensures.rule c.requires.some c.gains-gains.ensures.windows).1 by;
-      first = c.numbers-flux.ensures.first;
-      ends = rw (base, c.m.ensures.width) at c.numbers-flux.ensures.ends;
-    }
+returns-then-flow_by-clause-flux c = grind (arith, IsFlowBy-flux)
 
 pub returns-then-flow_by-clause-kept : goal.returns-then-flow_by-clause-kept
 returns-then-flow_by-clause-kept c = (

@@ -14,9 +14,7 @@ before_is : (c : After-from-3) → c.from-3.result ≡ c.args.window / c.args.ru
 before_is c = c.from-3.ensures ∙ ap (λ n. c.args.window / n) (c.from.ensures ∙ c.nodes.ensures.nodes)
 
 pub bounds-weights-from-2 : goal.bounds-weights-from-2
-bounds-weights-from-2 c =
-    let less = front-below c.nodes.ensures.rule c.args.range c.args.window c.requires.few c.requires.window in
-    omega (arith, less, before_is c)
+bounds-weights-from-2 c = grind (arith, front-below)
 
 pub returns-clause-gain : goal.returns-clause-gain
 returns-clause-gain c =

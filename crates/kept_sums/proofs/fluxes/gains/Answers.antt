@@ -1,5 +1,4 @@
-use Rattle.std.proofs.Common.{◌≡◌, ℕ, ◌+◌, ◌-◌, ◌^◌, ◌≤◌, get_or-set_other, slice_index_or, ℤ, pos, to_z, of_z, w64, refl, ap, ap₂, ◌∙◌, arith, unsigned_abs}
-use Rattle.std.proofs.lemmas.List.{length-set}
+use Rattle.std.proofs.Common.{◌≡◌, ℕ, ◌+◌, ◌-◌, ◌^◌, ◌≤◌, get_or-set_other, slice_index_or, ℤ, pos, to_z, of_z, w64, refl, ap, ap₂, ◌∙◌, arith, unsigned_abs, length-set}
 use Rattle.word_image.proofs.Common.{ints, set_more, word_of}
 use Rattle.kept_sums.specs.Fluxes.{window_gain}
 use Rattle.kept_sums.proofs.Casts.{back}
@@ -20,9 +19,7 @@ loop-window-init c = record { many = refl; done = λ v l. absurd (omega arith); 
 
 -- there are at most 256 windows
 few_windows : (c : After-pow-window-end) → c.pow-window-end.result ≤ 256
-few_windows c =
-    let most = windows-most c.m.ensures.rule c.args.range (c.args.rule.now.width + c.args.range - 1) (omega (arith, c.m.ensures.rule.shape.least_width)) c.requires.few in
-    omega (arith, most, all_is (goal.at.loop-window-init c).After-from-letters, c.pow-window-end.ensures)
+few_windows c = grind (arith, windows-most)
 
 pub bounds-gains-from : goal.bounds-gains-from
 bounds-gains-from c = omega (arith, few_windows (goal.at.bounds-gains-from c).After-pow-window-end)

@@ -8,6 +8,7 @@ use Rattle.kept_sums.proofs.fluxes.gains.Given as goal
 abbrev pub invariant-loop-window : goal.invariant-loop-window
 invariant-loop-window l = record {
   many : length l.gains ≡ 256;
-  done : (v : ℕ) → v < l.window → (at l.gains v ≡ window_gain l.rule l.range (at l.weights) (word_of l.rule.states (l.rule.width + l.range - 1) v)) × (unsigned_abs (at l.gains v) ≤ 2 ^ 57);
+  done : (v : ℕ) → v < l.window
+      → (at l.gains v ≡ window_gain l.rule l.range (at l.weights) (word_of l.rule.states (l.rule.width + l.range - 1) v)) × (unsigned_abs (at l.gains v) ≤ 2 ^ 57);
   rest : (v : ℕ) → l.window ≤ v → at l.gains v ≡ pos 0;
 }

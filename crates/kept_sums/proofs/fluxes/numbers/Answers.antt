@@ -1,5 +1,5 @@
-use Rattle.std.proofs.Common.{◌≡◌, ℕ, ◌/◌, ◌^◌, ◌<◌, ◌≤◌, ◌-ℤ◌, refl, ap, ap₂, ◌∙◌, ⊎_elim, arith, unsigned_abs}
-use Rattle.word_image.proofs.Common.{one-le-pow, pow-zero, div-lt_self, cases_lt, ints}
+use Rattle.std.proofs.Common.{◌≡◌, ℕ, ◌^◌, ◌≤◌, ◌-ℤ◌, refl, ap, ap₂, ◌∙◌, arith, unsigned_abs}
+use Rattle.word_image.proofs.Common.{one-le-pow, pow-zero, ints}
 use Rattle.kept_sums.specs.Rows.{at}
 use Rattle.kept_sums.proofs.Casts.{back-sub}
 use Rattle.kept_sums.proofs.laws.Zeros.{at-replicate}
@@ -18,15 +18,7 @@ loop-word-init c = record {
 -- both numbers are small
 sizes : (c : After-from-in-loop-word-2) → (unsigned_abs (at c.loop-word.flux c.from-in-loop-word.result) ≤ 2 ^ 60)
     × (unsigned_abs (at c.args.gains.now c.from-in-loop-word-2.result) ≤ 2 ^ 60)
-sizes c =
-    let k = c.args.k in
-    let v = c.loop-word.word in
-    let half = words-half k c.args.letters c.requires.states c.requires.few in
-    let all = c.pow-word-end.ensures ∙ ap₂ (λ (x y : ℕ). x ^ y) refl c.from.ensures in
-    let less : v / k < v = div-lt_self (omega arith) (omega arith) in
-    let first = c.loop-word.invariant.bounds c.from-in-loop-word.result c.args.letters (omega arith) (omega arith) in
-    let last = c.requires.bounds c.from-in-loop-word-2.result (omega arith) in
-    (omega arith, omega arith)
+sizes c = grind (arith, words-half)
 
 pub overflow_sub-flux : goal.overflow_sub-flux
 overflow_sub-flux c =
@@ -48,19 +40,10 @@ loop-word-preserved c =
     c.loop-word.invariant
 
 pub returns-clause-bounds : goal.returns-clause-bounds
-returns-clause-bounds c = λ v l.
-    let all = c.pow-word-end.ensures ∙ ap₂ (λ (x y : ℕ). x ^ y) refl c.from.ensures in
-    let some = one-le-pow c.args.letters c.args.k (omega arith) in
-    ⊎_elim
-    (λ (done : v < c.loop-word.word). let small = c.loop-word.invariant.bounds v c.args.letters done (omega arith) in omega arith)
-    (λ (rest : c.loop-word.word ≤ v). omega (arith, ints, c.loop-word.invariant.rest v rest))
-    (cases_lt v c.loop-word.word)
+returns-clause-bounds c = grind (arith, one-le-pow)
 
 pub returns-clause-first : goal.returns-clause-first
 returns-clause-first c = omega (arith, ints, c.loop-word.invariant.bounds 0 0 (omega arith) (omega (arith, pow-zero c.args.k)))
 
 pub returns-clause-ends : goal.returns-clause-ends
-returns-clause-ends c = λ v from l.
-    let some = one-le-pow c.args.letters c.args.k (omega arith) in
-    let all = c.pow-word-end.ensures ∙ ap₂ (λ (x y : ℕ). x ^ y) refl c.from.ensures in
-    c.loop-word.invariant.rest v (omega arith)
+returns-clause-ends c = grind (arith, one-le-pow)

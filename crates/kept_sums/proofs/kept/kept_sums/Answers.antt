@@ -9,13 +9,7 @@ use Rattle.kept_sums.proofs.laws.AfterRings.{IsWord-blocks, IsRing-ring_image}
 use Rattle.kept_sums.proofs.kept.kept_sums.Goals as goal
 
 pub returns : goal.returns
-returns c =
-    let rule = c.m.ensures.rule in
-    let (stage, keep) = c.loop-count.invariant in
-    record {
-      stage = stage;
-      kept = λ i l. IsKept-short_rings rule c.args.range (entry _ i) c.requires.some (λ p ring fits. keep p ring (omega arith) i l);
-    }
+returns c = grind (arith, IsKept-short_rings)
 
 pub returns-then-are_kept : goal.returns-then-are_kept
 returns-then-are_kept c =

@@ -1,5 +1,4 @@
-use Rattle.std.proofs.Common.{List, ℕ, take, arith}
-use Rattle.std.proofs.lemmas.List.{length-take}
+use Rattle.std.proofs.Common.{List, ℕ, take, arith, length-take}
 use Rattle.word_image.proofs.Common.{ints}
 use Rattle.kept_sums.specs.Spans.{FitNarrowed}
 use Rattle.kept_sums.specs.Stages.{IsCondition}
@@ -9,7 +8,8 @@ use Rattle.kept_sums.proofs.kept.narrow_by_ring.Goals.{After-gain}
 use Rattle.kept_sums.proofs.kept.narrow_by_ring.Goals as goal
 
 -- rows that are narrowed by the two words, in either order, fit
-fits : (c : After-gain) {x y : List ℕ} → IsCondition c.args.rule.now c.args.range (take c.from.result c.args.letters.now) x y → FitNarrowed c.args.sums.now.rows x y c.in-Some.pivot
+fits : (c : After-gain) {x y : List ℕ} → IsCondition c.args.rule.now c.args.range (take c.from.result c.args.letters.now) x y
+    → FitNarrowed c.args.sums.now.rows x y c.in-Some.pivot
 fits c condition =
     FitNarrowed-condition c.words.ensures.rule c.requires.letter c.requires.few c.requires.stage _ _ _ (rw c.from.ensures c.requires.ring) condition
     (omega (arith, c.from.ensures, c.requires.short, length-take c.from.result c.args.letters.now)) c.in-Some.pivot c.in-Some.ensures.last.within

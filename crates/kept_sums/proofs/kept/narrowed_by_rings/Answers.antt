@@ -6,9 +6,7 @@ use Rattle.kept_sums.proofs.kept.narrowed_by_rings.Goals.{After-pow-number-end, 
 use Rattle.kept_sums.proofs.kept.narrowed_by_rings.Goals as goal
 
 pub pow-number-end-requires : goal.pow-number-end-requires
-pow-number-end-requires c =
-    let most = pow-le-pow c.args.rule.now.states c.args.count 16 15 c.k-k.ensures.rule.shape.most_states c.requires.most (omega arith) in
-    rw (c.from.ensures, c.from-2.ensures, c.k-k.ensures.states) (omega arith)
+pow-number-end-requires c = grind (arith, pow-le-pow)
 
 -- the word of a number is a ring
 ring_of : (k n v : ℕ) → 1 ≤ n → v < k ^ n → IsRing k (word_of k n v)
@@ -19,13 +17,12 @@ total : (c : After-pow-number-end) → c.pow-number-end.result ≡ c.args.rule.n
 total c = c.pow-number-end.ensures ∙ ap₂ (λ (i j : ℕ). i ^ j) (c.from.ensures ∙ c.k-k.ensures.states) c.from-2.ensures
 
 -- the letters are the word of the number
-letters_are : (c : After-word_with-letters) → take c.args.count c.word_with-letters.result ≡ word_of c.args.rule.now.states c.args.count c.loop-number.number
+letters_are : (c : After-word_with-letters)
+    → take c.args.count c.word_with-letters.result ≡ word_of c.args.rule.now.states c.args.count c.loop-number.number
 letters_are c = c.word_with-letters.ensures ∙ ap (λ k. word_of k c.args.count c.loop-number.number) c.k-k.ensures.states
 
 pub narrow_by_ring-requires-clause-ring : goal.narrow_by_ring-requires-clause-ring
-narrow_by_ring-requires-clause-ring c =
-    let all = total (goal.at.narrow_by_ring-requires-clause-ring c).After-pow-number-end in
-    subst (IsRing c.args.rule.now.states) (sym (letters_are (goal.at.narrow_by_ring-requires-clause-ring c).After-word_with-letters)) (ring_of _ _ _ c.requires.some (omega arith))
+narrow_by_ring-requires-clause-ring c = grind (arith, ring_of)
 
 pub loop-number-preserved : goal.loop-number-preserved
 loop-number-preserved c =

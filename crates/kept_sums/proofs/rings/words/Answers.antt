@@ -15,8 +15,7 @@ returns-clause-condition c =
     let p = c.args.ring.now in
     let range = c.args.range in
     let image = c.image_letters-image.ensures in
-    let long : length p ≡ length (take (length p) c.image_letters-image.result) = sym (ap length image ∙ length-ring_image r p) in
     let before : take (length p) c.blocks-before.result ≡ blocks r.states range p = c.blocks-before.ensures ∙ ap (λ k. blocks k range p) c.k.ensures.states in
     let after : take (length p) c.blocks-after.result ≡ blocks r.states range (ring_image r p) =
-    ap (λ n. take n c.blocks-after.result) long ∙ c.blocks-after.ensures ∙ ap₂ (λ (k : ℕ) (x : List ℕ). blocks k range x) c.k-2.ensures.states image in
+    ap (λ n. take n c.blocks-after.result) (sym (ap length image ∙ length-ring_image r p)) ∙ c.blocks-after.ensures ∙ ap₂ (λ (k : ℕ) (x : List ℕ). blocks k range x) c.k-2.ensures.states image in
     subst₂ (IsCondition r range p) (sym after) (sym before) (IsCondition-ring c.k.ensures.rule range p c.requires.few (omega arith) c.requires.ring)

@@ -1,5 +1,4 @@
-use Rattle.std.proofs.Common.{◌≡◌, ℕ, ◌^◌, ◌≤◌, ℤ, pos, ◌-ℤ◌, ◌*ℤ◌, refl, sym, ap₂, subst, ◌∙◌, w64, to_z, of_z, arith, unsigned_abs}
-use Rattle.std.proofs.lemmas.List.{length-set}
+use Rattle.std.proofs.Common.{◌≡◌, ℕ, ◌^◌, ◌≤◌, ℤ, pos, ◌-ℤ◌, ◌*ℤ◌, refl, sym, subst, ◌∙◌, w64, to_z, of_z, arith, unsigned_abs, length-set}
 use mir.Syntax.{w128}
 use Rattle.word_image.proofs.Common.{set_more}
 use Rattle.kept_sums.specs.Rows.{at}
@@ -14,8 +13,8 @@ loop-place-preserved c =
     let P : ℕ → ℤ → Type 0 = λ a x. (x ≡ (lead *ℤ at c.args.row.now a) -ℤ (gain *ℤ at c.args.other.now a)) × (unsigned_abs x ≤ 2 ^ 118) in
     let one = back w64 (at c.args.row.now n) (2 ^ 56) (c.requires.row.small n (omega arith)) (omega arith) in
     let other = back w64 (at c.args.other.now n) (2 ^ 56) (c.requires.other.small n (omega arith)) (omega arith) in
-    let value : c.cross.result ≡ (lead *ℤ at c.args.row.now n) -ℤ (gain *ℤ at c.args.other.now n) = c.cross.ensures.value ∙ ap₂ (λ (x y : ℤ). (lead *ℤ x) -ℤ (gain *ℤ y)) one other in
-    let same : to_z w128 (of_z w128 c.cross.result) ≡ c.cross.result = back w128 c.cross.result (2 ^ 118) c.cross.ensures.most (omega arith) in (
+    let value : c.cross.result ≡ (lead *ℤ at c.args.row.now n) -ℤ (gain *ℤ at c.args.other.now n) = grind arith in
+    let same : to_z w128 (of_z w128 c.cross.result) ≡ c.cross.result = grind arith in (
       length-set c.loop-place.entries n _ ∙ c.loop-place.invariant.0,
       set_more P c.loop-place.entries n n (pos 0) _ (omega arith) refl c.loop-place.invariant.1 (subst (P n) (sym same) (value, c.cross.ensures.most)),
     )

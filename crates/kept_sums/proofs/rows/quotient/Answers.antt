@@ -1,7 +1,5 @@
-use Rattle.std.proofs.Common.{◌≡◌, ◌+◌, ◌*◌, ◌/◌, ◌^◌, ◌<◌, ◌≤◌, pos, ◌-ℤ◌, to_z, of_z, w64, ap, ◌∙◌, arith, unsigned_abs}
-use Rattle.std.proofs.lemmas.Nat.{div_below}
+use Rattle.std.proofs.Common.{◌≡◌, ◌+◌, ◌*◌, ◌/◌, ◌^◌, ◌<◌, ◌≤◌, ap, ◌∙◌, arith, unsigned_abs}
 use Rattle.word_image.proofs.Common.{mul-div_cancel', ints}
-use Rattle.kept_sums.proofs.laws.Integers.{mul-sub}
 use Rattle.kept_sums.proofs.rows.quotient.Goals.{After-unsigned_abs}
 use Rattle.kept_sums.proofs.rows.quotient.Goals as goal
 
@@ -11,24 +9,14 @@ size_of : (c : After-unsigned_abs) → (c.unsigned_abs.result / c.args.divisor �
 size_of c =
     let d = c.args.divisor in
     let same : c.unsigned_abs.result ≡ unsigned_abs c.args.number = omega (arith, ints) in
-    let below : c.unsigned_abs.result / d < 2 ^ 56 + 1 = div_below c.unsigned_abs.result d (2 ^ 56 + 1) c.requires.some (omega arith) in
+    let below : c.unsigned_abs.result / d < 2 ^ 56 + 1 = grind arith in
     (omega arith, ap (λ u. d * (u / d)) same ∙ mul-div_cancel' d c.requires.divides)
 
 pub returns-then-number-lt0-clause-quotient : goal.returns-then-number-lt0-clause-quotient
-returns-then-number-lt0-clause-quotient c =
-    let d = c.args.divisor in
-    let q = c.unsigned_abs.result / d in
-    let size = size_of (goal.at.returns-then-number-lt0-clause-quotient c).After-unsigned_abs in
-    let cast : to_z w64 (of_z w64 (pos 0 -ℤ to_z w64 q)) ≡ pos 0 -ℤ pos q = omega (arith, ints) in
-    rw cast (omega (arith, ints, mul-sub (pos d) (pos 0) (pos q)))
+returns-then-number-lt0-clause-quotient c = grind (arith, size_of)
 
 pub returns-else-number-lt0-clause-quotient : goal.returns-else-number-lt0-clause-quotient
-returns-else-number-lt0-clause-quotient c =
-    let d = c.args.divisor in
-    let q = c.unsigned_abs.result / d in
-    let size = size_of (goal.at.returns-else-number-lt0-clause-quotient c).After-unsigned_abs in
-    let cast : to_z w64 q ≡ pos q = omega (arith, ints) in
-    rw cast (omega (arith, ints))
+returns-else-number-lt0-clause-quotient c = grind (arith, size_of)
 
 pub returns-then-number-lt0-clause-small : goal.returns-then-number-lt0-clause-small
 returns-then-number-lt0-clause-small c = omega (arith, ints, (size_of (goal.at.returns-then-number-lt0-clause-small c).After-unsigned_abs).0)

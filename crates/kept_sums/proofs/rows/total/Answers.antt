@@ -12,8 +12,6 @@ loop-place-preserved c =
     let n = c.loop-place.place-index in
     let (sum, most) = c.loop-place.invariant in
     let here : get_or places n 0 < 16 = c.requires.places n 0 (omega arith) in
-    let small : unsigned_abs (at row c.from.result) ≤ 2 ^ 56 =
-    c.requires.small.small c.from.result (omega (arith, here, c.from.ensures)) in
+    let small : unsigned_abs (at row c.from.result) ≤ 2 ^ 56 = grind arith in
     let next = ap (sum_at (at row)) (take_more places n 0 (omega arith)) ∙ sum_at-snoc (at row) (take n places) (get_or places n 0) in
-    let same = ap (at row) c.from.ensures in
-    (omega (arith, ints, sum, most, small, next, same), omega (arith, ints, most, small))
+    (omega (arith, ints, ap (at row) c.from.ensures), omega (arith, ints))

@@ -21,6 +21,5 @@ returns-clause-same c = λ r range rows others counts other_counts rings other_r
 pub returns-clause-primitive : goal.returns-clause-primitive
 returns-clause-primitive c = λ r range rows counts rings sums i d l free none divides.
     let row = slice_index_or rows i [] in
-    let combined = ((sums.stage.places i l).standing free none).combined in
-    let part = multiple_of row 1 1 d (λ a. unsigned_abs (at row a) / d) combined (omega arith) (λ a h. omega (arith, mul-div_cancel' d (divides a h))) in
+    let part = multiple_of row 1 1 d (λ a. unsigned_abs (at row a) / d) (((sums.stage.places i l).standing free none).combined) (omega arith) (λ a h. omega (arith, mul-div_cancel' d (divides a h))) in
     eq-one_of_dvd-one (rw (← part.2) at (dvd-mul_right d part.0))

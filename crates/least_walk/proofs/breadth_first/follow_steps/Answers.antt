@@ -1,5 +1,4 @@
-use Rattle.std.proofs.Common.{◌≡◌, ◌+◌, ◌*◌, ◌<◌, refl, ap, ◌∙◌, subst, arith, slice_get}
-use Rattle.std.proofs.Math.Nat.{suc-mul}
+use Rattle.std.proofs.Common.{◌≡◌, ◌+◌, ◌*◌, ◌<◌, refl, ap, ◌∙◌, subst, arith, slice_get, suc-mul}
 use Rattle.word_image.proofs.Common.{slice_get_within, LocalRule, IsBitSet-zero, slice_get-unique}
 use Rattle.least_walk.specs.Marks.{ArePartsOf}
 use Rattle.least_walk.specs.declared.queue.Reached.{Reached}

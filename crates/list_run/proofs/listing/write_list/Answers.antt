@@ -23,5 +23,4 @@ pub returns-clause-whole : goal.returns-clause-whole
 returns-clause-whole g c =
     let same : c.as_bytes.result.now ≡ count_line c.in_ok-count.count = search rules in
     let (out, far, list, took) = c.in_ok-count.ensures.all in
-    let tail : List ℕ = count_line c.in_ok-count.count in
-    (out ++ tail, list, Appends-trans _ _ _ out tail took (subst (λ (xs : List ℕ). Appends (g.T.Sink.taken c.write_rules.new.sink) (g.T.Sink.taken c.write_all.new.sink) xs) same c.in_ok-write_all.ensures.written))
+    (out ++ count_line c.in_ok-count.count, list, Appends-trans _ _ _ out _ took (rw same at c.in_ok-write_all.ensures.written))

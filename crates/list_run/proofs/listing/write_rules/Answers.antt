@@ -1,13 +1,12 @@
-use Rattle.std.proofs.Common.{◌≡◌, ℕ, ◌+◌, ◌^◌, List, [], ◌∷◌, ◌++◌, ◌<◌, length, take, rules, Some, None, refl, sym, ap, ap₂, ◌∙◌, subst, arith}
+use Rattle.std.proofs.Common.{◌≡◌, ℕ, ◌^◌, List, [], ◌∷◌, ◌++◌, ◌<◌, length, take, rules, None, refl, sym, ap, ap₂, ◌∙◌, subst, arith}
 use Rattle.std.proofs.KnownBytes.{Appends-nil}
 use Rattle.std.specs.Io.KnownBytes.{Appends}
 use Rattle.std.proofs.lemmas.List.{length-append}
-use Rattle.rule_lists.specs.Listed.{IsFirst, NoneIs}
-use Rattle.rule_lists.specs.Calls.{IsAfter, AreSoFar}
-use Rattle.rule_lists.specs.Searches.{IsNextListed, IsOrdered}
+use Rattle.rule_lists.specs.Searches.{IsOrdered}
 use Rattle.rule_lists.proofs.laws.Calls.{AreSoFar-next, AreAll-ended, AreListed-all}
 use Rattle.list_run.specs.Lines.{count_line, rule_lines}
 use Rattle.list_run.specs.Lists.{IsListSoFar}
+use Rattle.list_run.proofs.laws.Answers.{IsListSoFar-lines}
 use Rattle.list_run.proofs.laws.Lines.{whole_line, cut_line}
 use Rattle.list_run.proofs.listing.write_rules.Goals as goal
 
@@ -28,82 +27,56 @@ loop-rule-init g c =
 
 pub loop-rule-preserved : goal.loop-rule-preserved
 loop-rule-preserved g c =
-    let shape = c.args.beginning.now.rule in
-    let k = shape.states in
-    let m = shape.width in
-    let letters = c.args.letters.now in
-    let order = c.args.order.now in
     let r = c.in-Some.rule in
-    let s = c.loop-rule.rule-iterator in
     let rs = c.loop-rule.yielded in
     let so_far = c.loop-rule.invariant in
     let steps = c.in-Some.ensures.steps in
-    let first : IsFirst c.args.property k m letters order (IsAfter k order s.last) r =
-    subst (λ a. IsNextListed a s.last (Some r)) (so_far.asked ∙ ap (λ s. s.asked) c.into_iter-rule-iterator.ensures.into_iter_gives ∙ c.new-rule-items.ensures.0) steps.listed in
+    let asked = so_far.asked ∙ ap (λ s. s.asked) c.into_iter-rule-iterator.ensures.into_iter_gives ∙ c.new-rule-items.ensures.0 in
+    let first = rw asked at steps.listed in
     let of = first.listed.shape in
-    let more : length (rs ++ r ∷ []) ≡ length rs + 1 = length-append rs (r ∷ []) in
     record {
       can = c.in-Some.ensures.goes.keeps;
       asked = steps.asked ∙ so_far.asked;
       line = record { table = r.table; long = of.rule.entries ∙ ap₂ (λ (a b : ℕ). a ^ b) of.states of.width; text = c.set_table.ensures };
-      so_far = subst (λ o. AreSoFar c.args.property k m letters order None (rs ++ r ∷ []) o) (sym steps.last) (AreSoFar-next c.args.property k m letters order None rs s.last r so_far.so_far first);
-      count = omega (arith, c.saturating_add-count.ensures, so_far.count, more);
-      taken = whole_line shape rs r c.set_table.new.line _ _ _ c.set_table.ensures so_far.taken c.in_ok-write_all.ensures.written;
+      so_far = rw steps.last (AreSoFar-next _ _ _ _ _ None rs _ r so_far.so_far first);
+      count = omega (arith, c.saturating_add-count.ensures, so_far.count, length-append rs (r ∷ []));
+      taken = whole_line c.args.beginning.now.rule rs r c.set_table.new.line _ _ _ c.set_table.ensures so_far.taken c.in_ok-write_all.ensures.written;
       telling = c.in_ok-write_all.ensures.telling ∙ so_far.telling;
       counted = c.in_ok-write_all.ensures.counted.kept ∙ so_far.counted;
     }
 
 pub returns-in_err-write_all-clause-part : goal.returns-in_err-write_all-clause-part
 returns-in_err-write_all-clause-part g c =
-    let shape = c.args.beginning.now.rule in
-    let k = shape.states in
-    let m = shape.width in
-    let letters = c.args.letters.now in
-    let order = c.args.order.now in
     let r = c.in-Some.rule in
-    let s = c.loop-rule.rule-iterator in
     let rs = c.loop-rule.yielded in
     let so_far = c.loop-rule.invariant in
-    let first : IsFirst c.args.property k m letters order (IsAfter k order s.last) r =
-    subst (λ a. IsNextListed a s.last (Some r)) (so_far.asked ∙ ap (λ s. s.asked) c.into_iter-rule-iterator.ensures.into_iter_gives ∙ c.new-rule-items.ensures.0) c.in-Some.ensures.steps.listed in
+    let asked = so_far.asked ∙ ap (λ s. s.asked) c.into_iter-rule-iterator.ensures.into_iter_gives ∙ c.new-rule-items.ensures.0 in
+    let first = rw asked at c.in-Some.ensures.steps.listed in
     let (n, less, part) = c.in_err-write_all.ensures.part in
-    let (i, below, cut) = cut_line shape rs r c.set_table.new.line n _ _ _ c.set_table.ensures less so_far.taken part in
-    let list : IsListSoFar c.args.property c.args.beginning.now (rule_lines shape (rs ++ r ∷ [])) = record {
-      letters = letters;
-      order = order;
-      rules = rs ++ r ∷ [];
-      last = Some r;
-      given = c.requires.given;
-      windows = c.requires.order;
-      so_far = AreSoFar-next c.args.property k m letters order None rs s.last r so_far.so_far first;
-      lines = refl;
-    } in
-    let cut_off : (out : List ℕ) × (j : ℕ) × IsListSoFar c.args.property c.args.beginning.now out × (j < length out) × Appends (g.T.Sink.taken c.args.sink.now) (g.T.Sink.taken c.write_all.new.sink) (take j out) = (rule_lines shape (rs ++ r ∷ []), i, list, below, cut) in
+    let (i, below, cut) = cut_line c.args.beginning.now.rule rs r c.set_table.new.line n _ _ _ c.set_table.ensures less so_far.taken part in
+    let list : IsListSoFar c.args.property c.args.beginning.now (rule_lines c.args.beginning.now.rule (rs ++ r ∷ [])) =
+    IsListSoFar-lines _ _ c.requires.given c.requires.order (AreSoFar-next _ _ _ _ _ None rs _ r so_far.so_far first) in
+    let cut_off : (out : List ℕ) × (j : ℕ) × IsListSoFar c.args.property c.args.beginning.now out × (j < length out) × Appends (g.T.Sink.taken c.args.sink.now) (g.T.Sink.taken c.write_all.new.sink) (take j out) =
+    (_, i, list, below, cut) in
     search rules
 
 pub returns-clause-all : goal.returns-clause-all
 returns-clause-all g c =
-    let shape = c.args.beginning.now.rule in
-    let k = shape.states in
-    let m = shape.width in
-    let letters = c.args.letters.now in
-    let order = c.args.order.now in
-    let s = c.loop-rule.rule-iterator in
     let rs = c.loop-rule.yielded in
     let so_far = c.loop-rule.invariant in
-    let none : NoneIs c.args.property k m letters (IsAfter k order s.last) =
-    subst (λ a. IsNextListed a s.last None) (so_far.asked ∙ ap (λ s. s.asked) c.into_iter-rule-iterator.ensures.into_iter_gives ∙ c.new-rule-items.ensures.0) c.in-None.ensures.steps.listed in
-    let all = AreAll-ended c.args.property k m letters order None rs s.last so_far.so_far none in (
-      rule_lines shape rs,
-      record { letters = letters; order = order; rules = rs; last = s.last; given = c.requires.given; windows = c.requires.order; so_far = so_far.so_far; lines = refl },
+    let asked = so_far.asked ∙ ap (λ s. s.asked) c.into_iter-rule-iterator.ensures.into_iter_gives ∙ c.new-rule-items.ensures.0 in
+    let none = rw asked at c.in-None.ensures.steps.listed in
+    let all = AreAll-ended _ _ _ _ _ None rs _ so_far.so_far none in (
+      rule_lines c.args.beginning.now.rule rs,
+      IsListSoFar-lines rs _ c.requires.given c.requires.order so_far.so_far,
       record {
-        letters = letters;
-        order = order;
+        letters = c.args.letters.now;
+        order = c.args.order.now;
         rules = rs;
         given = c.requires.given;
         windows = c.requires.order;
-        listed = AreListed-all c.args.property k m letters order rs c.requires.order.windows all;
-        lines = ap (λ (n : ℕ). rule_lines shape rs ++ count_line n) so_far.count;
+        listed = AreListed-all _ _ _ _ _ rs c.requires.order.windows all;
+        lines = ap (λ (n : ℕ). rule_lines c.args.beginning.now.rule rs ++ count_line n) so_far.count;
       },
       so_far.taken,
     )

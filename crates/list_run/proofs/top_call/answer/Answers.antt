@@ -22,8 +22,8 @@ returns-in_err-write_all-in-Err-clause-failed g c is =
       fault_line c.in-Err.fault,
       n,
       IsBegun.Whole status.RuleFault (IsAnswer.RuleFault c.in-Some.property c.in-Some.text.now c.in-Err.fault c.in-Some.ensures c.in-Err.ensures.fault),
-      subst (λ (xs : List ℕ). n < length xs) same less,
-      subst (λ (xs : List ℕ). Appends (g.T.Sink.taken c.args.sink.now) (g.T.Sink.taken c.write_all-in-Err.new.sink) (take n xs)) same part,
+      rw same at less,
+      rw same at part,
     )
 
 pub returns-in-Ok-write_list-clause-whole : goal.returns-in-Ok-write_list-clause-whole
@@ -50,5 +50,5 @@ returns-in_ok-write_all-in-Err-clause-whole g c =
     let same : c.as_bytes.result.now ≡ fault_line c.in-Err.fault = search rules in (
       fault_line c.in-Err.fault,
       IsAnswer.RuleFault c.in-Some.property c.in-Some.text.now c.in-Err.fault c.in-Some.ensures c.in-Err.ensures.fault,
-      subst (λ (xs : List ℕ). Appends (g.T.Sink.taken c.args.sink.now) (g.T.Sink.taken c.write_all-in-Err.new.sink) xs) same c.in_ok-write_all-in-Err.ensures.written,
+      rw same at c.in_ok-write_all-in-Err.ensures.written,
     )

@@ -1,6 +1,5 @@
-use Rattle.std.proofs.Common.{◌+◌, ◌<◌, ◌↔◌, length, IsTrue, sym, ◌∙◌, ap, subst, arith, ⊎_elim}
+use Rattle.std.proofs.Common.{length, sym, ◌∙◌, ap, arith, ⊎_elim}
 use Rattle.word_image.proofs.Common.{cases_eq, false≢true}
-use Rattle.pair_graph.specs.PairSets.{holds, LeadsInto}
 use Rattle.pair_graph.proofs.plain.plain.Goals as goal
 use Rattle.pair_graph.proofs.plain.plain.Goals.{then-not-leads_into, else-not-leads_into}
 
@@ -8,7 +7,6 @@ pub loop-p-preserved : goal.loop-p-preserved
 loop-p-preserved c =
     let p = c.loop-p.p in
     let h = c.loop-p.invariant in
-    let leads = LeadsInto c.args.side c.args.pairs.now c.args.set.now in
     elim c.if-not-leads_into.branch [
       | then-not-leads_into w ↦
           record {
@@ -16,11 +14,11 @@ loop-p-preserved c =
             pairs = λ q inside.
                 let exact = w.remove.ensures.pairs q (omega (arith, inside, h.count)) in
                 let before = h.pairs q inside in
-                subst (λ s. IsTrue (holds s q) ↔ (IsTrue (holds c.args.set.now q) × (q < p + 1 → leads q))) (sym w.kept-is) (
+                rw w.kept-is (
                   (λ t. let (there, other) = exact.0 t in let (first, into) = before.0 there in (first, (λ less. into (omega (arith, less, other))))),
                   (λ (first, into). exact.1 (
                     before.1 (first, (λ less. into (omega arith))),
-                    (λ same. false≢true (sym w.if-not-leads_into.true ∙ c.leads_into.ensures.1 (subst leads same (into (omega (arith, same)))))),
+                    (λ same. false≢true (sym w.if-not-leads_into.true ∙ c.leads_into.ensures.1 (rw same at (into (omega (arith, same)))))),
                   )),
                 );
           }
@@ -29,14 +27,9 @@ loop-p-preserved c =
             count = ap length w.kept-is ∙ h.count;
             pairs = λ q inside.
                 let before = h.pairs q inside in
-                subst (λ s. IsTrue (holds s q) ↔ (IsTrue (holds c.args.set.now q) × (q < p + 1 → leads q))) (sym w.kept-is) (
-                  (λ t. let (first, into) = before.0 t in (
-                    first,
-                    (λ less. ⊎_elim
-                        (λ same. subst leads (sym same) (c.leads_into.ensures.0 w.if-not-leads_into.false))
-                        (λ other. into (omega (arith, less, other)))
-                        (cases_eq q p)),
-                  )),
+                rw w.kept-is (
+                  (λ t. let (first, into) = before.0 t in
+                      (first, λ less. ⊎_elim (λ same. rw same (c.leads_into.ensures.0 w.if-not-leads_into.false)) (λ other. into (omega (arith, less, other))) (cases_eq q p))),
                   (λ (first, into). before.1 (first, (λ less. into (omega arith)))),
                 );
           }

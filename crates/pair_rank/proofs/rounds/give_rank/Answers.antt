@@ -1,6 +1,6 @@
-use Rattle.std.proofs.Common.{◌≡◌, ◌+◌, ◌*◌, Some, length, sym, ap, ◌∙◌, subst, arith, length-set}
+use Rattle.std.proofs.Common.{◌≡◌, ◌+◌, ◌*◌, Some, length, sym, ap, ◌∙◌, arith, length-set}
 use Rattle.word_image.proofs.Common.{bit_set_by_shift}
-use Rattle.pair_rank.proofs.Tables.{IsGiven, IsGiven-take, IsGiven-skip}
+use Rattle.pair_rank.proofs.Tables.{IsGiven-take, IsGiven-skip}
 use Rattle.pair_rank.proofs.rounds.give_rank.Goals as goal
 use Rattle.pair_rank.proofs.rounds.give_rank.Goals.{then-set-v-eq1, else-set-v-eq1}
 
@@ -12,9 +12,6 @@ loop-v-preserved c =
       | then-set-v-eq1 w ↦
           let long : length c.loop-v.ranks ≡ 256 = sym (length-set c.loop-v.ranks (16 * c.from-row.result + v) (Some c.args.n)) ∙ ap length (sym w.ranks-is) ∙ c.if-set-v-eq1.array_long in
           let present = (bit_set_by_shift set v).0 w.if-set-v-eq1.true in
-          subst (IsGiven set c.args.u c.args.n (v + 1) c.args.ranks.now) (sym w.ranks-is)
-          (IsGiven-take c.loop-v.invariant c.loop-v-test.true _ (omega arith) (omega arith) present)
-      | else-set-v-eq1 w ↦
-          subst (IsGiven set c.args.u c.args.n (v + 1) c.args.ranks.now) (sym w.ranks-is)
-          (IsGiven-skip c.loop-v.invariant (λ some. w.if-set-v-eq1.false ((bit_set_by_shift set v).1 some)))
+          rw w.ranks-is (IsGiven-take c.loop-v.invariant c.loop-v-test.true _ (omega arith) (omega arith) present)
+      | else-set-v-eq1 w ↦ rw w.ranks-is (IsGiven-skip c.loop-v.invariant (λ some. w.if-set-v-eq1.false ((bit_set_by_shift set v).1 some)))
     ]

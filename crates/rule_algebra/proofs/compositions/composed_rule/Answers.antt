@@ -1,6 +1,5 @@
-use Rattle.std.proofs.Common.{◌≡◌, ℕ, ◌+◌, ◌-◌, ◌^◌, ◌<◌, ◌≤◌, None, ℤ, ◌+ℤ◌, slice_index, refl, ap₂, ◌∙◌, w8, to_z, of_z, arith, rules}
-use Rattle.std.proofs.iter.Serving.{serving}
-use Rattle.word_image.proofs.Common.{LocalRule, IsRule, word_of, value, IsRuleBy, image, window_count-le, IsRuleBy-map}
+use Rattle.std.proofs.Common.{◌≡◌, ℕ, ◌+◌, ◌-◌, ◌^◌, ◌<◌, None, ℤ, ◌+ℤ◌, slice_index, refl, ap₂, ◌∙◌, w8, to_z, of_z, rules}
+use Rattle.word_image.proofs.Common.{LocalRule, IsRule, word_of, value, IsRuleBy, image, IsRuleBy-map}
 use Rattle.rule_algebra.specs.AlgebraFaults.{compose_fault}
 use Rattle.rule_algebra.specs.Tables.{composed}
 use Rattle.rule_algebra.proofs.laws.Compositions.{compose_fault-states, IsRule-composed_fault}
@@ -8,7 +7,8 @@ use Rattle.rule_algebra.proofs.RuleParts.{offsets_of}
 use Rattle.rule_algebra.proofs.compositions.composed_rule.Goals as goal
 
 -- the letters that are given make the composed rule
-by_letters : {first second : LocalRule} {k m n : ℕ} {o p : ℤ} {gives : ℕ → ℕ → Type 0} → IsRule first → IsRule second → compose_fault first second ≡ None
+by_letters : {first second : LocalRule} {k m n : ℕ} {o p : ℤ} {gives : ℕ → ℕ → Type 0} → IsRule first → IsRule second
+    → compose_fault first second ≡ None
     → k ≡ first.states → m ≡ first.width → n ≡ second.width → o ≡ first.offset → p ≡ second.offset
     → ((v a : ℕ) → v < first.states ^ (first.width + second.width - 1) → gives v a → a ≡ slice_index second.table (value first.states (image first (word_of first.states (first.width + n - 1) v))))
     → IsRuleBy k (m + n - 1) (to_z w8 (of_z w8 (to_z w8 (of_z w8 o) +ℤ to_z w8 (of_z w8 p)))) gives (composed first second)
@@ -21,19 +21,6 @@ by_letters {first} {second} {k} {m} {n} {o} {p} before after none states one two
 pub from_fn-requires-clause-rule : goal.from_fn-requires-clause-rule
 from_fn-requires-clause-rule c =
     (_, by_letters c.m-m.ensures.rule c.m-n.ensures.rule c.requires c.k.ensures.states c.m-m.ensures.width c.m-n.ensures.width c.o.ensures.offset c.o-2.ensures.offset (λ v a l h. search rules))
-
-pub from_fn-requires-clause-callable : goal.from_fn-requires-clause-callable
-from_fn-requires-clause-callable c = λ v l.
-    let first = c.args.first.now in
-    let second = c.args.second.now in
-    let n = c.m-n.result in
-    let two : n ≡ second.width = c.m-n.ensures.width in
-    let some : 1 ≤ n = omega (arith, c.m-n.ensures.rule.shape.least_width) in
-    let whole : first.width + second.width - 1 ≡ first.width + n - 1 = omega arith in
-    let fits : first.states ^ (first.width + n - 1) ≤ 256 = rw whole at (window_count-le _ _ _ (IsRule-composed_fault c.m-m.ensures.rule c.m-n.ensures.rule c.requires).shape) in
-    let below : v < first.states ^ (first.width + n - 1) = rw (c.k.ensures.states, c.m-m.ensures.width) at l in
-    let power : first.states ^ n ≡ second.states ^ second.width = ap₂ (λ (b e : ℕ). b ^ e) (compose_fault-states first second c.requires) two in
-    grind (serving, some, fits, below, power)
 
 pub returns : goal.returns
 returns c =

@@ -8,13 +8,7 @@ value_by-requires-clause-word c =
     (_, IsWordBy-letters c.k.ensures.states refl (length-image-word_of rule c.args.n c.args.window) (IsWord-image rule _) (λ i a l h. search rules))
 
 pub value_by-requires-clause-fits : goal.value_by-requires-clause-fits
-value_by-requires-clause-fits c =
-    rw c.k.ensures.states (fewer_values c.k.ensures.rule c.args.n _ c.requires.fits (omega (arith, c.k.ensures.rule.shape.least_width)))
+value_by-requires-clause-fits c = grind (arith, fewer_values)
 
 pub returns-clause-value : goal.returns-clause-value
-returns-clause-value c =
-    let rule = c.k.ensures.rule in
-    rw c.k.ensures.states at (c.value_by.ensures.value _ (IsWordBy-letters c.k.ensures.states refl (length-image-word_of rule c.args.n c.args.window) (IsWord-image rule _) (λ i a l h. search rules)))
-
-pub returns-clause-within : goal.returns-clause-within
-returns-clause-within c = rw c.k.ensures.states at c.value_by.ensures.below
+returns-clause-value c = grind (arith, IsWordBy-letters, length-image-word_of, IsWord-image)

@@ -1,5 +1,4 @@
-use Rattle.std.proofs.Common.{◌≡◌, ℕ, ◌^◌, ◌<◌, ◌≤◌, List, length, slice_index, refl, sym, ap, ap₂, subst, ◌∙◌, ℤ, w8, to_z, of_z, arith, rules}
-use Rattle.std.proofs.iter.Serving.{serving}
+use Rattle.std.proofs.Common.{◌≡◌, ℕ, ◌^◌, ◌<◌, List, slice_index, refl, sym, ap, subst, ℤ, w8, to_z, of_z, rules}
 use Rattle.word_image.proofs.Common.{LocalRule, IsRule, value, word_of, IsRuleBy, IsRuleBy-map}
 use Rattle.rule_algebra.specs.Algebra.{IsRecolouring, IsRecoloured, recoloured}
 use Rattle.rule_algebra.specs.Tables.{AreOldLetters}
@@ -7,36 +6,17 @@ use Rattle.rule_algebra.proofs.laws.Recolouring.{new_colour, recoloured_rule, Is
 use Rattle.rule_algebra.proofs.recolouring.permute.Goals as goal
 
 -- the new colours that are given make the recoloured rule
-by_colours : {r : LocalRule} {colours : List ℕ} (letters : List ℕ) {k m : ℕ} {o : ℤ} {gives : ℕ → ℕ → Type 0} → IsRule r → IsRecolouring r.states colours → k ≡ r.states → m ≡ r.width → o ≡ r.offset
+by_colours : {r : LocalRule} {colours : List ℕ} (letters : List ℕ) {k m : ℕ} {o : ℤ} {gives : ℕ → ℕ → Type 0} → IsRule r
+    → IsRecolouring r.states colours → k ≡ r.states → m ≡ r.width → o ≡ r.offset
     → ((v a : ℕ) → v < r.states ^ r.width → gives v a → a ≡ slice_index colours (slice_index r.table (value r.states (recoloured letters (word_of r.states r.width v)))))
     → IsRuleBy k m (to_z w8 (of_z w8 o)) gives (recoloured_rule r colours letters)
 by_colours {r} {colours} letters rule h states width offset given =
     IsRuleBy-map (λ v. new_colour r colours letters (word_of r.states r.width v)) (IsRule-recoloured colours letters rule h.word) states width offset refl given
 
-pub old_letters-letters-requires-clause-some : goal.old_letters-letters-requires-clause-some
-old_letters-letters-requires-clause-some c = omega (arith, c.k-2.ensures.states, c.k.ensures.rule.shape.least_states)
-
-pub old_letters-letters-requires-clause-few : goal.old_letters-letters-requires-clause-few
-old_letters-letters-requires-clause-few c = omega (arith, c.k-2.ensures.states, c.k.ensures.rule.shape.most_states)
-
-pub old_letters-letters-requires-clause-colours : goal.old_letters-letters-requires-clause-colours
-old_letters-letters-requires-clause-colours c = subst (λ k. IsRecolouring k c.args.colours.now) (c.k.ensures.states ∙ sym c.k-2.ensures.states) (c.if-not-is_recolouring.ensures.0 refl)
-
 pub from_fn-requires-clause-rule : goal.from_fn-requires-clause-rule
 from_fn-requires-clause-rule c =
     let h = subst (λ k. IsRecolouring k c.args.colours.now) c.k.ensures.states (c.if-not-is_recolouring.ensures.0 refl) in
     (_, by_colours c.old_letters-letters.result c.k.ensures.rule h c.k-3.ensures.states c.m.ensures.width c.o.ensures.offset (λ v a l given. search rules))
-
-pub from_fn-requires-clause-callable : goal.from_fn-requires-clause-callable
-from_fn-requires-clause-callable c = λ v l.
-    let r = c.args.rule.now in
-    let h = subst (λ k. IsRecolouring k c.args.colours.now) c.k.ensures.states (c.if-not-is_recolouring.ensures.0 refl) in
-    let old = subst (λ k. AreOldLetters k c.args.colours.now k c.old_letters-letters.result) c.k-2.ensures.states c.old_letters-letters.ensures in
-    let below : v < r.states ^ r.width = subst (λ n. v < n) (ap₂ (λ (b e : ℕ). b ^ e) c.k-3.ensures.states c.m.ensures.width) l in
-    let word = old.word in
-    let enough : r.states ≤ 16 = c.k.ensures.rule.shape.most_states in
-    let many : r.states ≤ length c.args.colours.now = omega (arith, h.long) in
-    grind (serving, word, enough, below, many)
 
 -- the recoloured rule is what is made
 made : (c : goal.After-from_fn) → c.from_fn.result ≡ recoloured_rule c.args.rule.now c.args.colours.now c.old_letters-letters.result

@@ -1,4 +1,4 @@
-use Rattle.std.proofs.Common.{◌≡◌, ◌+ℤ◌, sym, ap, ap₂, subst, ◌∙◌, w8, w16, to_z, of_z}
+use Rattle.std.proofs.Common.{◌≡◌, ◌+ℤ◌, sym, ap, ap₂, subst, ◌∙◌, arith, w8, w16, to_z, of_z}
 use Rattle.word_image.proofs.Common.{err_from_is_err_and, IsRule, FitsSigned-offset}
 use Rattle.rule_algebra.specs.Algebra.{shifted}
 use Rattle.rule_algebra.specs.MadeImages.{ShiftsImages}
@@ -9,7 +9,8 @@ use Rattle.rule_algebra.proofs.shifts.shift.Goals as goal
 use Rattle.rule_algebra.proofs.shifts.shift.Goals.{After-table}
 
 -- the offset of the shifted rule
-place : (c : After-table) → to_z w16 (of_z w16 (to_z w16 (of_z w16 c.from.result) +ℤ to_z w16 (of_z w16 c.from-2.result))) ≡ c.args.rule.now.offset +ℤ c.args.by
+place : (c : After-table)
+    → to_z w16 (of_z w16 (to_z w16 (of_z w16 c.from.result) +ℤ to_z w16 (of_z w16 c.from-2.result))) ≡ c.args.rule.now.offset +ℤ c.args.by
 place c = sum-in_w16 c.args.rule.now.offset c.args.by _ _ (FitsSigned-offset c.o.ensures.rule) c.ranges.by (c.from.ensures ∙ ap (λ o. to_z w8 (of_z w8 o)) c.o.ensures.offset) c.from-2.ensures
 
 -- the parts are those of the shifted rule, which is accepted
@@ -31,7 +32,7 @@ pub returns-clause-fault : goal.returns-clause-fault
 returns-clause-fault c = c.in_ok-o.ensures.fault ∙ ap₂ offset_fault c.m.ensures.width (place (goal.at.returns-clause-fault c).After-table)
 
 pub rule_of_parts-requires : goal.rule_of_parts-requires
-rule_of_parts-requires c = let parts = made (goal.at.rule_of_parts-requires c).After-table in subst IsRule (sym parts.1) parts.0
+rule_of_parts-requires c = grind (arith, made)
 
 pub returns-clause-shifted : goal.returns-clause-shifted
 returns-clause-shifted c = c.rule_of_parts.ensures ∙ (made (goal.at.returns-clause-shifted c).After-table).1

@@ -1,13 +1,7 @@
 use Rattle.std.proofs.Common.{◌<◌, refl, arith}
 use Rattle.rule_algebra.specs.Algebra.{Ignores}
-use Rattle.rule_algebra.proofs.laws.Trimming.{IsRest-none, IsRest-more, IsRule-without_first, DropsFirsts-rest}
+use Rattle.rule_algebra.proofs.laws.Trimming.{IsRest-more, IsRule-without_first, DropsFirsts-rest}
 use Rattle.rule_algebra.proofs.trimming.without_firsts.Goals as goal
-
-pub loop-dropped-init : goal.loop-dropped-init
-loop-dropped-init c = (IsRest-none c.args.rule.now, c.m-dropped-end.ensures.rule)
-
-pub without_first-rest-requires : goal.without_first-rest-requires
-without_first-rest-requires c = omega (arith, c.loop-dropped.invariant.0.width, c.m-dropped-end.ensures.width)
 
 pub loop-dropped-preserved : goal.loop-dropped-preserved
 loop-dropped-preserved c =
@@ -20,8 +14,3 @@ loop-dropped-preserved c =
 pub returns-then-not-ignores_first-clause-dropped : goal.returns-then-not-ignores_first-clause-dropped
 returns-then-not-ignores_first-clause-dropped c =
     DropsFirsts-rest c.m-dropped-end.ensures.rule c.loop-dropped.invariant.0 (λ both. absurd (let yes = c.if-not-ignores_first.ensures.ignores.1 both.1 in cc yes))
-
-pub returns-clause-dropped : goal.returns-clause-dropped
-returns-clause-dropped c =
-    let rest = c.loop-dropped.invariant.0 in
-    DropsFirsts-rest c.m-dropped-end.ensures.rule rest (λ both. absurd (omega (arith, both.0, rest.width, c.m-dropped-end.ensures.width)))

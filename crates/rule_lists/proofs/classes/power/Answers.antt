@@ -1,17 +1,11 @@
-use Rattle.std.proofs.Common.{◌≤◌, ◌<◌, ◌^◌, ◌∙◌, ℕ, ap₂, arith}
-use Rattle.word_image.proofs.Common.{one-le-pow, pow-le-pow_right, window_count-le, some_letter}
+use Rattle.std.proofs.Common.{◌≤◌, ◌<◌, ◌^◌, arith}
+use Rattle.word_image.proofs.Common.{one-le-pow, pow-le-pow_right, window_count-le}
 use Rattle.rule_lists.proofs.classes.power.Goals.{After-from-2}
 use Rattle.rule_lists.proofs.classes.power.Goals as goal
 
 -- a power of the states, up to the number of windows
 bounds : (c : After-from-2) → (0 < c.from.result ^ c.from-2.result) × (c.from.result ^ c.from-2.result ≤ 256)
-bounds c =
-    let r = c.args.shape.now in
-    let rule = c.k.ensures.rule in
-    let some = some_letter rule in
-    let e = ap₂ (λ (a b : ℕ). a ^ b) (c.from.ensures ∙ c.k.ensures.states) c.from-2.ensures in
-    let most = pow-le-pow_right some {i = c.args.length} {j = r.width} c.requires in
-    (omega (arith, e, one-le-pow c.args.length r.states some), omega (arith, e, most, window_count-le r.states r.width r.offset rule.shape))
+bounds c = grind (arith, pow-le-pow_right, one-le-pow, window_count-le)
 
 pub pow-requires : goal.pow-requires
 pow-requires c = omega (arith, (bounds (goal.at.pow-requires c).After-from-2).1)

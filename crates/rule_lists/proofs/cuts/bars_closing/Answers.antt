@@ -10,5 +10,4 @@ returns-then-has_one_node c told s h =
 
 pub returns : goal.returns
 returns c told s h =
-    let (q, first, before) = c.is_tail.ensures c.if-not-is_tail.false s h in
-    IsClosing-tail c.args.side c.pair-pair.result q h.rule first before (c.is_round.ensures told s h c.args.side)
+    grind (arith, IsClosing-tail)

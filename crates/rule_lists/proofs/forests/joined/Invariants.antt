@@ -7,5 +7,6 @@ abbrev pub invariant-loop-node : goal.invariant-loop-node
 invariant-loop-node l = record {
   trees : length l.trees ≡ 16;
   levels : length l.levels ≡ 16;
-  moved : (v : ℕ) → v < l.node → IsMoved l.kept l.rise l.gone l.other (slice_index l.forest.trees v) (slice_index l.forest.levels v) (slice_index l.trees v) (slice_index l.levels v);
+  moved : (v : ℕ) → v < l.node
+      → IsMoved l.kept l.rise l.gone l.other (slice_index l.forest.trees v) (slice_index l.forest.levels v) (slice_index l.trees v) (slice_index l.levels v);
 }

@@ -8,6 +8,5 @@ returns-clause-known c s phi h flux =
     let r = c.args.shape.now in
     let w = c.args.window in
     let at : slice_index c.args.letters.now c.from.result ≡ slice_index c.args.letters.now w = ap (slice_index c.args.letters.now) c.from.ensures in
-    let fixed : slice_index c.args.letters.now w < r.states = omega (arith, c.if-letter-k.false, c.k-k.ensures.states, at) in
-    let is = h.fixed w c.requires.window fixed in
-    c.with_window.ensures.levels phi (subst (λ a. GainsWith r w a phi) (is ∙ sym at) (GainsWith-flux r s c.args.letters.now phi w h flux c.requires.window)) (c.requires.known s phi h flux)
+    let fixed : slice_index c.args.letters.now w < r.states = omega arith in
+    c.with_window.ensures.levels phi (subst (λ a. GainsWith r w a phi) ((h.fixed w c.requires.window fixed) ∙ sym at) (GainsWith-flux r s c.args.letters.now phi w h flux c.requires.window)) (c.requires.known s phi h flux)

@@ -1,6 +1,6 @@
 use Rattle.std.proofs.Common.{◌≡◌, ℕ, ◌+◌, ◌/◌, ◌%◌, ◌-ℤ◌, pos, slice_index, slice_index_or, refl, sym, ap, ap₂, ◌∙◌, arith}
 use Rattle.word_image.proofs.Common.{node_count}
-use Rattle.rule_lists.proofs.Flows.{AreLevels-joined, AreUpTo-joined}
+use Rattle.rule_lists.proofs.Flows.{AreLevels-joined}
 use Rattle.rule_lists.proofs.forests.with_window.Goals as goal
 
 pub returns : goal.returns
@@ -20,10 +20,8 @@ returns c =
       levels = λ phi gains old.
           AreLevels-joined (node_count r) trees levels c.joined.result.trees c.joined.result.levels phi first last c.args.letter c.end_letter.result
           (slice_index trees first) (slice_index levels last + c.from.result) (slice_index trees last) (slice_index levels first + c.from-2.result)
-          rule.shape.most_nodes (omega (arith, c.from-first.ensures, c.end_node.ensures.node)) (omega (arith, c.from-last.ensures, c.end_node-2.ensures.node))
+          rule.shape.most_nodes (omega arith) (omega arith)
           (ap (λ (b : ℕ). pos c.args.letter -ℤ pos b) c.end_letter.ensures.value ∙ gains ∙ sym (ap₂ (λ (x y : ℕ). slice_index_or phi x (pos 0) -ℤ slice_index_or phi y (pos 0)) ef el))
           refl is_rise refl is_other c.joined.ensures old;
-      small = AreUpTo-joined levels c.joined.result.trees trees c.joined.result.levels
-          (slice_index trees first) (slice_index levels last + c.from.result) (slice_index trees last) (slice_index levels first + c.from-2.result) w
-          (omega (arith, c.if-rise-gt-MOST_RISE.false)) (omega (arith, c.if-other-gt-MOST_RISE.false)) c.joined.ensures c.requires.small;
+      small = grind arith;
     }

@@ -15,7 +15,8 @@ returns-then-not-is_decimal-clause-every c = λ z offset.
     absurd (search rules)
 
 -- the offset that was read
-read : (text : List ℕ) (start number : ℕ) (minus : Bool) (o : ℤ) → number ≡ decimal_value (take (length text - start) (drop start text)) → o ≡ signed minus number
+read : (text : List ℕ) (start number : ℕ) (minus : Bool) (o : ℤ) → number ≡ decimal_value (take (length text - start) (drop start text))
+    → o ≡ signed minus number
     → o ≡ signed minus (decimal_value (drop start text))
 read text start number minus o is sign = sign ∙ ap (signed minus) (is ∙ ap decimal_value (take_rest text start))
 

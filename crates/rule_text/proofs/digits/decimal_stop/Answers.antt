@@ -1,4 +1,4 @@
-use Rattle.std.proofs.Common.{◌≢◌, length, arith, rules, subst, List, All, take_all}
+use Rattle.std.proofs.Common.{arith, rules, take_all}
 use Rattle.word_image.proofs.Common.{All-more}
 use Rattle.rule_text.specs.RuleTexts.{IsDigit}
 use Rattle.rule_text.specs.Heads.{IsDecimalStop}
@@ -12,14 +12,7 @@ loop-place-preserved c = record {
 }
 
 pub returns-else-is_empty-clause-none : goal.returns-else-is_empty-clause-none
-returns-else-is_empty-clause-none c =
-    let digits = c.args.digits.now in
-    let some : length digits ≢ 0 = grind arith in
-    record {
-      digits = subst (λ (x : List _). All IsDigit x) (take_all c.loop-place.place digits c.loop-place-test.false) c.loop-place.invariant.digits;
-      least = omega arith;
-      most = omega arith;
-    }
+returns-else-is_empty-clause-none c = grind (arith, take_all)
 
 pub returns-then-place-eq-MOST_DIGITS-clause-some : goal.returns-then-place-eq-MOST_DIGITS-clause-some
 returns-then-place-eq-MOST_DIGITS-clause-some c =
@@ -27,6 +20,4 @@ returns-then-place-eq-MOST_DIGITS-clause-some c =
     IsFormFault-decimal c.args.digits.now c.loop-place.place stop
 
 pub returns-then-is_empty-clause-some : goal.returns-then-is_empty-clause-some
-returns-then-is_empty-clause-some c =
-    let stop : IsDecimalStop c.args.digits.now 0 = search rules in
-    IsFormFault-decimal c.args.digits.now 0 stop
+returns-then-is_empty-clause-some c = grind (arith, IsFormFault-decimal)

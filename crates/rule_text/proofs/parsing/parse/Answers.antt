@@ -18,7 +18,8 @@ returns-in_err-head c =
     record { rule = rule; fault = fault; every_rule = every_rule text a rule fault; every_fault = every_fault text a rule fault }
 
 -- the place where the digits stop, as the code takes them, is where the text goes wrong
-stop_of : (text : List ℕ) (h : Head) (n : ℕ) → IsHead text h → IsFormFault (IsEntries h.kind) (take (length text - h.place) (drop h.place text)) n → IsTextFault text (fault.Form (h.place + n))
+stop_of : (text : List ℕ) (h : Head) (n : ℕ) → IsHead text h → IsFormFault (IsEntries h.kind) (take (length text - h.place) (drop h.place text)) n
+    → IsTextFault text (fault.Form (h.place + n))
 stop_of text h n head stop = NoForm (h.place + n) (head.stops n (subst (λ (x : List ℕ). IsFormFault (IsEntries h.kind) x n) (take_rest text h.place) stop))
 
 pub returns-in-Some : goal.returns-in-Some
@@ -28,7 +29,8 @@ returns-in-Some c =
     record { rule = tt; fault = fault; every_rule = every_rule text (Err _) tt fault; every_fault = every_fault text (Err _) tt fault }
 
 -- what is read after a head is the rule of the text, or its fault
-read_after : (text : List ℕ) (h : Head) (a : Result LocalRule TextFault) → IsHead text h → IsEntries h.kind (take (length text - h.place) (drop h.place text))
+read_after : (text : List ℕ) (h : Head) (a : Result LocalRule TextFault) → IsHead text h
+    → IsEntries h.kind (take (length text - h.place) (drop h.place text))
     → IsReading (said_of h (take (length text - h.place) (drop h.place text))) a → IfOk a (λ r. IsRuleText text r) × IfErr a (λ g. IsTextFault text g)
 read_after text h a head entries reading =
     let says = head.says (subst (λ (x : List ℕ). IsEntries h.kind x) (take_rest text h.place) entries) in

@@ -1,4 +1,4 @@
-use Rattle.std.proofs.Common.{◌≡◌, ℕ, ◌+◌, ◌-◌, ◌*◌, ◌^◌, ◌<◌, ◌≤◌, drop, reverse, get_or, refl, sym, ap, ap₂, ◌∙◌, arith}
+use Rattle.std.proofs.Common.{◌≡◌, ℕ, ◌+◌, ◌-◌, ◌*◌, ◌^◌, ◌<◌, ◌≤◌, drop, reverse, get_or, refl, ◌∙◌, arith}
 use Rattle.word_image.proofs.Common.{LocalRule, IsRule, value}
 use Rattle.rule_text.proofs.laws.Numbers.{value-reverse_drop, value-reverse_drop-below, wolfram_number-value}
 use Rattle.rule_text.proofs.printing.number.Goals as goal
@@ -6,13 +6,10 @@ use Rattle.rule_text.proofs.printing.number.Goals as goal
 -- the number with the letter before it, by the names that the code gives to the parts
 step : (r : LocalRule) (i n k a : ℕ) → IsRule r → 0 < i → i ≤ r.states ^ r.width → n ≡ value r.states (reverse (drop i r.table)) → k ≡ r.states
     → a ≡ get_or r.table (i - 1) 0 → n * k + a ≡ value r.states (reverse (drop (i - 1) r.table))
-step r i n k a rule some within number states letter =
-    ap₂ (λ (x y : ℕ). x + y) (ap₂ (λ (x y : ℕ). x * y) number states) letter ∙ sym (value-reverse_drop r.states r.table i some (omega (arith, rule.entries)))
+step r i n k a rule some within number states letter = grind (arith, value-reverse_drop)
 
 pub loop-value-preserved : goal.loop-value-preserved
-loop-value-preserved c =
-    step c.args.rule.now c.loop-value.value c.loop-value.number c.from.result c.from-in-loop-value.result c.k.ensures.rule (omega arith) (omega arith)
-    c.loop-value.invariant (c.from.ensures ∙ c.k-in-loop-value.ensures.states) (c.from-in-loop-value.ensures ∙ c.at.ensures.entry)
+loop-value-preserved c = grind (arith, step)
 
 pub overflow_add-number : goal.overflow_add-number
 overflow_add-number c =
@@ -31,7 +28,4 @@ overflow_mul-number c =
     omega (arith, next, value-reverse_drop-below c.k.ensures.rule (omega arith) (i - 1))
 
 pub returns : goal.returns
-returns c =
-    let r = c.args.rule.now in
-    let start : c.loop-value.value ≡ 0 = omega arith in
-    (omega arith, c.loop-value.invariant ∙ ap (λ i. value r.states (reverse (drop i r.table))) start ∙ sym (wolfram_number-value c.k.ensures.rule))
+returns c = grind (arith, wolfram_number-value)

@@ -13,6 +13,4 @@ loop-value-preserved c =
     ∙ ap (λ (xs : List ℕ). start ++ xs) (sym (map_more lower_digit r.table c.loop-value.value 0 (omega arith)))
 
 pub returns : goal.returns
-returns c =
-    let r = c.args.rule.now in
-    c.loop-value.invariant ∙ ap (λ (xs : List ℕ). head (decimal r.states) (decimal r.width) (offset_text r.offset) (codes "t") ++ map lower_digit xs) (take_all c.loop-value.value r.table (omega arith))
+returns c = grind (arith, decimal, codes, take_all)

@@ -1,10 +1,8 @@
-use Rattle.std.proofs.Common.{All, ◌≤◌, ◌∙◌, refl, sym, ap, slice_index, subst, subst₂}
+use Rattle.std.proofs.Common.{◌∙◌, refl, sym, ap}
 use Rattle.word_image.specs.declared.side.Side.TheVariants.{Right, Left}
 use Rattle.word_image.proofs.Common.{LocalRule, AreWeights}
-use Rattle.cert_values.proofs.Common.{Certificate, InjectiveEvidence, SideEvidence, SumEvidence, surjective_of, injective_of, side_of, sum_of}
-use Rattle.cert_values.specs.Parts.{IsOver}
-use Rattle.certificate_laws.specs.LeastEvidence.{IsOrphanPart, IsInjectivePart, IsRightPart, IsLeftPart, IsConservingPart}
-use Rattle.certificate_laws.specs.WrittenCertificates.{orphan_of, HasWrittenParts, IsListPart}
+use Rattle.cert_values.proofs.Common.{Certificate, surjective_of, injective_of, side_of, sum_of}
+use Rattle.certificate_laws.specs.WrittenCertificates.{HasWrittenParts}
 use Rattle.certificate_laws.proofs.WrittenShapes.{IsShaped-written}
 use Rattle.rule_verdicts.specs.Reports as found
 use Rattle.rule_verdicts.proofs.laws.WrittenParts.{IsRankRow-row}
@@ -27,14 +25,12 @@ made c = record {
 
 -- the weights are those of a rule
 are_weights : (c : goal.In_ok-row) → AreWeights (c.args.rule.now).states c.args.weights.now
-are_weights c = record { each_letter = c.requires.weights; small = subst (All (λ w. w ≤ 255)) c.as_slice.ensures.weights c.have_eight_bits.ensures }
+are_weights c = record { each_letter = c.requires.weights; small = rw c.as_slice.ensures.weights at c.have_eight_bits.ensures }
 
 -- the certificate that is made has the parts that are written for the rule
 HasWrittenParts-made : (c : goal.In_ok-row) → HasWrittenParts c.args.version c.args.rule.now c.args.weights.now (made c)
 HasWrittenParts-made c =
     let report = c.report_over-report.result in
-    let weight = slice_index c.args.weights.now in
-    let part = surjective_of c.in_ok-surjective.surjective in
     let pairs = c.of-pairs.ensures in
     let ranks = c.from_pairs-ranks.ensures ∙ pairs in
     let least = c.report_over-report.ensures.least in
@@ -44,21 +40,21 @@ HasWrittenParts-made c =
       weights_are = refl;
       least = record {
         rule = refl;
-        surjective = subst (λ (r : LocalRule). IsOrphanPart r (orphan_of part)) pairs c.in_ok-surjective.ensures.orphan;
-        injective = subst₂ (λ (r : LocalRule) (e : InjectiveEvidence). IsInjectivePart r e) pairs (sym c.in_ok-injective.ensures) least.injective;
-        right = subst₂ (λ (r : LocalRule) (e : SideEvidence). IsRightPart r e) pairs (sym c.in_ok-right.ensures.side) least.right;
-        left = subst₂ (λ (r : LocalRule) (e : SideEvidence). IsLeftPart r e) pairs (sym c.in_ok-left.ensures.side) least.left;
-        conserving = subst₂ (λ (r : LocalRule) (e : SumEvidence). IsConservingPart weight r e) pairs sum least.conserving;
+        surjective = rw pairs at c.in_ok-surjective.ensures.orphan;
+        injective = rw (← pairs, c.in_ok-injective.ensures) least.injective;
+        right = rw (← pairs, c.in_ok-right.ensures.side) least.right;
+        left = rw (← pairs, c.in_ok-left.ensures.side) least.left;
+        conserving = rw (← pairs, ← sum) least.conserving;
       };
-      list = subst (λ (r : LocalRule). IsListPart c.args.version r part) pairs c.in_ok-surjective.ensures.list;
+      list = rw pairs at c.in_ok-surjective.ensures.list;
       forward = IsRankRow-row Right ranks c.in_ok-forward.ensures.each_pair c.in_ok-forward.ensures.ranks;
       backward = IsRankRow-row Left ranks c.in_ok-row.ensures.each_pair c.in_ok-row.ensures.ranks;
     }
 
 pub invariant_of-result : goal.invariant_of-result
 invariant_of-result c = (
-  subst (λ (r : LocalRule). IsOver r.states c.in_ok-right.right) c.of-pairs.ensures (c.in_ok-right.ensures.over _ c.report_over-report.ensures.right),
-  subst (λ (r : LocalRule). IsOver r.states c.in_ok-left.left) c.of-pairs.ensures (c.in_ok-left.ensures.over _ c.report_over-report.ensures.left),
+  rw c.of-pairs.ensures at (c.in_ok-right.ensures.over _ c.report_over-report.ensures.right),
+  rw c.of-pairs.ensures at (c.in_ok-left.ensures.over _ c.report_over-report.ensures.left),
   IsShaped-written c.requires.version c.keeps_limits.ensures (are_weights c) (HasWrittenParts-made c),
 )
 

@@ -1,10 +1,7 @@
 use Rattle.std.proofs.Common.{◌≡◌, ◌+◌, ◌*◌, ◌<◌, ◌≤◌, length, get_or, set, sum, refl, ◌∙◌, arith, length-set}
-use Rattle.word_image.proofs.Common.{pow-zero, All-set, sum_by-set, sum_by-le}
+use Rattle.word_image.proofs.Common.{All-set, sum_by-set, sum_by-le}
 use Rattle.rule_verdicts.proofs.laws.Tables.{value-set_more, value-set_carry}
 use Rattle.rule_verdicts.proofs.numbers.next_table.Goals as goal
-
-pub loop-place-init : goal.loop-place-init
-loop-place-init c = record { word = c.requires.word; long = refl; total = c.requires.total; carried = omega (arith, pow-zero c.args.k) }
 
 pub overflow_add-result : goal.overflow_add-result
 overflow_add-result c =

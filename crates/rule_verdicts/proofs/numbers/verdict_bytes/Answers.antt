@@ -1,9 +1,6 @@
-use Rattle.std.proofs.Common.{◌≡◌, ◌+◌, ◌-◌, ◌^◌, ◌≤◌, None, length, reverse, ap, ◌∙◌, subst, arith, pos, option_map}
-use Rattle.std.specs.Option.{option_or}
-use Rattle.word_image.proofs.Common.{value, shape_fault}
-use Rattle.rule_text.specs.RuleTexts.{by_number, as_text_fault, number_fault}
-use Rattle.rule_text.specs.TextReadings.{IsReading}
-use Rattle.rule_verdicts.specs.Numbers.{numbers_fault, numbered_rule, AreVerdictBytes}
+use Rattle.std.proofs.Common.{◌≡◌, ◌+◌, ◌-◌, ◌^◌, ◌≤◌, None, length, reverse, ap, ◌∙◌, arith}
+use Rattle.word_image.proofs.Common.{value}
+use Rattle.rule_verdicts.specs.Numbers.{numbers_fault, numbered_rule}
 use Rattle.rule_verdicts.proofs.laws.Numbers.{numbers_fault-room}
 use Rattle.rule_verdicts.proofs.laws.Tables.{length-numbered, value-numbered}
 use Rattle.rule_verdicts.proofs.numbers.verdict_bytes.Goals.{After-copy_from_slice}
@@ -13,8 +10,7 @@ use Rattle.rule_verdicts.proofs.numbers.verdict_bytes.Goals as goal
 none : (c : After-copy_from_slice) → numbers_fault c.args.k c.args.m c.args.first (length c.args.bytes.now) ≡ None
 none c =
     let last : c.in-Some.last ≡ c.args.first + length c.args.bytes.now - 1 = omega (arith, c.in-Some.ensures.1, c.requires) in
-    let reading = subst (IsReading (by_number c.args.k c.args.m (pos 0) c.in-Some.last)) c.in_ok-numbered.was c.numbered.ensures in
-    subst (λ n. option_or (option_map (as_text_fault 0) (shape_fault c.args.k c.args.m (pos 0))) (number_fault c.args.k c.args.m n) ≡ None) last reading.0
+    rw last at (rw c.in_ok-numbered.was at c.numbered.ensures).0
 
 -- each number from the first on that has a byte is one of a rule
 room : (c : After-copy_from_slice) → c.args.first + length c.args.bytes.now ≤ c.args.k ^ (c.args.k ^ c.args.m)
@@ -22,7 +18,7 @@ room c = numbers_fault-room c.args.k c.args.m c.args.first (length c.args.bytes.
 
 -- the rule of the first number
 first_rule : (c : After-copy_from_slice) → c.in_ok-rule.rule ≡ numbered_rule c.args.k c.args.m c.args.first
-first_rule c = let reading = subst (IsReading (by_number c.args.k c.args.m (pos 0) c.args.first)) c.in_ok-rule.was c.numbered-2.ensures in reading.1
+first_rule c = (rw c.in_ok-rule.was at c.numbered-2.ensures).1
 
 -- the number of the first rule
 number : (c : After-copy_from_slice) → value c.args.k (reverse c.copy_from_slice.new.self) ≡ c.args.first
@@ -39,4 +35,4 @@ write_bytes-requires-clause-room c =
 pub returns : goal.returns
 returns c =
     let d : After-copy_from_slice = (goal.at.returns c).After-copy_from_slice in
-    (none d, subst (λ n. AreVerdictBytes c.args.k c.args.m n c.write_bytes.new.bytes) (number d) c.write_bytes.ensures)
+    (none d, rw (number d) at c.write_bytes.ensures)

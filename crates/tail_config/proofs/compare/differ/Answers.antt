@@ -1,26 +1,18 @@
-use Rattle.std.proofs.Common.{◌≡◌, ℕ, suc, unsigned_abs, ◌+◌, ◌<◌, ◌≤◌, ℤ, pos, negsuc, subst, sym, ⊎_elim, arith}
+use Rattle.std.proofs.Common.{◌≡◌, ℕ, ◌+◌, ◌<◌, ◌≤◌, ℤ, pos, negsuc, ⊎_elim, arith}
 use Rattle.word_image.proofs.Common.{cases_lt, ints}
-use Rattle.tail_config.specs.Tails.{TailConfig, cell}
+use Rattle.tail_config.specs.Tails.{TailConfig}
 use Rattle.tail_config.specs.Differences.{IsNearestDifference, IsFirstDifference, left_cells, right_cells}
 use Rattle.tail_config.proofs.compare.differ.Goals as goal
 
 -- the first difference right of place -1 is the nearest where there is none nearer on the left
 nearest_right : (x y : TailConfig) (i : ℕ) (place : ℤ) → place ≡ pos i → IsFirstDifference (right_cells x) (right_cells y) 0 i
     → ((j : ℕ) → j + 1 < i → left_cells x j ≡ left_cells y j) → IsNearestDifference x y place
-nearest_right x y i place at first left = subst (IsNearestDifference x y) (sym at) (record {
-  other = first.other;
-  nearest = λ j less. elim j as (λ z. unsigned_abs z < i → cell x z ≡ cell y z) [ pos n ↦ λ l. first.before n (omega arith) l | negsuc n ↦ λ l. left n (omega arith) ] less;
-  tie = λ negative. absurd (omega (arith, ints));
-})
+nearest_right x y i place at first left = grind arith
 
 -- the first difference left of place 0 is the nearest where there is none as near on the right
 nearest_left : (x y : TailConfig) (i : ℕ) (place : ℤ) → place ≡ negsuc i → IsFirstDifference (left_cells x) (left_cells y) 0 i
     → ((j : ℕ) → j ≤ i + 1 → right_cells x j ≡ right_cells y j) → IsNearestDifference x y place
-nearest_left x y i place at first right = subst (IsNearestDifference x y) (sym at) (record {
-  other = first.other;
-  nearest = λ j less. elim j as (λ z. unsigned_abs z < suc i → cell x z ≡ cell y z) [ pos n ↦ λ l. right n (omega arith) | negsuc n ↦ λ l. first.before n (omega arith) (omega arith) ] less;
-  tie = λ negative. right (suc i) (omega arith);
-})
+nearest_left x y i place at first right = grind arith
 
 pub returns-in-None-Some-clause-same : goal.returns-in-None-Some-clause-same
 returns-in-None-Some-clause-same c = (λ e. absurd (cc), λ same. absurd (c.in-None-Some.ensures.first.other (same (negsuc c.in-None-Some.left))))
@@ -46,8 +38,6 @@ pub returns-in-Some-Some-clause-nearest : goal.returns-in-Some-Some-clause-neare
 returns-in-Some-Some-clause-nearest c =
     let right = c.in-Some-Some.ensures in
     let left = c.in-Some-Some.ensures' in
-    let near_right = right.near in
-    let near_left = left.near in
-    ⊎_elim (λ less. let at = c.nearer.ensures.left less in nearest_left _ _ _ _ (omega (arith, ints, at)) left.first (λ n l. right.first.before n (omega arith) (omega arith)))
-    (λ more. let at = c.nearer.ensures.right more in nearest_right _ _ _ _ (omega (arith, ints, at)) right.first (λ n l. left.first.before n (omega arith) (omega arith)))
+    ⊎_elim (λ less. let at = c.nearer.ensures.left less in nearest_left _ _ _ _ (omega (arith, ints)) left.first (λ n l. right.first.before n (omega arith) (omega arith)))
+    (λ more. let at = c.nearer.ensures.right more in nearest_right _ _ _ _ (omega (arith, ints)) right.first (λ n l. left.first.before n (omega arith) (omega arith)))
     (cases_lt (c.in-Some-Some.left + 1) c.in-Some-Some.right)

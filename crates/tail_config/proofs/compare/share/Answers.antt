@@ -15,7 +15,4 @@ returns c =
     )
 
 pub share_run-requires-clause-near : goal.share_run-requires-clause-near
-share_run-requires-clause-near c =
-    let first = ap length c.left.ensures.left in
-    let second = ap length c.left-2.ensures.left in
-    omega (arith, ints)
+share_run-requires-clause-near c = grind (arith, ints)

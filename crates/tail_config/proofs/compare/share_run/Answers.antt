@@ -4,5 +4,4 @@ use Rattle.tail_config.proofs.compare.share_run.Goals as goal
 
 pub returns : goal.returns
 returns c =
-    let passed = to_z-of_z w64 c.args.start c.ranges.start in
-    (λ _ d l. rw passed at (c.loop-d.invariant d (omega arith)), λ all. refl)
+    (λ _ d l. rw (to_z-of_z w64 c.args.start c.ranges.start) at (c.loop-d.invariant d (omega arith)), λ all. refl)

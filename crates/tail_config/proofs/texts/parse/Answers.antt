@@ -1,5 +1,4 @@
-use Rattle.std.proofs.Common.{Err, ap, ◌∙◌, rules}
-use Rattle.word_image.proofs.Common.{err_from_is_err_and}
+use Rattle.std.proofs.Common.{rules, arith}
 use Rattle.tail_config.proofs.laws.TailAnswers.{IsTailText-no_fault, one_fault, every_tail}
 use Rattle.tail_config.proofs.texts.parse.Goals as goal
 
@@ -7,9 +6,7 @@ pub returns-in_err-parts-clause-every_tail : goal.returns-in_err-parts-clause-ev
 returns-in_err-parts-clause-every_tail c = λ t good. absurd (IsTailText-no_fault good c.in_err-parts.ensures.fault)
 
 pub returns-in_err-parts-clause-every_fault : goal.returns-in_err-parts-clause-every_fault
-returns-in_err-parts-clause-every_fault c =
-    let (_, same, is) = err_from_is_err_and c.from_residual.result c.from_residual.ensures.1 in
-    λ f first. same ∙ ap Err (is ∙ one_fault c.in_err-parts.ensures.fault first)
+returns-in_err-parts-clause-every_fault c = grind (arith, one_fault)
 
 pub returns-clause-every_tail : goal.returns-clause-every_tail
 returns-clause-every_tail c = λ t good. every_tail c.in_ok-parts.ensures.parts good c.map_err.result (search rules) (search rules)

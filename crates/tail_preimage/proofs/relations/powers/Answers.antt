@@ -1,8 +1,8 @@
 use Rattle.std.proofs.Common.{◌≡◌, suc, ◌+◌, [], refl, ◌∙◌, subst, arith, length-set}
 use Rattle.pair_laws.proofs.Common.{IsBitSet-below}
-use Rattle.word_image.proofs.Common.{node_count, HasBit, set_more}
+use Rattle.word_image.proofs.Common.{HasBit, set_more}
 use Rattle.tail_preimage.specs.Relations.{IsRelation, Steps}
-use Rattle.tail_preimage.proofs.laws.Steps.{Steps-cons, Steps-first}
+use Rattle.tail_preimage.proofs.laws.Steps.{Steps-cons}
 use Rattle.tail_preimage.proofs.Rows.{IsRelation-same}
 use Rattle.tail_preimage.proofs.relations.powers.Goals as goal
 
@@ -15,10 +15,7 @@ loop-n-preserved c =
     let more : suc n ≡ n + 1 = omega arith in
     let next = IsRelation-same (λ u v below inside. (
       (λ (w, node, (first, rest)). Steps-cons first ((((before n (omega arith)).rows w node).nodes v inside).0 rest)),
-      (λ steps.
-          let (w, first, rest) = Steps-first steps in
-          let node = IsBitSet-below (node_count r) _ w (c.requires u below) first in
-          (w, node, (first, (((before n (omega arith)).rows w node).nodes v inside).1 rest))),
+      grind (arith, IsBitSet-below),
     )) c.joined.ensures in
     record {
       long = length-set _ _ _ ∙ c.loop-n.invariant.long;

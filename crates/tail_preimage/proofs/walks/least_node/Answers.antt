@@ -6,8 +6,5 @@ use Rattle.tail_preimage.proofs.walks.least_node.Goals as goal
 pub returns : goal.returns
 returns c =
     let set = c.args.set in
-    let (few, one, none) = bit_at-trailing_zeros w16 set (omega (arith, c.requires)) (omega arith) in
-    record {
-      holds = (bit_at-IsBitSet set _).1 one;
-      none = λ v l bit. let zeroth = none v l in let other = (bit_at-IsBitSet set v).0 bit in omega arith;
-    }
+    let (few, one, none) = bit_at-trailing_zeros w16 set (omega arith) (omega arith) in
+    grind (arith, bit_at-IsBitSet)

@@ -12,7 +12,7 @@ loop-n-init c = record {
 pub loop-n-preserved : goal.loop-n-preserved
 loop-n-preserved c =
     let h = c.loop-n.invariant.sets in
-    let last : c.index.result.now ≡ slice_index c.loop-n.sets.items c.loop-n.n = c.index.ensures ∙ get_or_default c.loop-n.sets.items c.loop-n.n c.index.result.now 0 (omega (arith, h.long)) in
+    let last : c.index.result.now ≡ slice_index c.loop-n.sets.items c.loop-n.n = grind (arith, get_or_default) in
     record {
       sets = rw c.push_reserved-in-loop-n.ensures.items (AreOpen-more c.edges.ensures.rule h (omega arith) c.edges.ensures.relation (rw last at c.sources-set.ensures));
       capacity = c.push_reserved-in-loop-n.ensures.capacity ∙ c.loop-n.invariant.capacity;

@@ -1,4 +1,4 @@
-use Rattle.std.proofs.Common.{◌≡◌, ℕ, ◌+◌, slice_index, bit_or, IsBitSet, sym, subst, arith}
+use Rattle.std.proofs.Common.{ℕ, ◌+◌, slice_index, bit_or, IsBitSet, sym, subst, arith}
 use Rattle.word_image.specs.Graphs.{HasBit}
 use Rattle.word_image.proofs.Common.{bit_set_by_shift}
 use Rattle.word_image.proofs.laws.Unions.{IsUnion, IsUnion-skip, IsUnion-take}
@@ -25,6 +25,4 @@ loop-u-preserved c =
 
 pub returns : goal.returns
 returns c =
-    let count = c.args.nodes in
-    let all : c.loop-u.u ≡ count = omega arith in
-    subst (λ n. IsUnion count (λ u v. IsBitSet c.args.set u × HasBit c.args.rows.now u v) n c.loop-u.after) all c.loop-u.invariant
+    grind arith

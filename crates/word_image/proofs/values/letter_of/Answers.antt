@@ -1,4 +1,4 @@
-use Rattle.std.proofs.Common.{◌≡◌, ℕ, ◌-◌, ◌/◌, ◌%◌, ◌^◌, ◌≤◌, sym, ap₂, ◌∙◌, arith}
+use Rattle.std.proofs.Common.{◌≡◌, ℕ, ◌-◌, ◌^◌, ap₂, ◌∙◌, arith}
 use Rattle.word_image.proofs.Common.{one-le-pow, pow-le-pow_right}
 use Rattle.word_image.proofs.laws.WindowParts.{get_or-word_of}
 use Rattle.word_image.proofs.values.letter_of.Goals as goal
@@ -8,14 +8,10 @@ power : (c : goal.After-pow) → c.pow.result ≡ c.args.k ^ (c.args.n - 1 - c.a
 power c = c.pow.ensures ∙ ap₂ (λ (b e : ℕ). b ^ e) c.from-k.ensures c.from.ensures
 
 pub pow-requires : goal.pow-requires
-pow-requires c =
-    let few : c.args.k ^ (c.args.n - 1 - c.args.place) ≤ c.args.k ^ c.args.n = pow-le-pow_right c.requires.some (omega arith) in
-    rw (c.from-k.ensures, c.from.ensures) (omega (arith, few))
+pow-requires c = grind (arith, pow-le-pow_right)
 
 pub nonzero_div-result : goal.nonzero_div-result
 nonzero_div-result c = rw (power c) (one-le-pow (c.args.n - 1 - c.args.place) c.args.k c.requires.some)
 
 pub returns-clause-letter : goal.returns-clause-letter
-returns-clause-letter c =
-    ap₂ (λ (d k : ℕ). c.args.word / d % k) (power c) c.from-k.ensures
-    ∙ sym (get_or-word_of c.args.k c.args.place c.args.n c.args.word c.requires.place c.requires.word)
+returns-clause-letter c = grind (arith, get_or-word_of)

@@ -1,6 +1,5 @@
-use Rattle.std.proofs.Common.{sym, ◌∙◌, subst}
 use Rattle.word_image.proofs.Common.{length-map}
-use Rattle.ca_questions.proofs.Common.{Question, Finding, IsFinding, counts_of}
+use Rattle.ca_questions.proofs.Common.{IsFinding, counts_of}
 use Rattle.ca_answering.specs.ClassTallies.{rule_in, rules_in}
 use Rattle.ca_answering.proofs.class_tally.ClassTally.found.Goals as goal
 
@@ -8,5 +7,4 @@ pub returns : goal.returns
 returns c k m rules is =
     let t = c.args.self.now in
     let entries = (t.leasts).entries in
-    subst (λ n. IsFinding (Question.Classes rules) (Finding.Classes (counts_of t.counts) n)) (length-map entries (rule_in k m) ∙ sym c.len.ensures.len)
-    (IsFinding.Classes rules (rules_in k m entries) (counts_of t.counts) is.counts is.leasts)
+    rw c.len.ensures.len (rw (length-map entries (rule_in k m)) at (IsFinding.Classes rules (rules_in k m entries) (counts_of t.counts) is.counts is.leasts))

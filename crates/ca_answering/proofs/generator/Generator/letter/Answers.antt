@@ -1,8 +1,8 @@
-use Rattle.ca_answering.proofs.laws.Samples.{next_state-is}
+use Rattle.std.proofs.Common.{◌*◌, ap, ◌∙◌}
+use Rattle.word_image.proofs.Common.{mod-add-mod}
+use Rattle.ca_questions.specs.Samples.{next_state}
 use Rattle.ca_answering.proofs.generator.Generator.letter.Goals as goal
 
 pub returns-clause-state : goal.returns-clause-state
-returns-clause-state c = next_state-is c.self.inside.state c.args.self.now c.self.view_is
-
-pub returns-clause-letter : goal.returns-clause-letter
-returns-clause-letter c = rw c.from.ensures
+unfolding next_state
+returns-clause-state c = mod-add-mod (c.self.inside.state * 6364136223846793005) 18446744073709551616 1442695040888963407 ∙ ap next_state c.self.view_is

@@ -1,10 +1,14 @@
 use Rattle.std.proofs.Common.{subst, refl}
 use Rattle.word_image.proofs.Common.{IsRule}
-use Rattle.closing_test.proofs.SplitTails.{IsLeastSplitOf-walks, IsRightClosing-none_found}
+use Rattle.tail_laws.proofs.Common.{no_normal_split}
+use Rattle.tail_laws.proofs.Certainty.{IsRightClosing-no_normal}
+use Rattle.closing_test.proofs.SplitTails.{IsLeastSplitOf-walks}
 use Rattle.closing_test.proofs.split_room.SplitRoom.find_split.Goals as goal
 
 pub unreachable-requires : goal.unreachable-requires
-unreachable-requires c = c.requires (IsRightClosing-none_found (subst IsRule c.rule.ensures c.keeps_limits.ensures) c.in_default.ensures)
+unreachable-requires c =
+    let rule = subst IsRule c.rule.ensures c.keeps_limits.ensures in
+    c.requires ((IsRightClosing-no_normal rule).1 (no_normal_split rule c.in_default.ensures))
 
 pub returns-clause-split : goal.returns-clause-split
 returns-clause-split c =

@@ -1,7 +1,6 @@
 use Rattle.std.proofs.Common.{◌≡◌, refl, subst, true≢false, sym, ap, ◌∙◌, arith}
 use Rattle.word_image.proofs.Common.{length-reverse, LocalRule, mirrored}
-use Rattle.tail_config.proofs.Common.{IsRightClosing, IsLeftClosing, mirror_of, TailConfig, TailOver, IsTail-mirror}
-use Rattle.tail_config.specs.TailTexts.{IsShortTail}
+use Rattle.tail_config.proofs.Common.{IsRightClosing, IsLeftClosing, mirror_of, TailConfig, TailOver, IsTail-mirror, IsShortTail}
 use Rattle.tail_laws.proofs.Common.{IsLeftClosing-mirrored}
 use Rattle.closing_test.specs.Closing.{IsLeastSplitOf, IsLeastLeftSplitOf, IsShortOver, tail_over}
 use Rattle.closing_test.proofs.SplitTails.{IsShortTail-over}

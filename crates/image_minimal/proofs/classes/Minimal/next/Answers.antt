@@ -10,7 +10,8 @@ pub steps-steps-requires : goal.steps-steps-requires
 steps-steps-requires c = omega (arith, c.self.invariant.0.below c.args.i (class_inside c.self.invariant.0 c.self.view_is c.args.i c.requires.class), c.at-set.ensures)
 
 -- where the class stands that the least automaton has next
-next_at : (c : After-deref) → slice_get c.self.inside.classes.sets (slice_index c.self.invariant.0.automaton.next (c.args.i * c.self.invariant.0.automaton.states + c.args.a)) ≡ Some (slice_index c.deref.result.now (slice_index c.steps-steps.result c.args.a))
+next_at : (c : After-deref)
+    → slice_get c.self.inside.classes.sets (slice_index c.self.invariant.0.automaton.next (c.args.i * c.self.invariant.0.automaton.states + c.args.a)) ≡ Some (slice_index c.deref.result.now (slice_index c.steps-steps.result c.args.a))
 next_at c =
     let below : c.args.a < c.self.inside.subsets.states = rw c.self.view_is c.requires.letter in
     rw c.deref.ensures.value

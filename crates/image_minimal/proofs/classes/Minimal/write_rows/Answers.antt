@@ -1,4 +1,4 @@
-use Rattle.image_minimal.proofs.Common.{◌≡◌, ℕ, ◌+◌, ◌*◌, ◌<◌, List, [], ◌∷◌, ◌++◌, take, slice_index, length, length-take-le, vec_capacity, sym, ap, ap₂, subst, ◌∙◌, arith, mul_comm, take_all, mul-add-lt, take_more, IsLeastAutomaton}
+use Rattle.image_minimal.proofs.Common.{◌≡◌, ℕ, ◌+◌, ◌*◌, ◌<◌, List, [], ◌∷◌, ◌++◌, take, slice_index, length-take-le, sym, ap, ap₂, ◌∙◌, arith, mul_comm, take_all, mul-add-lt, take_more}
 use Rattle.image_minimal.proofs.ClassSearches.{the_automaton}
 use Rattle.image_minimal.proofs.classes.Minimal.write_rows.Goals as goal
 
@@ -13,22 +13,7 @@ class_of-requires-clause-class c =
     )
 
 pub push_reserved-requires : goal.push_reserved-requires
-push_reserved-requires c =
-    let h = c.self.invariant.0 in
-    let m = h.automaton in
-    let class : ℕ = c.loop-class.class in
-    let letter : ℕ = c.loop-letter.letter in
-    let least : IsLeastAutomaton c.args.self.now m = subst (λ r. IsLeastAutomaton r m) c.self.view_is h.least in
-    let inside = mul-add-lt class m.states letter m.classes (omega (arith, c.len-class-end.ensures.len, h.long)) (omega (arith, h.least.states)) in
-    let whole = mul_comm m.states m.classes in
-    let size = length-take-le (class * m.states + letter) m.next (omega (arith, inside, h.least.long, whole)) in
-    omega (arith, ap length (c.loop-letter.invariant.rows m least), size, inside, whole, c.requires m least, c.loop-letter.invariant.capacity)
-
-pub loop-class-init : goal.loop-class-init
-loop-class-init c = record { rows = λ a least. let none : 0 ≡ 0 * a.states = omega arith in c.clear.ensures.items ∙ ap (λ n. take n a.next) none; capacity = c.clear.ensures.capacity ∙ ap vec_capacity c.replace-list.ensures.value }
-
-pub loop-letter-init : goal.loop-letter-init
-loop-letter-init c = record { rows = λ a least. c.loop-class.invariant.rows a least ∙ ap (λ n. take n a.next) (omega arith); capacity = c.loop-class.invariant.capacity }
+push_reserved-requires c = grind (arith, mul-add-lt, mul_comm, length-take-le)
 
 pub loop-letter-preserved : goal.loop-letter-preserved
 loop-letter-preserved c = record {
@@ -45,15 +30,6 @@ loop-letter-preserved c = record {
       c.push_reserved.ensures.items ∙ ap₂ (λ (l : List ℕ) (x : ℕ). l ++ x ∷ []) (c.loop-letter.invariant.rows a least) next
       ∙ sym (take_more a.next (class * a.states + letter) 0 (omega (arith, inside, least.long, mul_comm a.states a.classes))) ∙ ap (λ n. take n a.next) (omega arith);
   capacity = c.push_reserved.ensures.capacity ∙ c.loop-letter.invariant.capacity;
-}
-
-pub loop-class-preserved : goal.loop-class-preserved
-loop-class-preserved c = record {
-  rows = λ a least.
-      let class : ℕ = c.loop-class.class in
-      let all : c.loop-letter.letter ≡ a.states = omega (arith, ap (λ r. r.states) c.self.view_is, least.states) in
-      c.loop-letter.invariant.rows a least ∙ ap (λ n. take n a.next) (ap (λ n. class * a.states + n) all ∙ omega arith);
-  capacity = c.loop-letter.invariant.capacity;
 }
 
 pub returns-clause-rows : goal.returns-clause-rows

@@ -1,10 +1,11 @@
-use Rattle.image_minimal.proofs.Common.{◌≡◌, ◌+◌, ◌<◌, ◌≤◌, ◌++◌, ◌∷◌, [], ℕ, length, set, Some, ap₂, subst, sym, arith, length_push, Contains, IsExactIndex}
+use Rattle.image_minimal.proofs.Common.{◌+◌, ◌<◌, ◌≤◌, ◌++◌, ◌∷◌, [], length, set, Some, subst, sym, arith, length_push, Contains, IsExactIndex}
 use Rattle.image_minimal.proofs.Indexes.{IsExactIndex-push, length-listed-le}
 use Rattle.image_minimal.proofs.listed.Listed.append.Goals as goal
 use Rattle.image_minimal.proofs.listed.Listed.append.Goals.{After-len-place}
 
 -- the index of the list with the new set
-pushed : (c : After-len-place) → IsExactIndex (c.self.inside.sets.items ++ c.args.set ∷ []) (set c.self.inside.places.items c.args.set (Some (length c.self.inside.sets.items)))
+pushed : (c : After-len-place)
+    → IsExactIndex (c.self.inside.sets.items ++ c.args.set ∷ []) (set c.self.inside.places.items c.args.set (Some (length c.self.inside.sets.items)))
 pushed c = IsExactIndex-push c.self.invariant.0 c.args.set (subst (λ l. c.args.set < l.limit) (sym c.self.view_is) c.requires.set) (subst (λ l. ¬ Contains l.sets c.args.set) (sym c.self.view_is) c.requires.new)
 
 -- there is room for the new set
@@ -18,10 +19,4 @@ pub push_reserved-requires : goal.push_reserved-requires
 push_reserved-requires c = omega (arith, room (goal.at.push_reserved-requires c).After-len-place, c.self.invariant.1)
 
 pub invariant_of-self : goal.invariant_of-self
-invariant_of-self c =
-    let number : c.len-place.result ≡ length c.self.inside.sets.items = omega (arith, c.len-place.ensures) in
-    let index = ap₂ (λ (i j : ℕ). set c.self.inside.places.items i (Some j)) c.from.ensures number in (
-      rw (c.push_reserved.ensures.items, index) (pushed (goal.at.invariant_of-self c).After-len-place),
-      omega (arith, c.push_reserved.ensures.capacity, c.self.invariant.1),
-      c.self.invariant.2,
-    )
+invariant_of-self c = grind (arith, pushed)

@@ -1,4 +1,4 @@
-use Rattle.image_minimal.proofs.Common.{◌≡◌, ◌<◌, refl, sym, ◌∙◌, pos, replicate, arith, rules, All-replicate, get_or-replicate, LocalRule, IsShape-shape_fault}
+use Rattle.image_minimal.proofs.Common.{◌≡◌, refl, sym, ◌∙◌, pos, replicate, arith, rules, All-replicate, get_or-replicate, LocalRule, IsShape-shape_fault}
 use Rattle.image_minimal.proofs.subsets.Subsets.new.Goals as goal
 
 -- the rule of two states and width 2 that gives 0 for all windows
@@ -9,11 +9,7 @@ pub from_fn-requires-clause-rule : goal.from_fn-requires-clause-rule
 from_fn-requires-clause-rule c = (
   zero_rule,
   record {
-    rule = record {
-      shape = IsShape-shape_fault 2 2 (pos 0) refl;
-      entries = refl;
-      letters = All-replicate (λ a. a < 2) 4 0 (omega arith);
-    };
+    rule = grind (arith, IsShape-shape_fault, All-replicate);
     states = refl;
     width = refl;
     offset = refl;

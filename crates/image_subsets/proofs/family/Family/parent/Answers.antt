@@ -1,13 +1,12 @@
-use Rattle.std.proofs.Common.{◌≡◌, ℕ, ◌<◌, length, get_or, Option, Some, None, sym, ap, ◌∙◌, subst, arith, slice_get}
+use Rattle.std.proofs.Common.{◌≡◌, ℕ, ◌<◌, length, get_or, Option, Some, None, ap, ◌∙◌, arith, slice_get}
 use Rattle.word_image.proofs.Common.{slice_get-get_or}
 use Rattle.image_subsets.specs.FamilyTrees.{FamilyTree, IsTree}
 use Rattle.image_subsets.proofs.family.Family.parent.Goals as goal
 
 -- the way that the index reads stands in the tree
-read : (tree now : FamilyTree) (i : ℕ) (way : Option (ℕ × ℕ)) → tree ≡ now → IsTree tree → i < length now.sets → way ≡ get_or tree.parents i way → slice_get tree.parents i ≡ Some way
-read tree now i way same h within at =
-    let inside : i < length tree.parents = omega (arith, h.one_each, ap (λ t. length t.sets) same, within) in
-    slice_get-get_or tree.parents i way inside ∙ ap Some (sym at)
+read : (tree now : FamilyTree) (i : ℕ) (way : Option (ℕ × ℕ)) → tree ≡ now → IsTree tree → i < length now.sets → way ≡ get_or tree.parents i way
+    → slice_get tree.parents i ≡ Some way
+read tree now i way same h within at = grind (arith, slice_get-get_or)
 
 pub returns-in-Some-clause-earlier : goal.returns-in-Some-clause-earlier
 returns-in-Some-clause-earlier c =
@@ -17,9 +16,7 @@ returns-in-Some-clause-earlier c =
     omega (arith, c.from.ensures, earlier)
 
 pub returns-in-None-clause-parent : goal.returns-in-None-clause-parent
-returns-in-None-clause-parent c =
-    let at = read _ _ c.args.i c.index.result.now c.self.view_is c.self.invariant.1 c.requires c.index.ensures in
-    subst (λ t. slice_get t.parents c.args.i ≡ Some None) c.self.view_is (at ∙ ap Some c.in-None.is)
+returns-in-None-clause-parent c = grind (arith, read)
 
 pub returns-in-None-clause-earlier : goal.returns-in-None-clause-earlier
 returns-in-None-clause-earlier c =

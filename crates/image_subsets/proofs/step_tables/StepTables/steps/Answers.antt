@@ -1,4 +1,4 @@
-use Rattle.std.proofs.Common.{◌≡◌, ◌%◌, sym, ◌∙◌, subst, refl}
+use Rattle.std.proofs.Common.{sym, ◌∙◌, subst, refl}
 use Rattle.word_image.proofs.Common.{and_numeral}
 use Rattle.image_subsets.specs.StepTables.{AreTables}
 use Rattle.image_subsets.proofs.Steps.{IsStep-tables}
@@ -6,5 +6,4 @@ use Rattle.image_subsets.proofs.step_tables.StepTables.steps.Goals as goal
 
 pub returns : goal.returns
 returns c r a tables within letter =
-    let lower : c.from.result ≡ c.args.set % 256 = c.from.ensures ∙ and_numeral c.args.set 254 refl in
-    IsStep-tables (subst (AreTables r) (sym c.self.view_is) tables) c.args.set a _ _ _ _ within letter lower c.from-2.ensures c.index-low.ensures c.index-high.ensures
+    IsStep-tables (subst (AreTables r) (sym c.self.view_is) tables) c.args.set a _ _ _ _ within letter (c.from.ensures ∙ and_numeral c.args.set 254 refl) c.from-2.ensures c.index-low.ensures c.index-high.ensures

@@ -1,4 +1,4 @@
-use Rattle.std.proofs.Common.{◌≡◌, ℕ, None, ℤ, w8, w32, FitsSigned, to_z, of_z, refl, sym, ◌∙◌, arith, rules}
+use Rattle.std.proofs.Common.{◌≡◌, ℕ, None, ℤ, w8, w32, to_z, of_z, refl, sym, ◌∙◌, arith, rules}
 use Rattle.std.proofs.lemmas.Int.{to_z-of_z}
 use Rattle.word_image.proofs.Common.{err_from_is_err_and, ints, none-some, IsRule, shape_fault, IsShape-shape_fault, shape_fault-IsShape, IsRuleBy-entries}
 use Rattle.tail_config.proofs.Common.{WindowMap}
@@ -9,16 +9,12 @@ use Rattle.inverse_table.proofs.lent_map.LentMap.as_rule.Goals as goal
 
 -- the offset of a map is passed as it is
 passed : {g : WindowMap} {o : ℤ} → IsWindowMap g → o ≡ g.offset → to_z w32 (of_z w32 o) ≡ g.offset
-passed {g} {o} h offset =
-    let fits : FitsSigned w32 o = omega (arith, ints, h.least_offset, h.most_offset) in
-    to_z-of_z w32 o fits ∙ offset
+passed {g} {o} h offset = grind (arith, w32, ints, to_z-of_z)
 
 -- the shape that is asked for is that of the map's rule
 asked : {g : WindowMap} {k m : ℕ} {o : ℤ} → IsWindowMap g → k ≡ g.states → m ≡ (map_rule g).width → o ≡ g.offset
     → shape_fault k m (to_z w8 (of_z w8 (to_z w32 (of_z w32 o)))) ≡ shape_fault g.states (map_rule g).width g.offset
-asked {g} h states width offset =
-    let fits : FitsSigned w8 g.offset = omega (arith, ints, h.least_offset, h.most_offset) in
-    rw (states, width, passed h offset, to_z-of_z w8 g.offset fits) refl
+asked {g} h states width offset = grind (arith, ints, passed, to_z-of_z)
 
 -- where the shape that is asked for has no fault, the rule of the map is a rule
 accepted : {g : WindowMap} {k m : ℕ} {o : ℤ} → IsWindowMap g → k ≡ g.states → m ≡ (map_rule g).width → o ≡ g.offset

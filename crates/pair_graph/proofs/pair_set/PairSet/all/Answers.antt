@@ -1,5 +1,5 @@
-use Rattle.std.proofs.Common.{◌≡◌, ◌-◌, ◌*◌, ◌^◌, ◌<◌, ◌≤◌, length, replicate, true, ap, sym, ◌∙◌, arith, ⊎_elim, get_or-set_other, length-set, pow_pos}
-use Rattle.word_image.proofs.Common.{cases_eq, get_or-set_at, node_count, node_count_pos}
+use Rattle.std.proofs.Common.{◌≡◌, ◌-◌, ◌*◌, ◌^◌, ◌<◌, ◌≤◌, length, replicate, true, refl, ap, sym, ◌∙◌, arith, get_or-set_other, length-set, pow_pos}
+use Rattle.word_image.proofs.Common.{set_more, node_count, node_count_pos}
 use Rattle.pair_graph.specs.PairRows.{truths-all}
 use Rattle.pair_graph.proofs.pair_set.PairSet.all.Goals as goal
 
@@ -13,10 +13,7 @@ loop-u-preserved c =
     let inside : i < length rows = omega (arith, c.from.ensures, c.loop-u-test.true, h.long, few) in
     record {
       long = length-set rows i row ∙ h.long;
-      full = λ u less. ⊎_elim
-          (λ same. get_or-set_at rows i u row 0 (same ∙ sym c.from.ensures) inside)
-          (λ other. get_or-set_other rows i u row 0 (λ e. other (e ∙ c.from.ensures)) ∙ h.full u (omega (arith, less, other)))
-          (cases_eq u c.loop-u.u);
+      full = set_more (λ _ x. x ≡ row) rows c.loop-u.u i 0 row (omega (arith, inside, c.from.ensures)) c.from.ensures h.full refl;
       past = λ u more. get_or-set_other rows i u row 0 (λ e. omega (arith, more, e, c.from.ensures)) ∙ h.past u (omega (arith, more));
     }
 

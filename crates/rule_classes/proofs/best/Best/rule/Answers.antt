@@ -7,7 +7,8 @@ use Rattle.rule_classes.proofs.laws.Colourings.{IsRule-in_colours}
 use Rattle.rule_classes.proofs.best.Best.rule.Goals as goal
 
 -- parts that are those of the recoloured rule make that rule
-parts : {r : LocalRule} (c : Colouring) (k m size : ℕ) (entries : List ℕ) → IsRule r → IsColouring r.states c → k ≡ r.states → m ≡ r.width → size ≡ r.states ^ r.width → entries ≡ padded (in_colours r c).table
+parts : {r : LocalRule} (c : Colouring) (k m size : ℕ) (entries : List ℕ) → IsRule r → IsColouring r.states c → k ≡ r.states → m ≡ r.width
+    → size ≡ r.states ^ r.width → entries ≡ padded (in_colours r c).table
     → record { states = k; width = m; offset = pos 0; table = take size entries } ≡ in_colours r c
 parts {r} c k m size entries rule colouring states width long same =
     rule_from_parts states width refl

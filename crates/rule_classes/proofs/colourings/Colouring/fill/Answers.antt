@@ -1,4 +1,4 @@
-use Rattle.std.proofs.Common.{◌≡◌, ℕ, ◌*◌, ◌^◌, ◌<◌, ◌≤◌, List, slice_index, sym, ap, ◌∙◌, subst, ⊎_elim, arith, mul-le-mul_left}
+use Rattle.std.proofs.Common.{◌≡◌, ℕ, ◌*◌, ◌^◌, ◌<◌, ◌≤◌, List, slice_index, ap, ◌∙◌, ⊎_elim, arith, mul-le-mul_left}
 use Rattle.word_image.proofs.Common.{one-le-pow, cases_eq, LocalRule, IsRule, node_count, some_letter, windows-nodes}
 use Rattle.rule_classes.specs.Colourings.{IsColouring, old_value}
 use Rattle.rule_classes.specs.Tables.{AreFilled}
@@ -8,7 +8,8 @@ use Rattle.rule_classes.proofs.laws.Tables.{AreFilled-all}
 use Rattle.rule_classes.proofs.colourings.Colouring.fill.Goals as goal
 
 -- the window of the node itself is filled
-node_filled : {r : LocalRule} {c : Colouring} {windows entries : List ℕ} (u : ℕ) {i : ℕ} → IsRule r → IsColouring r.states c → u < node_count r → AreFilled r c (u * r.states) windows entries → i ≡ u
+node_filled : {r : LocalRule} {c : Colouring} {windows entries : List ℕ} (u : ℕ) {i : ℕ} → IsRule r → IsColouring r.states c → u < node_count r
+    → AreFilled r c (u * r.states) windows entries → i ≡ u
     → (slice_index windows i ≡ old_value r c u) × (slice_index windows i < r.states ^ r.width)
 node_filled {r} {c} {windows} u rule colouring node h same =
     let grows : u * 2 ≤ u * r.states = mul-le-mul_left u rule.shape.least_states in
@@ -26,8 +27,4 @@ fill_row-requires-clause-row c =
     IsRow-made c.loop-node.node c.row-row.result c.requires.rule c.requires.colouring (omega arith) (node_filled c.loop-node.node c.requires.rule c.requires.colouring (omega arith) c.loop-node.invariant c.from.ensures).0 c.row-row.ensures
 
 pub returns : goal.returns
-returns c =
-    let r = c.args.rule.now in
-    let last : c.loop-node.node ≡ node_count r = omega arith in
-    let all = ap (λ n. n * r.states) last ∙ sym (windows-nodes c.requires.rule) in
-    AreFilled-all c.requires.rule (subst (λ n. AreFilled r c.args.self.now n c.loop-node.windows c.loop-node.entries) all c.loop-node.invariant)
+returns c = grind (arith, windows-nodes, AreFilled-all)

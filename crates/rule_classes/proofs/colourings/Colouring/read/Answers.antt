@@ -8,23 +8,17 @@ use Rattle.rule_classes.proofs.laws.Readings.{old_value-below, entry-read, windo
 use Rattle.rule_classes.proofs.colourings.Colouring.read.Goals as goal
 
 -- what the row has at a letter is the value of a window
-value_at : {r : LocalRule} {c : Colouring} {row : Row} (u a : ℕ) {i : ℕ} → IsRule r → IsColouring r.states c → u < node_count r → IsRow r c u row → a < r.states → i ≡ a
+value_at : {r : LocalRule} {c : Colouring} {row : Row} (u a : ℕ) {i : ℕ} → IsRule r → IsColouring r.states c → u < node_count r → IsRow r c u row
+    → a < r.states → i ≡ a
     → (row.start + slice_index c.letters i * row.step ≡ old_value r c (u * r.states + a)) × (old_value r c (u * r.states + a) < r.states ^ r.width)
 value_at {r} {c} {row} u a rule colouring node is letter same =
     (ap (λ j. row.start + slice_index c.letters j * row.step) same ∙ is.values a letter, old_value-below r c (u * r.states + a) colouring (window-below rule u a node letter))
 
 pub window-old-requires : goal.window-old-requires
-window-old-requires c =
-    let r = c.args.rule.now in
-    let (u, node, row) = c.requires.row in
-    let at = value_at u c.args.letter c.requires.rule c.requires.colouring node row c.requires.letter c.from.ensures in
-    omega (arith, at.0, at.1, window_count-le r.states r.width r.offset c.requires.rule.shape)
+window-old-requires c = grind (arith, value_at, window_count-le)
 
 pub at-given-requires : goal.at-given-requires
-at-given-requires c =
-    let (u, node, row) = c.requires.row in
-    let at = value_at u c.args.letter c.requires.rule c.requires.colouring node row c.requires.letter c.from.ensures in
-    omega (arith, at.0, at.1, c.window-old.ensures, c.from-2.ensures)
+at-given-requires c = grind (arith, value_at)
 
 pub returns-clause-old : goal.returns-clause-old
 returns-clause-old c u node row = c.window-old.ensures ∙ (value_at u c.args.letter c.requires.rule c.requires.colouring node row c.requires.letter c.from.ensures).0

@@ -1,12 +1,8 @@
-use Rattle.std.proofs.Common.{false, ◌↔◌, IsTrue}
-use Rattle.word_image.proofs.Common.{false≢true}
+use Rattle.std.proofs.Common.{false}
 use Rattle.garden_laws.proofs.Preinjective.{IsSurjective-injective, IsSurjective-right_closing, IsSurjective-left_closing}
 use Rattle.cert_conditions.proofs.Common.{both_true}
+use Rattle.rule_verdicts.proofs.laws.Means.{no}
 use Rattle.rule_verdicts.proofs.truths.Truths.not_surjective.Goals as goal
-
--- a no is true of what doesn't hold
-no : {P : Type 0} → ¬ P → IsTrue false ↔ P
-no none = ((λ t. absurd (false≢true t)), (λ p. absurd (none p)))
 
 pub returns : goal.returns
 returns c r rule lacks keep =

@@ -1,6 +1,4 @@
-use Rattle.std.proofs.Common.{ap, ap₂, ◌∙◌, arith, length-take-le}
-use Rattle.word_image.proofs.Common.{ints, local_map}
-use Rattle.tail_config.specs.Tails.{cells}
+use Rattle.std.proofs.Common.{rules}
 use Rattle.tail_config.specs.TailValues.{IsAcceptedTail}
 use Rattle.tail_config.proofs.laws.Runs.{IsWord-run}
 use Rattle.tail_config.proofs.laws.Cells.{cell-below}
@@ -12,6 +10,4 @@ apply-requires-clause-word c =
     rw (c.requires.one_k, c.write_cells.ensures) (IsWord-run (cell-below accepted.short.tail) _ _)
 
 pub returns-clause-cell : goal.returns-clause-cell
-returns-clause-cell c =
-    let window = ap₂ (cells c.args.self.now.config) (omega (arith, ints)) (grind (arith, length-take-le)) in
-    c.apply.ensures.value ∙ ap (local_map c.args.rule.now) (c.write_cells.ensures ∙ window)
+returns-clause-cell c = search rules

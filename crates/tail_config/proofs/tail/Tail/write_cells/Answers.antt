@@ -7,8 +7,7 @@ use Rattle.tail_config.proofs.tail.Tail.write_cells.Goals as goal
 pub returns : goal.returns
 returns c =
     let t = c.args.self.now.config in
-    let passed = to_z-of_z w64 c.args.start c.ranges.start in
-    run-by_letters (cell t) c.args.start (length c.loop-j.row) c.loop-j.row refl (λ a l. rw passed at (c.loop-j.invariant a (omega arith))) ∙ ap (cells t c.args.start) c.loop-j.auto.row
+    run-by_letters (cell t) c.args.start (length c.loop-j.row) c.loop-j.row refl (λ a l. rw (to_z-of_z w64 c.args.start c.ranges.start) at (c.loop-j.invariant a (omega arith))) ∙ ap (cells t c.args.start) c.loop-j.auto.row
 
 pub loop-j-preserved : goal.loop-j-preserved
 loop-j-preserved c a l = grind (rules, c.loop-j.invariant)

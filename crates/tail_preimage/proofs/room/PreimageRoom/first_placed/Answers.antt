@@ -18,7 +18,8 @@ use Rattle.tail_preimage.proofs.room.PreimageRoom.first_placed.Goals as goal
 use Rattle.tail_preimage.proofs.room.PreimageRoom.first_placed.Goals.{After-left, After-least_node-start}
 
 -- the nodes with a loop of right periods
-loop_nodes : {r : LocalRule} {t : TailConfig} {parts : PartRelations} {set : ℕ} → AreTailParts r t parts → (on : ℕ) → IsNodeSet r (λ u. Steps (HasBit parts.right.period) on u u) set → IsNodeSet r (λ u. HasWalk r (repeat on t.right) u u) set
+loop_nodes : {r : LocalRule} {t : TailConfig} {parts : PartRelations} {set : ℕ} → AreTailParts r t parts → (on : ℕ)
+    → IsNodeSet r (λ u. Steps (HasBit parts.right.period) on u u) set → IsNodeSet r (λ u. HasWalk r (repeat on t.right) u u) set
 loop_nodes h on = IsSetOf-same (λ u. Steps-repeat h.rule h.right on u u)
 
 -- the configuration is one over the letters of the rule
@@ -26,7 +27,8 @@ is_tail : (c : After-left) → IsTail c.args.graph.now.states c.args.tail.now.co
 is_tail c = rw c.requires.one_k c.left.ensures.tail.short.tail
 
 -- three walks of the shape lead from the node at which the middle begins
-start : (c : After-least_node-start) → (w : ℕ) × (x : List ℕ) × (y : List ℕ) × (z : List ℕ) × AreLoopWalks c.args.graph.now c.args.tail.now.config (shape_of c.args.spans) c.least_node-start.result w x y z
+start : (c : After-least_node-start)
+    → (w : ℕ) × (x : List ℕ) × (y : List ℕ) × (z : List ℕ) × AreLoopWalks c.args.graph.now c.args.tail.now.config (shape_of c.args.spans) c.least_node-start.result w x y z
 start c =
     let found = c.least_node-start.ensures.holds in
     let below = IsBitSet-below (node_count c.args.graph.now) c.starts.result c.least_node-start.result c.starts.ensures.within found in
@@ -45,8 +47,7 @@ least_walk-end-requires-clause-word c = rw c.set_stretch.ensures.word (IsWord-st
 pub least_walk-end-requires-clause-reach : goal.least_walk-end-requires-clause-reach
 least_walk-end-requires-clause-reach c =
     let (w, x, y, z, walks) = start (goal.at.least_walk-end-requires-clause-reach c).After-least_node-start in
-    let loops = loop_nodes c.requires.parts c.args.spans.on c.loops-turns.ensures in
-    (w, (loops.nodes w (IsWalk-last walks.middle)).1 (z, walks.right), rw c.set_stretch.ensures.word (y, walks.middle))
+    (w, ((loop_nodes c.requires.parts c.args.spans.on c.loops-turns.ensures).nodes w (IsWalk-last walks.middle)).1 (z, walks.right), rw c.set_stretch.ensures.word (y, walks.middle))
 
 pub first_loop-requires-2-clause-word : goal.first_loop-requires-2-clause-word
 first_loop-requires-2-clause-word c = rw c.right.ensures.right (is_tail (goal.at.first_loop-requires-2-clause-word c).After-left).right_word
@@ -57,8 +58,7 @@ first_loop-requires-2-clause-node c = IsWalk-last c.least_walk-end.ensures.walk.
 pub first_loop-requires-2-clause-turn : goal.first_loop-requires-2-clause-turn
 first_loop-requires-2-clause-turn c =
     let found = c.least_walk-end.ensures.walk in
-    let loops = loop_nodes c.requires.parts c.args.spans.on c.loops-turns.ensures in
-    rw c.right.ensures.right ((loops.nodes c.least_walk-end.result (IsWalk-last found.walk)).0 found.within)
+    rw c.right.ensures.right (((loop_nodes c.requires.parts c.args.spans.on c.loops-turns.ensures).nodes c.least_walk-end.result (IsWalk-last found.walk)).0 found.within)
 
 pub returns : goal.returns
 returns c =
@@ -82,5 +82,4 @@ returns c =
     } in
     let first = IsFrom-first h.rule (is_tail (goal.at.returns c).After-left) c.requires.shape.small (λ v n q a b d other.
     c.requires.shape.least v (record { back_some = other.back_some; on_some = other.on_some; node = n; below = IsWalk-first other.left; starts = walks-Starts h other })) walks in
-    let place = to_z-of_z w64 c.place_of.result (search rules) ∙ c.place_of.ensures in
-    rw (place, c.without_node.ensures, c.without_node-2.ensures, c.without_node-3.ensures, c.deref.ensures.value, c.deref-2.ensures.value, c.deref-3.ensures.value) first
+    rw ((to_z-of_z w64 c.place_of.result (search rules) ∙ c.place_of.ensures), c.without_node.ensures, c.without_node-2.ensures, c.without_node-3.ensures, c.deref.ensures.value, c.deref-2.ensures.value, c.deref-3.ensures.value) first

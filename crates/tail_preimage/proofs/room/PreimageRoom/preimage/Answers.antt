@@ -1,4 +1,4 @@
-use Rattle.std.proofs.Common.{refl, ◌∙◌}
+use Rattle.std.proofs.Common.{refl, arith}
 use Rattle.tail_config.proofs.Common.{IsTail}
 use Rattle.tail_preimage.specs.Preimages.{IsGap, IsFrom}
 use Rattle.tail_preimage.specs.Answers.{placed_config, placed_of_lent}
@@ -11,9 +11,9 @@ pub returns-in-Some : goal.returns-in-Some
 returns-in-Some c =
     let r = c.args.rule.now in
     let t = c.args.tail.now.config in
-    let tail : IsTail c.of-graph.result.states t = rw c.of-graph.ensures (rw c.requires c.parts_of-parts.ensures.tail.short.tail) in
+    let tail : IsTail c.of-graph.result.states t = grind arith in
     let first = rw c.of-graph.ensures at (IsGap-first tail c.parts_of-parts.ensures.parts c.in-Some.left c.in-Some.right c.in-Some.ensures) in
-    let gap : IsGap r t c.from.result c.from-in-Some.result c.word.result.now = rw (c.word.ensures ∙ c.set_stretch.ensures.word) (rw c.from.ensures (rw c.from-in-Some.ensures first)) in
+    let gap : IsGap r t c.from.result c.from-in-Some.result c.word.result.now = grind arith in
     let pre = Gap c.from.result c.from-in-Some.result c.word.result.now in
     record {
       answer = gap;

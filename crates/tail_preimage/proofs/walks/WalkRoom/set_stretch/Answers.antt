@@ -1,5 +1,5 @@
 use Rattle.std.proofs.Common.{◌≡◌, ◌≤◌, ◌++◌, List, ℕ, length, ap, ap₂, ◌∙◌, arith, length-append}
-use Rattle.word_image.proofs.Common.{repeat, mul-le}
+use Rattle.word_image.proofs.Common.{repeat}
 use Rattle.tail_preimage.proofs.laws.Lengths.{length-repeat-most, length-stretch-most}
 use Rattle.tail_preimage.proofs.walks.WalkRoom.set_stretch.Goals as goal
 use Rattle.tail_preimage.proofs.walks.WalkRoom.set_stretch.Goals.{After-middle}
@@ -13,33 +13,16 @@ length-lefts : (c : After-middle) → length c.append_copies.new.word.items ≤ 
 length-lefts c = omega (arith, ap length (lefts c), length-repeat-most c.args.left c.args.tail.now.config.left c.requires.left c.middle.ensures.tail.short.left)
 
 pub append-requires : goal.append-requires
-append-requires c =
-    omega (arith, length-lefts (goal.at.append-requires c).After-middle, ap length c.middle.ensures.middle, c.middle.ensures.tail.short.middle, c.self.invariant.1, c.clear.ensures.capacity, c.append_copies.ensures.capacity)
+append-requires c = grind (arith, length-lefts)
 
 pub append_copies-requires-2 : goal.append_copies-requires-2
-append_copies-requires-2 c =
-    let first = c.append_copies.new.word.items in
-    let short = c.right.ensures.tail.short in
-    omega (
-      arith,
-      length-lefts (goal.at.append_copies-requires-2 c).After-middle,
-      ap length c.append.ensures.word,
-      length-append first c.middle.result.now,
-      ap length c.middle.ensures.middle,
-      short.middle,
-      mul-le c.args.right (length c.right.result.now) 16 1024 c.requires.right (omega (arith, ap length c.right.ensures.right, short.right)),
-      c.self.invariant.1,
-      c.clear.ensures.capacity,
-      c.append_copies.ensures.capacity,
-      c.append.ensures.capacity,
-    )
+append_copies-requires-2 c = grind (arith, length-lefts, length-append)
 
 pub invariant_of-self : goal.invariant_of-self
 invariant_of-self c =
-    let t = c.args.tail.now.config in
     let word = c.append_copies-2.ensures.word
     ∙ ap₂ (λ (w p : List ℕ). w ++ repeat c.args.right p) (c.append.ensures.word ∙ ap₂ (λ (a b : List ℕ). a ++ b) (lefts (goal.at.invariant_of-self c).After-middle) c.middle.ensures.middle) c.right.ensures.right in (
       omega (arith, ap length word, length-stretch-most c.right.ensures.tail.short c.args.left c.args.right c.requires.left c.requires.right),
-      omega (arith, c.self.invariant.1, c.clear.ensures.capacity, c.append_copies.ensures.capacity, c.append.ensures.capacity, c.append_copies-2.ensures.capacity),
+      omega arith,
       c.self.invariant.2,
     )

@@ -1,4 +1,4 @@
-use Rattle.std.proofs.Common.{sym, arith}
+use Rattle.std.proofs.Common.{arith}
 use Rattle.word_image.proofs.laws.WindowParts.{node_letter-digit, power-below}
 use Rattle.word_image.proofs.local_rule.Rule.node_letter.Goals as goal
 
@@ -10,6 +10,5 @@ nonzero_div-result c = rw (c.pow.ensures, c.k.ensures.states) (power-below c.k.e
 
 pub returns : goal.returns
 returns c = record {
-  letter = rw (c.pow.ensures, c.k.ensures.states, c.k-2.ensures.states)
-      (sym (node_letter-digit c.args.self.now c.args.node c.args.place c.from.result c.requires.node (omega arith)));
+  letter = grind (arith, node_letter-digit);
 }

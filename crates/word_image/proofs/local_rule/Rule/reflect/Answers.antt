@@ -8,7 +8,8 @@ use Rattle.word_image.proofs.local_rule.Rule.reflect.Goals as goal
 
 -- what is given on the windows read backwards makes the mirrored rule
 by_backwards : {r : LocalRule} {k m : ℕ} {o : ℤ} {gives : ℕ → ℕ → Type 0} → IsRule r → k ≡ r.states → m ≡ r.width → o ≡ (mirrored r).offset
-    → ((v a : ℕ) → v < r.states ^ r.width → gives v a → a ≡ slice_index r.table (value k (reverse (word_of k m v)))) → IsRuleBy k m (to_z w8 (of_z w8 o)) gives (mirrored r)
+    → ((v a : ℕ) → v < r.states ^ r.width → gives v a → a ≡ slice_index r.table (value k (reverse (word_of k m v))))
+    → IsRuleBy k m (to_z w8 (of_z w8 o)) gives (mirrored r)
 by_backwards {r} rule states width offset given =
     IsRuleBy-map (λ v. local_map r (reverse (word_of r.states r.width v))) (IsRule-mirrored rule) states width offset refl
     (λ v a l h. given v a l h ∙ ap₂ (λ (k m : ℕ). slice_index r.table (value k (reverse (word_of k m v)))) states width)

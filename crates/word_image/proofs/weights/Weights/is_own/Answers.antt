@@ -1,17 +1,11 @@
-use Rattle.std.proofs.Common.{◌≡◌, length, map-id, slice_index, refl, ap, ◌∙◌, arith}
+use Rattle.std.proofs.Common.{◌≡◌, length, map-id, refl, ◌∙◌, arith}
 use Rattle.word_image.proofs.Common.{range_with_len, fill_by_all}
 use Rattle.word_image.specs.Weights.{own_weights}
 use Rattle.word_image.proofs.laws.Weights.{own_weights-letter}
 use Rattle.word_image.proofs.weights.Weights.is_own.Goals as goal
 
 pub returns-then-at-letter : goal.returns-then-at-letter
-returns-then-at-letter c =
-    let w = c.args.self.now in
-    let a = c.loop-letter.letter in (
-      λ t. absurd (cc),
-      λ own.
-          absurd (omega (arith, ap (λ ws. slice_index ws a) own ∙ own_weights-letter (length w) a (omega arith))),
-    )
+returns-then-at-letter c = grind (arith, own_weights-letter)
 
 pub returns : goal.returns
 returns c =

@@ -1,4 +1,4 @@
-use Rattle.std.proofs.Common.{◌≡◌, ℕ, ◌-◌, List, length, take, drop, map, map-id, set, replicate, refl, ap, ◌∙◌, arith}
+use Rattle.std.proofs.Common.{◌≡◌, ℕ, ◌-◌, List, length, take, drop, map, map-id, replicate, ap, ◌∙◌, arith}
 use Rattle.word_image.proofs.Common.{range_with_len, length-range_with_len}
 use Rattle.word_image.specs.Storage.{in_row}
 use Rattle.word_image.specs.Weights.{own_weights}
@@ -6,17 +6,12 @@ use Rattle.word_image.proofs.Storage.{take-in_row, drop-in_row, in_row-more}
 use Rattle.word_image.proofs.weights.Weights.own.Goals as goal
 
 pub loop-letter-preserved : goal.loop-letter-preserved
-loop-letter-preserved c =
-    let a = c.loop-letter.letter in
-    rw c.from.ensures (ap (λ row. set row a a) c.loop-letter.invariant ∙ in_row-more 16 (λ b. b) a a (omega arith) refl)
+loop-letter-preserved c = grind (arith, in_row-more)
 
 -- in the end the own weights of all letters stand
 all_letters : (k n : ℕ) (numbers : List ℕ) → n ≡ k → numbers ≡ in_row 16 (map (λ b. b) (range_with_len 0 n))
     → (take k numbers ≡ own_weights k) × (drop k numbers ≡ replicate (16 - k) 0)
-all_letters k n numbers all same =
-    let whole : numbers ≡ in_row 16 (own_weights k) = same ∙ ap (λ j. in_row 16 (map (λ b. b) (range_with_len 0 j))) all ∙ ap (in_row 16) (map-id (own_weights k)) in
-    let long = length-range_with_len 0 k in
-    (ap (take k) whole ∙ take-in_row 16 k (own_weights k) long, ap (drop k) whole ∙ drop-in_row 16 k (own_weights k) long)
+all_letters k n numbers all same = grind (arith, map-id, length-range_with_len, take-in_row, drop-in_row)
 
 pub invariant_of-result : goal.invariant_of-result
 invariant_of-result c =
