@@ -28,12 +28,9 @@
 //! written, so none of these words is missed. Hence a configuration that agrees with an image at l places can be
 //! followed to the right for ever, and with a left look-ahead to the left.
 //!
-//! Conversely, suppose that an open rule has a right split. Then as many configurations as you like have the same
-//! image, but under a surjective rule (an open rule is surjective) at most k^(m - 1) of them do. Suppose that n + 1
-//! configurations with the same image differ from each other near place 0. Follow the first of them up to a place far to
-//! the right, and from there on follow one or the other half of the split. This gives two configurations with the same
-//! image. Near place 0 it is the image of the n + 1 configurations. Since the map is open, it is also the image of a
-//! configuration near each of the n others. These n + 2 configurations differ from each other.
+//! Conversely, suppose that an open rule has a right split. Take several configurations with the same image, and follow
+//! one of them far to the right, and then each half of the split. Since the map is open, this gives one more with a
+//! common image, and so on. But an open rule is surjective, so at most k^(m - 1) configurations have the same image.
 //!
 //! An injective rule is open, so it maps the configurations one-to-one onto all configurations, and the rings of each
 //! length, too. It has an inverse map. The composition of two rules is surjective, injective, closing on a side or

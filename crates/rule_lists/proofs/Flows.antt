@@ -1,5 +1,5 @@
 -- What a flux says of the levels of trees.
-use Rattle.std.proofs.Common.{◌≡◌, ◌≢◌, ℕ, ◌+◌, ◌*◌, ◌/◌, ◌%◌, ◌^◌, ◌<◌, ◌≤◌, ◌⊎◌, inl, inr, ⊎_elim, List, slice_index, slice_index_or, ℤ, pos, ◌-ℤ◌, sym, ap₂, ◌∙◌, subst, arith}
+use Rattle.std.proofs.Common.{◌≡◌, ◌≢◌, ℕ, ◌+◌, ◌/◌, ◌%◌, ◌^◌, ◌<◌, ◌≤◌, ◌⊎◌, inl, inr, ⊎_elim, List, slice_index, slice_index_or, ℤ, pos, ◌-ℤ◌, sym, ap₂, ◌∙◌, subst, arith}
 use Rattle.word_image.proofs.Common.{ints, LocalRule, IsRule, node_count, IsFlux, IsConserving, end_node-below}
 use Rattle.word_image.specs.declared.side.Side.TheVariants.{Right, Left}
 use Rattle.ring_laws.proofs.FluxWindows.{FlowsAt-flux}
@@ -8,7 +8,7 @@ use Rattle.ring_laws.proofs.LossyRings.{IsConserving-walk_gains}
 use Rattle.rule_lists.specs.Completions.{IsCompletion}
 use Rattle.rule_lists.specs.Bars.{Bars}
 use Rattle.rule_lists.specs.declared.properties.Property.TheVariants.{Conserving}
-use Rattle.rule_lists.specs.Forests.{AreLevels, AreKnown, AreUpTo, GainsWith, IsMoved}
+use Rattle.rule_lists.specs.Forests.{AreLevels, AreKnown, GainsWith, IsMoved}
 use Rattle.rule_lists.proofs.Sure.{is_shaped, IsRule-shaped}
 
 -- a window gains with the letter of a rule what each flux of the rule says
@@ -65,9 +65,3 @@ AreLevels-joined n trees levels trees' levels' phi first last letter begins kept
     (λ a. ⊎_elim (λ b. omega (arith, ints, a.1, b.1)) (λ b. absurd (b.0 (sym b.1 ∙ sym same ∙ a.0))) (node v hv))
     (λ a. ⊎_elim (λ b. absurd (a.0 (sym a.1 ∙ same ∙ b.0))) (λ b. let e = old u v hu hv (sym a.1 ∙ same ∙ b.1) in omega (arith, ints, e, a.2, b.2)) (node v hv))
     (node u hu)
-
--- levels that rise by no more than the limit
-pub AreUpTo-joined : (levels trees' trees levels' : List ℕ) (kept rise gone other w : ℕ) → rise ≤ 1048576 → other ≤ 1048576
-    → ((v : ℕ) → v < 16 → IsMoved kept rise gone other (slice_index trees v) (slice_index levels v) (slice_index trees' v) (slice_index levels' v))
-    → AreUpTo (w * 1048576) levels → AreUpTo ((w + 1) * 1048576) levels'
-AreUpTo-joined levels trees' trees levels' kept rise gone other w small less each old v l = omega arith

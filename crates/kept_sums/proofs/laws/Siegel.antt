@@ -81,10 +81,6 @@ gain-code h t w v one two x y short same =
 code-below : (g h t one other : ℕ) → (1 ≤ g → one ≤ h * t) → pick g 0 (one + (h * t - other)) < 2 * h * pick g 0 t + 1
 code-below g h t one other most = grind (arith, nat_tests)
 
--- a code's base is at most that of a number times 2 h
-base-le : (g h t : ℕ) → 1 ≤ h → 2 * h * pick g 0 t + 1 ≤ pick g 1 (2 * h) * (pick g 0 t + 1)
-base-le g h t some = grind (arith, nat_tests)
-
 -- the numbers that stand at a place are at most t
 pick-most : (g t : ℕ) → pick g 0 t ≤ t
 pick-most g t = grind (arith, nat_tests)

@@ -22,10 +22,6 @@ unit_or_zero units i = grind arith
 off : {first size : ℕ} {rows : List (List ℤ)} → AreUnits first size rows → (i a : ℕ) → a ≢ i → entry rows i a ≡ pos 0
 off units i a other = ⊎_elim (λ one. one.2.others a other) (λ none. none a) (unit_or_zero units i)
 
--- the entries of unit rows are small
-small_at : {first size : ℕ} {rows : List (List ℤ)} → AreUnits first size rows → (i a : ℕ) → unsigned_abs (entry rows i a) ≤ 2 ^ 56
-small_at {rows = rows} units i a = grind arith
-
 -- each normal weight is the sum of unit rows, each as often as the weight says
 spanned : {first size : ℕ} {rows : List (List ℤ)} → size ≤ 16 → AreUnits first size rows → (weight : ℕ → ℤ) → ((a : ℕ) → a < first → weight a ≡ pos 0)
     → IsSpanned size rows weight
