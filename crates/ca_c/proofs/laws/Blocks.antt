@@ -1,8 +1,7 @@
 -- How a block is cut into its words, which it has in one way.
-use Rattle.std.proofs.Common.{◌≡◌, ◌≢◌, ℕ, suc, ◌+◌, ◌-◌, ◌<◌, ◌≤◌, List, [], ◌∷◌, ◌++◌, length, take, drop, get_or, All, None, Some, refl, sym, ap, ap₂, subst, ◌∙◌, arith, append_assoc, append-nil, take-append-drop, drop-cons, eqb-true, true, false, true≢false, inl, inr, ◌==◌, nat_lt, cond, position, IsUtf8}
-use Rattle.std.proofs.lemmas.List.Quantifiers.{position-Some}
-use Rattle.word_image.proofs.Common.{position_or_len, eqb-false, leb_tells, none-some, All-nil, All-cons, All-head, All-tail, All-from_get_or, fails_before_first}
-use Rattle.std.proofs.lemmas.List.{get_or-take, length-take-le, length-drop, take_all}
+use Rattle.std.proofs.Common.{◌≡◌, ◌≢◌, ℕ, ◌+◌, ◌-◌, List, [], ◌∷◌, ◌++◌, length, take, drop, All, refl, sym, ap, ap₂, subst, ◌∙◌, arith, append_assoc, append-nil, eqb-true, true, false, true≢false, ◌==◌, IsUtf8}
+use Rattle.word_image.proofs.Common.{All-nil, All-cons, All-head, All-tail}
+use Rattle.std.proofs.lemmas.List.{length-drop, take_all}
 use Rattle.ca_commands.proofs.laws.FirstBytes.{IsFirstByte}
 use Rattle.ca_c.specs.Blocks.{block_of, IsWordText, AreWords}
 

@@ -1,5 +1,5 @@
 -- The rule of a line has the property: it is the listed one at another offset.
-use Rattle.std.proofs.Common.{◌≡◌, ℕ, ◌-◌, ◌^◌, List, ℤ, pos, ◌+ℤ◌, ◌≤ℤ◌, refl, subst, arith}
+use Rattle.std.proofs.Common.{◌≡◌, ℕ, ◌-◌, ◌^◌, List, ℤ, pos, ◌+ℤ◌, ◌≤ℤ◌, refl, arith}
 use Rattle.word_image.specs.LocalRules.{least_place, greatest_place}
 use Rattle.word_image.proofs.Common.{ints, LocalRule, IsRule, IsShape-offset, rule_from_parts}
 use Rattle.rule_lists.specs.Listed.{IsListed, at_offset}

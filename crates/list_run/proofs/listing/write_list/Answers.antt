@@ -1,6 +1,5 @@
-use Rattle.std.proofs.Common.{◌≡◌, ℕ, List, ◌++◌, inl, inr, subst, rules}
+use Rattle.std.proofs.Common.{◌≡◌, ◌++◌, inl, inr, rules}
 use Rattle.std.proofs.KnownBytes.{Appends-trans}
-use Rattle.std.specs.Io.KnownBytes.{Appends}
 use Rattle.list_run.specs.Lines.{count_line}
 use Rattle.list_run.proofs.laws.Lines.{cut_behind}
 use Rattle.list_run.proofs.listing.write_list.Goals as goal

@@ -1,5 +1,4 @@
-use Rattle.std.proofs.Common.{◌≡◌, ◌<◌, ℕ, List, Err, inl, inr, length, take, map, ap, subst, ⊎_elim, rules, string_bytes}
-use Rattle.std.specs.Io.KnownBytes.{Appends}
+use Rattle.std.proofs.Common.{◌≡◌, Err, inl, inr, map, ap, ⊎_elim, rules, string_bytes}
 use Rattle.list_run.specs.declared.cut.Cut.TheVariants as cut
 use Rattle.list_run.specs.declared.status.Status.TheVariants as status
 use Rattle.list_run.specs.Lines.{usage_line, fault_line}
