@@ -10,17 +10,31 @@ END
     return 1
 }
 
-# The crates that neither the program ca nor a library uses.
-apart=(answer_laws config_laws list_run preimage_laws public_calls rules worked_examples)
+# sources_of CRATE: sets `sources` to the folders with the sources of this crate and of all crates that it stands on, by crates.txt.
+# A crate of the kit has none here.
+sources_of() {
+    local name below part waiting=("$1")
+    local -A stands_on=() seen=()
+    while IFS=: read -r name below; do
+        [[ -z $name || $name == \#* ]] || stands_on[${name%% *}]=${below%%\#*}
+    done <"$top/crates.txt"
+    sources=()
+    while [ ${#waiting[@]} -gt 0 ]; do
+        name=${waiting[-1]}
+        unset 'waiting[-1]'
+        [ -z "${seen[$name]-}" ] || continue
+        seen[$name]=yes
+        for part in src specs proofs; do [ ! -d "$top/crates/$name/$part" ] || sources+=("$top/crates/$name/$part"); done
+        waiting+=(${stands_on[$name]-})
+    done
+}
 
-# is_current CRATE OTHER..: whether the crate was built, and no source has changed since that build began. Sources of the OTHER
-# crates don't count.
+# is_current CRATE: whether the crate was built, and neither crates.txt nor a source that concerns it has changed since that build
+# began.
 is_current() {
-    local stamp=$top/crates/$1/out/built others=() crate
-    shift
-    for crate; do others+=(-not -path "$top/crates/$crate/*"); done
-    [ -e "$stamp" ] && [ -z "$(find "$top"/crates.txt "$top"/crates/*/src "$top"/crates/*/specs \
-        "$top"/crates/*/proofs "${others[@]}" -newer "$stamp" -print -quit 2>&1)" ]
+    local stamp=$top/crates/$1/out/built sources
+    sources_of "$1"
+    [ -e "$stamp" ] && [ -z "$(find "$top/crates.txt" "${sources[@]}" -newer "$stamp" -print -quit 2>&1)" ]
 }
 
 # build CRATE COMMAND..: proves and builds the crate with this command in its folder, shows its progress, calls finish, and

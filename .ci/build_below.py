@@ -3,9 +3,10 @@
 rt proves the crates one after another, and a second command of rt in a checkout waits for the first. But rt accepts a built
 library in any checkout, because the stamp next to it is a checksum of its sources and of the sources below. So this script makes a
 few copies of the checkout, and builds each crate in one of them by `rt lib`, as soon as the crates that it uses are built. Of the
-crates that are ready, the one with the most lines on the way up from it comes first. What an earlier run left of a crate moves
-into the copy, and the result moves back here; its library is linked into the other copies. Standard error shows the progress and
-an estimate of the time that is left. However the script ends, it stops what it began and removes the copies.
+crates that are ready, the one with the longest way up from it comes first, by the seconds of .ci/seconds.txt. What an earlier
+run left of a crate moves into the copy, and the result moves back here; its library is linked into the other copies. Standard
+error shows the progress and an estimate of the time that is left. However the script ends, it stops what it began, removes the
+copies, and leaves the seconds that each crate took in out/seconds, from which `.ci/seconds --write` makes that table anew.
 """
 import os
 import re
@@ -17,6 +18,8 @@ import tempfile
 import time
 from pathlib import Path
 
+from seconds import crates_below, seconds_of
+
 # The most memory that a crate takes, and the most that each further job takes, in bytes.
 MOST_MEMORY = 3_400_000_000
 JOB_MEMORY = 900_000_000
@@ -26,35 +29,14 @@ top = here.parent.parent
 rt = [sys.executable, str(Path(__file__).with_name("kit.py"))]
 
 
-def crates_below(name):
-    """The crates below this one, each with those that it stands on, by crates.txt."""
-    stand_on = {}
-    for line in (top / "crates.txt").read_text().splitlines():
-        if found := re.match(r"(\w+)[^:#]*:([^#]*)", line):
-            stand_on[found[1]] = found[2].split()
-    below, left = {}, [name]
-    while left:
-        for other in stand_on[left.pop()]:
-            if other in stand_on and other not in below:
-                below[other] = [it for it in stand_on[other] if it in stand_on]
-                left.append(other)
-    return below
-
-
-def lines_of(name):
-    """How many lines the crate's files have, which tells how long it takes."""
-    files = [it for part in ["src", "specs", "proofs"] for it in (top / "crates" / name / part).rglob("*") if it.is_file()]
-    return sum(it.read_bytes().count(b"\n") for it in files)
-
-
-def longest_ways(below):
-    """The lines of each crate and of those on the longest way up from it."""
+def longest_ways(below, seconds):
+    """The seconds of each crate and of those on the longest way up from it."""
     above = {name: [it for it in below if name in below[it]] for name in below}
     ways = {}
 
     def way(name):
         if name not in ways:
-            ways[name] = lines_of(name) + max(map(way, above[name]), default=0)
+            ways[name] = seconds[name] + max(map(way, above[name]), default=0)
         return ways[name]
 
     return {name: way(name) for name in below}
@@ -97,7 +79,8 @@ class Builds:
     """The copies, and what is being built in them."""
 
     def __init__(self, room, below):
-        self.below, self.ways = below, longest_ways(below)
+        self.below, self.seconds, self.took = below, seconds_of(below), {}
+        self.ways = longest_ways(below, self.seconds)
         self.most, self.jobs = how_many()
         self.copies = [room / str(i) for i in range(self.most)]
         self.free = self.copies[:]
@@ -128,8 +111,9 @@ class Builds:
 
     def end_one(self):
         """Waits for one of them, and gives whether it was built."""
-        pid, status = os.wait()
+        pid, status, used = os.wait4(-1, 0)
         name, folder, _ = self.running.pop(pid)
+        self.took[name] = used.ru_utime + used.ru_stime
         move(name, folder, top)
         self.free.append(folder)
         if status:
@@ -152,12 +136,12 @@ class Builds:
         return True
 
     def seconds_left(self, seconds):
-        """How long the crates that aren't built will take, if their lines take as long as those of the built ones did in these
-        seconds: the crates on the longest way up one after the other, or all of them on as many processors as there are."""
-        built = sum(map(lines_of, self.built))
+        """How long the crates that aren't built will take, if this machine is as many times slower than the table as it was for
+        the built ones: the crates on the longest way up one after the other, or all of them on as many processors as there are."""
+        built = sum(map(self.seconds.get, self.built))
         left = [name for name in self.below if name not in self.built]
-        lines = max(sum(map(lines_of, left)) / self.most, max(map(self.ways.get, left)))
-        return seconds * self.most * lines / built
+        longest = max(sum(map(self.seconds.get, left)) / self.most, max(map(self.ways.get, left)))
+        return seconds * self.most * longest / built
 
     def tell(self):
         seconds = time.monotonic() - self.begun
@@ -171,6 +155,7 @@ class Builds:
         for pid, (name, folder, _) in self.running.items():
             os.waitpid(pid, 0)
             move(name, folder, top)
+        (here / "out/seconds").write_text("".join(f"{name} {used:.1f}\n" for name, used in self.took.items()))
 
 
 def main():

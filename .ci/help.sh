@@ -1,6 +1,12 @@
 # The help of ./ca, ./try and ./rules: how a command is called, and what a fault means. Each of them sets `me` to its name and
-# `top` to the checkout, and sources this.
-commands_page=$top/docs/COMMANDS.md
+# `top` to the checkout, and sources this. The installed ca and rules source it too. They also set `pages` to the folder of the
+# installed pages, `shown` to the name of this folder, and `before` to what stands before the names of the two commands: nothing.
+before=${before-./}
+pages=${pages-$top/docs}
+shown=${shown-docs}
+commands_page=$pages/COMMANDS.md
+# A line of the page about a command, as sed and grep read it.
+line_of="    ${before//./\\.}ca"
 
 # explains: whether a script explains faults: only at a terminal, unless CA_EXPLAIN is yes or no.
 explains() {
@@ -23,21 +29,22 @@ asks_help() {
 plain() { sed -E 's/\[([^]]*)\]\([^)]*\)/\1/g'; }
 
 # forms: a line for each command, how it is called and what it does.
-forms() { sed -n '/^## All forms$/,/^## R,/s/^    \.\/ca/&/p' "$commands_page"; }
+forms() { sed -n "/^## All forms\$/,/^## R,/s#^$line_of#&#p" "$commands_page"; }
 
 # form COMMAND: its line of these.
-form() { forms | sed -n "/^ *\.\/ca $1 /p"; }
+form() { forms | sed -n "\\#^$line_of $1 #p"; }
 
 # is_command WORD
 is_command() { [[ $1 =~ ^[a-z]+$ ]] && [ -n "$(form "$1")" ]; }
 
 # operands COMMAND: the operands after it, in [..] if they may be missing.
-operands() { form "$1" | sed -E 's/^ *\.\/ca [a-z]+ //; s/  .*//; s/<.*//'; }
+operands() { form "$1" | sed -E "s#^$line_of [a-z]+ ##; s/  .*//; s/<.*//"; }
 
 # may_be COMMAND OPERAND: what the operand may be.
 may_be() {
     case $2 in
-    R) echo "a rule: the number of an elementary rule, 0 to 255, or K:M:O:t and its table, such as 2:3:-1:t01110110" ;;
+    R) echo "a rule: the number of an elementary rule, 0 to 255, or K:M:O:t and its table, such as 2:3:-1:t01110110, or K:M:O:w and" \
+        "its number, such as 2:3:-1:w110" ;;
     '[WEIGHTS]') echo "one word: a weight from 0 to 255 for each letter, with one comma between, such as 0,1" ;;
     K) echo "the number of states, from 2 to 16" ;;
     M) if [ "$1" = widen ]; then echo "a width of one digit, from that of R to 5"; else echo "the width, from 2 to 5"; fi ;;
@@ -47,7 +54,7 @@ may_be() {
     N) echo "a number of cells of one or two digits, with a - before it for cells to the left" ;;
     DIGITS) echo "the new names of the letters 0, 1, .. in one word of 1 to 16 hexadecimal digits, such as 10" ;;
     'L|M|R') echo "one word in quotes with two bars, such as '0|1|0': left period, middle and right period, in hexadecimal digits" ;;
-    PROPERTY) echo "surjective, injective, right, left, open or conserving" ;;
+    PROPERTY) echo "surjective, injective (reversible), right, left, open or conserving" ;;
     BEGIN) echo "the beginning of a table: K:M:O:t and digits, as many as wanted, such as 2:3:-1:t" ;;
     esac
 }
@@ -80,25 +87,32 @@ fits() {
     esac
 }
 
-# no_command WORD: says that the word is no command, and what may be meant.
+# no_command WORD: says that the word is no command, and what may be meant. This comes last if all forms are shown, since these fill
+# a screen.
 no_command() {
-    local meant= word=${1,,}
+    local meant= word=${1,,} said
     case $1 in
-    -*) echo "there are no options, and \`$1\` is no command" ;;
-    *) echo "there is no command \`$1\`" ;;
+    -*) said="there are no options, and \`$1\` is no command" ;;
+    *) said="there is no command \`$1\`" ;;
     esac
     case $word in
-    rules | list | lists) echo "./rules PROPERTY BEGIN lists all rules of a shape" ;;
+    -v | --version | version)
+        echo "$said; the program has no version of its own, and CA_VERSION in ca.h is the version of its library's interface"
+        return
+        ;;
+    rules | list | lists) echo "${before}rules PROPERTY BEGIN lists all rules of a shape" ;;
+    image | picture | dot | page | site | kept | moved | degree | blocks | atlas) echo "python -m foursaspen $word is a command of the Python package ($shown/PYTHON.md)" ;;
     surjective | injective | bijective | reversible | invertible | open | closing | conserving | report) meant=decide ;;
     [0-9]*) meant=decide ;;
-    *[!a-z]* | ? | ??) ;;
-    *) meant=$(forms | sed -n "s/^ *\.\/ca \($word[a-z]*\) .*/\1/p" | sed -n 1p) ;;
+    '' | *[!a-z]* | ? | ??) ;;
+    *) meant=$(forms | sed -n "s#^$line_of \($word[a-z]*\) .*#\1#p" | sed -n 1p) ;;
     esac
     if [ -n "$meant" ]; then
-        echo "is it $meant?"
+        echo "$said; is it $meant?"
         form "$meant"
     else
         forms
+        echo "$said"
     fi
 }
 
@@ -111,8 +125,8 @@ usage_fault() {
     for one in ${all[@]+"${all[@]}"}; do [[ $one == \[* ]] || least=$((least + 1)); done
     if [ $# -lt "$least" ] || [ $# -gt ${#all[@]} ]; then
         [[ " $*" != *' --'* ]] || echo "there are no options"
-        echo "after $name comes ${all[*]:-no word}, and not ${*:-nothing}"
-        [ "$name" != check ] || echo "check reads standard input: ./ca check < FILE"
+        echo "after $name comes ${all[*]:-no word}, but here ${*:-nothing}"
+        [ "$name" != check ] || echo "check reads standard input: ${before}ca check < FILE"
         tell_operands "$name" "${all[*]-}"
         return 0
     fi
@@ -146,7 +160,8 @@ meaning() {
     'rule letter' | 'list letter') echo "each digit of the table must be less than K" ;;
     'rule number')
         echo "an elementary rule has a number from 0 to 255, another one a number less than K^(K^M)"
-        echo "digits without colons are a number; before a table comes K:M:O:t, for example 2:3:-1:t01110110" ;;
+        echo "digits without colons are the number of an elementary rule; K:M:O:w comes before another number, such as 2:4:-1:w6000," \
+            "and K:M:O:t before a table, such as 2:3:-1:t01110110 for rule 110: from 000 to 111, the reverse of Wolfram's row" ;;
     'shape number') echo "FROM + COUNT - 1, the last number, must be less than K^(K^M); that is 256 for K 2 and M 3" ;;
     'compose states' | 'same states') echo "both rules must have the same number of states" ;;
     'compose width') echo "the width of the result must be at most 5: it is the sum of both widths, minus 1" ;;
@@ -176,9 +191,9 @@ meaning() {
 # may_follow PREFIX: what may come after the beginning of a rule's text.
 may_follow() {
     local LC_ALL=C digits='a decimal digit'
-    if [[ $1 =~ ^[0-9]{1,2}$ ]]; then echo "$digits or :"
-    elif [[ $1 =~ ^[0-9]{39}$ ]]; then echo "nothing"
-    elif [[ $1 =~ ^[0-9]+$ ]]; then echo "$digits"
+    if [[ $1 =~ ^[0-9]{1,2}$ ]]; then echo "$digits, : or the end"
+    elif [[ $1 =~ ^[0-9]{39}$ ]]; then echo "only the end"
+    elif [[ $1 =~ ^[0-9]+$ ]]; then echo "$digits or the end"
     elif [[ $1 =~ ^[0-9]+:$ ]]; then echo "the width, $digits"
     elif [[ $1 =~ ^[0-9]+:[0-9]$ ]]; then echo "$digits or :"
     elif [[ $1 =~ ^[0-9]+:[0-9]{2}$ ]]; then echo ":"
@@ -187,8 +202,9 @@ may_follow() {
     elif [[ $1 =~ ^[0-9]+:[0-9]+:-?[0-9]$ ]]; then echo ": or $digits"
     elif [[ $1 =~ ^[0-9]+:[0-9]+:-?[0-9]{2}$ ]]; then echo ":"
     elif [[ $1 =~ ^[0-9]+:[0-9]+:-?[0-9]+:$ ]]; then echo "t and a table, or w and a number"
-    elif [[ $1 =~ :t[0-9a-fA-F]*$ ]]; then echo "a hexadecimal digit"
-    elif [[ $1 =~ :w[0-9]{39}$ ]]; then echo "nothing"
+    elif [[ $1 =~ :t[0-9a-fA-F]*$ ]]; then echo "a hexadecimal digit or the end"
+    elif [[ $1 =~ :w[0-9]{39}$ ]]; then echo "only the end"
+    elif [[ $1 =~ :w[0-9]+$ ]]; then echo "$digits or the end"
     else echo "$digits"; fi
 }
 
@@ -201,10 +217,11 @@ at_place() {
         case $next in
         '') next='it ends there' ;;
         [[:graph:]]) next="not \`$next\`" ;;
-        *) next='nothing else' ;;
+        ' ') next='not a blank' ;;
+        *) next='not what stands there' ;;
         esac
-        [ "$3" = 0 ] && echo "it begins with a decimal digit, and $next" && return
-        echo "after \`${1:0:$3}\` comes $(may_follow "${1:0:$3}"), and $next"
+        [ "$3" = 0 ] && echo "it must begin with a decimal digit, and $next" && return
+        echo "after \`${1:0:$3}\` may come $(may_follow "${1:0:$3}"), and $next"
         ;;
     letter) echo "its digit ${1:$3:1} after \`${1:0:$3}\` isn't" ;;
     length)
@@ -214,15 +231,31 @@ at_place() {
     esac
 }
 
-# explain OUTPUT WORD..: says what it means that the program's output for these words is this one, and how it is called. The
-# output of `check` is `refused` alone, whatever the reason.
+# refusal REASON: what must hold of a certificate that is refused for this reason, by the tables of CERTIFICATES.md; fails if they
+# don't have the reason. The letters behind a reason there stand for numbers.
+refusal() {
+    local LC_ALL=C row name
+    while IFS= read -r row; do
+        row=${row% |}
+        name=${row##* | \`}
+        name=${name%%\`*}
+        while [[ $name == *' '[A-Z] ]]; do name=${name% ?}; done
+        [[ "$1 " == "$name "* ]] || continue
+        row=${row% | *}
+        echo "what must hold: ${row##* | }" | plain
+        return
+    done < <(sed -n '/^| Step |/,/^## Why /{/^| .* | `/p}' "$pages/CERTIFICATES.md")
+    return 1
+}
+
+# explain OUTPUT WORD..: says what it means that the program's output for these words is this one, and how it is called.
 explain() {
     local output=$1 name=${2-} text place kind at
     shift
     case $output in
     'usage error')
         if [ "$me" = rules ]; then
-            usage_fault ./rules 'PROPERTY BEGIN' "$@"
+            usage_fault "${before}rules" 'PROPERTY BEGIN' "$@"
         elif is_command "$name"; then
             usage_fault "$name" "$(operands "$name")" "${@:2}"
         else
@@ -243,30 +276,51 @@ explain() {
             at_place "$text" "$kind" "$at"
         fi
         ;;
-    refused) echo "standard input must have a certificate that is accepted, such as ./ca certify R prints; docs/CERTIFICATES.md has the" \
-        "conditions, and which of them a refusal names" ;;
+    'refused '*)
+        refusal "${output#refused }" || :
+        case $output in
+        'refused format rule '*)
+            read -r kind at <<<"${output#refused format rule }"
+            meaning rule "$kind"
+            ;;
+        esac
+        echo "standard input must have a certificate that is accepted, such as ${before}ca certify R prints; $shown/CERTIFICATES.md has all" \
+            "conditions"
+        ;;
     'notfit '*)
         kind=${output#notfit }
         case $kind in twins* | wide*) kind=${kind%% *} ;; esac
         meaning "$name" "$kind"
         ;;
     esac
-    if [ "$me" = rules ]; then echo '    ./rules PROPERTY BEGIN'; else form "$name"; fi
+    if [ "$me" = rules ]; then echo "    ${before}rules PROPERTY BEGIN"; else form "$name"; fi
 }
 
 # named: writes lines to standard error, those that aren't indented behind the script's name.
 named() { sed "s/^[^ ]/$me: &/" >&2; }
 
 # explained PROGRAM WORD..: runs the program and gives its status. If somebody looks at standard error and the words are refused,
-# it says there what that means; the program then answers once more, in one line, so that its first output is its own.
+# it says there what that means; the program then answers once more, in one line, so that its first output is its own. Standard
+# input is read only once, so the answer of `check`, which is short, is kept and then written.
 explained() {
-    local status
+    local status answer=
     explains || exec "$@"
-    "$@"
-    status=$?
+    if [ "$me" = ca ] && [ "${2-}" = check ]; then
+        answer=$("$@")
+        status=$?
+        [ -z "$answer" ] || printf '%s\n' "$answer" 2>/dev/null || status=7
+    else
+        "$@"
+        status=$?
+    fi
     case $status in
-    1) explain refused "${@:2}" | named ;;
+    1) explain "$answer" "${@:2}" | named ;;
     [234]) explain "$("$@" 2>/dev/null </dev/null)" "${@:2}" | named ;;
+    5) echo "a certificate must have at most 4,194,304 bytes" | named ;;
+    6) echo "standard input couldn't be read" | named ;;
+    7) echo "the output couldn't be written" | named ;;
+    8) echo "there wasn't enough memory" | named ;;
+    9) echo "a word isn't in UTF-8, or the system didn't give the words" | named ;;
     esac
     return "$status"
 }
@@ -295,9 +349,10 @@ give_help() {
     if [ -n "$name" ]; then
         page "$name"
     else
-        echo "usage: ./ca COMMAND OPERANDS. R is a rule, for example 110"
+        echo "usage: ${before}ca COMMAND OPERANDS. R is a rule, for example 110"
         forms
-        echo "./ca help COMMAND says more of one; docs/COMMANDS.md has all."
+        echo "${before}ca help COMMAND says more of one; $shown/COMMANDS.md has all."
+        [[ ${1-} != help || ${2---help} == --help ]] || echo "there is no command \`$2\`"
     fi >&2
     if ! is_command "${1-}" || usage_fault "$1" "$(operands "$1")" "${@:2}" >/dev/null; then
         printf 'usage error\n' 2>/dev/null || exit 7
@@ -315,13 +370,13 @@ give_help() {
 # ends; if they ask for help, prints the beginning of docs/LISTS.md and ends.
 give_lists_help() {
     if asks_help "$@"; then
-        sed -n '/^## The order$/q; p' "$top/docs/LISTS.md" | plain || exit 70
+        sed -n '/^## The order$/q; p' "$pages/LISTS.md" | plain || exit 70
         exit 0
     fi
     [ $# = 0 ] || return 0
     {
-        echo 'usage: ./rules PROPERTY BEGIN; ./rules --help says more'
-        tell_operands ./rules 'PROPERTY BEGIN'
+        echo "usage: ${before}rules PROPERTY BEGIN; ${before}rules --help says more"
+        tell_operands "${before}rules" 'PROPERTY BEGIN'
     } >&2
     printf 'usage error\n' 2>/dev/null || exit 7
     exit 2

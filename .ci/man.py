@@ -1,21 +1,32 @@
-"""Prints ca.1, the page for man, made from docs/COMMANDS.md: `python3 .ci/man.py > ca.1`.
+"""Writes the pages that ./install installs: `python3 .ci/man.py PREFIX INTO`.
 
-It knows only the parts of Markdown that this page uses: headings, paragraphs, numbered lists, tables, blocks that are indented by
-four blanks, and in a line code and links.
+INTO is the folder that becomes PREFIX. It gets share/doc/ca, which has the pages of docs/ and their pictures, and share/man/man1 with
+a page for `man` of ca, made from docs/COMMANDS.md, and one of rules, made from docs/LISTS.md. The installed COMMANDS.md and LISTS.md
+speak of `ca` and `rules` and not of `./ca` and `./rules`. A link to a file that isn't installed becomes its words.
+
+For `man` it knows only the parts of Markdown that these two pages use: headings, paragraphs, numbered lists, lists with a dash,
+tables, blocks that are indented by four blanks, and in a line code and links.
 """
 import re
+import shutil
 import sys
 from pathlib import Path
 
-PAGE = Path(__file__).resolve().parent.parent / "docs" / "COMMANDS.md"
+DOCS = Path(__file__).resolve().parent.parent / "docs"
+# Of each program: the page that becomes its page for man, and what NAME says.
+PAGES = {"ca": ("COMMANDS.md", "decides what holds of one-dimensional cellular automata"),
+         "rules": ("LISTS.md", "lists the one-dimensional cellular automata that have a property")}
 
-HEAD = r""".\" Made from docs/COMMANDS.md by .ci/man.py.
-.TH CA 1
-.SH NAME
-ca \- decides what holds of one\-dimensional cellular automata
-.SH SYNOPSIS
-.B ca
-.I COMMAND OPERANDS"""
+
+def installed(text):
+    """A page as it is installed: a link to a file that isn't installed, one outside of docs, becomes its words."""
+    return re.sub(r"\[([^]]*)\]\(\.\./[^)]*\)", r"\1", text)
+
+
+def with_names(text, prefix):
+    """A page with the names that the programs have where they are installed."""
+    text = text.replace("crates/ca/out/ca", f"{prefix}/libexec/ca/ca")
+    return re.sub(r"(?<![\w.])\./(ca|rules)\b", r"\1", text)
 
 
 def escaped(text):
@@ -26,10 +37,11 @@ def escaped(text):
 
 
 def inline(text):
-    """A line with its code in bold, and of its links the words."""
+    """A line with its code in bold, its emphasis in italics, and of its links the words."""
     text = re.sub(r"\[([^]]*)\]\([^)]*\)", r"\1", text)
     parts = [escaped(part) for part in text.split("`")]
-    return "".join(part if place % 2 == 0 else rf"\fB{part}\fR" for place, part in enumerate(parts))
+    return "".join(re.sub(r"\*([a-z]+)\*", r"\\fI\1\\fR", part) if place % 2 == 0 else rf"\fB{part}\fR"
+                   for place, part in enumerate(parts))
 
 
 def cells(row):
@@ -48,12 +60,12 @@ def table(rows):
         yield from [".TP", inline(tag), "\n.br\n".join(lines)]
 
 
-def numbered(lines):
-    """A list with its numbers as tags. A line without a number belongs to the item before it."""
+def items(lines):
+    """A list with its numbers or its dashes as tags. A line without one belongs to the item before it."""
     for line in lines:
-        number, _, rest = line.partition(" ")
-        if number[:-1].isdecimal():
-            yield from [rf".IP {number} 4", inline(rest)]
+        mark, _, rest = line.partition(" ")
+        if mark[:-1].isdecimal() or mark == "-":
+            yield from [rf".IP {mark if mark != '-' else chr(92) + '(bu'} 4", inline(rest)]
         else:
             yield inline(line.strip())
 
@@ -72,20 +84,40 @@ def written(block):
         yield ".SS " + inline(first[4:])
     elif first.startswith("|"):
         yield from table(block)
-    elif first.startswith("1. "):
-        yield from numbered(block)
+    elif first.startswith(("1. ", "- ")):
+        yield from items(block)
     elif first.startswith("    "):
         yield from [".PP", ".RS 4", ".nf", *[escaped(line[4:]) for line in block], ".fi", ".RE"]
     else:
         yield from [".PP", *[inline(line) for line in " ".join(block).split("\n")]]
 
 
+def man_page(program, does, prefix, text):
+    """The page for man of a program, from its installed page."""
+    title, synopsis, *body = blocks(text)
+    assert title[0].startswith("# ") and synopsis[0].startswith(f"    {program} "), f"the page of {program} begins otherwise"
+    return "\n".join([
+        r'.\" Made by .ci/man.py of the source.', f".TH {program.upper()} 1", ".SH NAME", rf"{program} \- {escaped(does)}",
+        ".SH SYNOPSIS", f".B {program}", f".I {synopsis[0].split(maxsplit=1)[1]}", ".SH DESCRIPTION",
+        *[line for block in body for line in written(block)],
+        ".SH SEE ALSO", f"The pages whose names end in .md are in {escaped(f'{prefix}/share/doc/ca')}.", ""])
+
+
 def main():
-    title, synopsis, *body = blocks(PAGE.read_text())
-    assert title == ["# Commands"] and synopsis == ["    ./ca COMMAND OPERANDS"], "the page begins otherwise"
-    lines = [HEAD, ".SH DESCRIPTION", *[line for block in body for line in written(block)]]
-    print("\n".join(lines))
+    if len(sys.argv) != 3:
+        sys.exit(__doc__)
+    prefix, into = sys.argv[1], Path(sys.argv[2])
+    pages, manuals = into / "share" / "doc" / "ca", into / "share" / "man" / "man1"
+    for folder in (pages, manuals):
+        folder.mkdir(parents=True, exist_ok=True)
+    for file in sorted(DOCS.iterdir()):
+        text = file.read_text(encoding="utf-8")
+        (pages / file.name).write_text(installed(text) if file.suffix == ".md" else text, encoding="utf-8")
+    for program, (page, does) in PAGES.items():
+        text = with_names((pages / page).read_text(encoding="utf-8"), prefix)
+        (pages / page).write_text(text, encoding="utf-8")
+        (manuals / f"{program}.1").write_text(man_page(program, does, prefix, text), encoding="utf-8")
 
 
 if __name__ == "__main__":
-    sys.exit(main())
+    main()

@@ -8,12 +8,11 @@ can't be written, and 8 if there is no memory. It is 70 if the program is called
 steps of the shape and the conditions are in the order of the tables of that page.
 """
 import contextlib
+import math
 import os
 import re
 import sys
 import traceback
-
-import json_text
 
 LIMIT = 4194304                                 # bytes of the input
 PART = 1024                                     # digits of a part of a TAIL
@@ -24,6 +23,18 @@ BEGUN = [re.compile(r"[0-9]{0,39}"),            # what begins a text of some for
 HEX = "0123456789abcdef"
 VALUE = bytes(int(chr(c), 16) if chr(c) in HEX + HEX.upper() else 255 for c in range(256))
 
+DEPTH = 127                                     # brackets and braces that may be open at one place
+BLANKS = re.compile(r"[ \t\n\r]*")
+NUMBER = re.compile(r"-?(?:0|[1-9][0-9]*)(?:\.[0-9]+)?(?:[eE][+-]?[0-9]+)?")
+WHOLE = re.compile(r"-?[0-9]{1,20}")
+LISTED = re.compile(r"(0|[1-9][0-9]{0,17})[ \t\n\r]*,[ \t\n\r]*")
+PLAIN = re.compile(r'[^"\\\x00-\x1f]*')
+ESCAPE = re.compile(r'\\(?:(["\\/bfnrt])'
+                    r"|u([dD][89abAB][0-9a-fA-F]{2})\\u([dD][c-fC-F][0-9a-fA-F]{2})"
+                    r"|u([0-9a-fA-F]{4}))")
+SHORT = {'"': '"', "\\": "\\", "/": "/", "b": "\b", "f": "\f", "n": "\n", "r": "\r", "t": "\t"}
+NAMES = {"true": True, "false": False, "null": None}
+
 
 class Refused(Exception):
     """The certificate is refused with these words."""
@@ -31,6 +42,10 @@ class Refused(Exception):
 
 class Misshapen(Exception):
     """A part of the certificate hasn't its shape."""
+
+
+class NotJson(Exception):
+    """The bytes aren't the text of a JSON value."""
 
 
 def ask(holds, *refusal):
@@ -42,6 +57,129 @@ def ask(holds, *refusal):
 def need(holds):
     if not holds:
         raise Misshapen
+
+
+# JSON, with the rules of docs/CERTIFICATES.md. Python's own reader has other rules. It accepts NaN and Infinity, numbers that are too
+# large for a double, escaped surrogates without their other half, and encodings other than UTF-8. It has other limits for the length
+# of a whole number and for nested brackets, and it takes -0 for a whole number. As in Python's reader, the last of several members
+# with the same key counts.
+
+def read_json(data):
+    """The value of bytes: a dict, list, str, True, False, None, int or float. A signed whole number becomes an int. Every other number
+    (1.0, 1e0, -0, 2^64) becomes a float, which no caller uses."""
+    try:
+        text = data.decode("utf-8")             # strict, and a byte order mark stays: it isn't a blank
+    except UnicodeDecodeError:
+        raise NotJson
+    value, place = read_value(text, skip(text, 0), 0)
+    if skip(text, place) != len(text):
+        raise NotJson
+    return value
+
+
+def skip(text, place):
+    return BLANKS.match(text, place).end()
+
+
+# Each reader below takes the place where its value begins, and gives the value and the place behind it;
+# depth counts the brackets and braces that are open there.
+
+def read_value(text, place, depth):
+    first = text[place:place + 1]
+    if first == '"':
+        return read_string(text, place)
+    if first in ("[", "{"):
+        if depth == DEPTH:
+            raise NotJson
+        return (read_array if first == "[" else read_object)(text, place, depth + 1)
+    for name, value in NAMES.items():
+        if text.startswith(name, place):
+            return value, place + len(name)
+    return read_number(text, place)
+
+
+def read_number(text, place):
+    match = NUMBER.match(text, place)
+    if not match:
+        raise NotJson
+    digits = match[0]
+    if WHOLE.fullmatch(digits) and digits != "-0" and abs(int(digits)) < 2 ** 64:
+        return int(digits), match.end()
+    value = float(digits)                       # the nearest double
+    if math.isinf(value):
+        raise NotJson
+    return value, match.end()
+
+
+def read_string(text, place):
+    parts = []
+    place += 1
+    while True:
+        run = PLAIN.match(text, place)
+        parts.append(run[0])
+        place = run.end()
+        if text[place:place + 1] == '"':
+            return "".join(parts), place + 1
+        escape = ESCAPE.match(text, place)
+        if not escape:
+            raise NotJson
+        short, high, low, single = escape.groups()
+        if short:
+            parts.append(SHORT[short])
+        elif high:
+            parts.append(chr(0x10000 + (int(high, 16) - 0xD800) * 0x400 + int(low, 16) - 0xDC00))
+        elif 0xD800 <= int(single, 16) <= 0xDFFF:
+            raise NotJson
+        else:
+            parts.append(chr(int(single, 16)))
+        place = escape.end()
+
+
+def read_array(text, place, depth):
+    items = []
+    place = skip(text, place + 1)
+    if text[place:place + 1] == "]":
+        return items, place + 1
+    while True:
+        match = LISTED.match(text, place)       # a short cut for long lists: short whole numbers, each
+        while match:                            # with the comma behind it
+            items.append(int(match[1]))
+            place = match.end()
+            match = LISTED.match(text, place)
+        item, place = read_value(text, place, depth)
+        items.append(item)
+        place, more = read_comma(text, place, "]")
+        if not more:
+            return items, place
+
+
+def read_object(text, place, depth):
+    members = {}
+    place = skip(text, place + 1)
+    if text[place:place + 1] == "}":
+        return members, place + 1
+    while True:
+        if text[place:place + 1] != '"':
+            raise NotJson
+        key, place = read_string(text, place)
+        place = skip(text, place)
+        if text[place:place + 1] != ":":
+            raise NotJson
+        members[key], place = read_value(text, skip(text, place + 1), depth)    # the last one counts
+        place, more = read_comma(text, place, "}")
+        if not more:
+            return members, place
+
+
+def read_comma(text, place, close):
+    """Behind a comma the place of the next item and True, behind the closing bracket its place and False."""
+    place = skip(text, place)
+    mark = text[place:place + 1]
+    if mark == close:
+        return place + 1, False
+    if mark != ",":
+        raise NotJson
+    return skip(text, place + 1), True
 
 
 # The rule
@@ -185,8 +323,8 @@ def read_ranks(value, rule):
 class Certificate:
     def __init__(self, data):
         try:
-            top = json_text.read(data)
-        except json_text.NotJson:
+            top = read_json(data)
+        except NotJson:
             raise Refused("format notjson")
         ask(type(top) is dict, "format shape top")
 

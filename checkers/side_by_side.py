@@ -6,8 +6,10 @@ the number of certificates that are broken by one change each.
 import json
 import os
 import re
+import shutil
 import subprocess
 import sys
+import tempfile
 from pathlib import Path
 
 from judge import judge
@@ -292,6 +294,12 @@ def scripts(tally):
         tally.same(name, [7, 7], ended)
     done = subprocess.run([*words, "certificate.json"], stdin=subprocess.DEVNULL, capture_output=True)
     tally.same("judge.py with an operand", (70, b"", True), (done.returncode, done.stdout, b"usage:" in done.stderr))
+    # One file is enough: it is copied alone into an empty folder, and Python looks nowhere else for a part of it.
+    with tempfile.TemporaryDirectory() as folder:
+        alone = shutil.copy(ROOT / "checkers" / "judge.py", folder)
+        for data in (SHIFT.encode(), SHIFT.encode()[:-2]):
+            done = subprocess.run([sys.executable, "-I", alone], cwd=folder, input=data, capture_output=True)
+            tally.same("judge.py alone in a folder", (done.returncode, done.stdout), tally.call(["check"], data))
     # A fault of Python's own, here that what judges is no function, is never taken for an answer.
     fault = "import sys, judge; judge.judge = None; sys.exit(judge.ended())"
     done = subprocess.run([sys.executable, "-c", fault], cwd=ROOT / "checkers", input=b"", capture_output=True)

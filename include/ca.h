@@ -2,11 +2,12 @@
  * The decider for one-dimensional cellular automata as a C library.
  *
  * ./library builds libca_c.a and libca_c.so in crates/ca_c/out/library, and prints their paths. ./install PREFIX installs
- * them as libca.a and libca.so, with this header and ca.pc for pkg-config. crates/ca_c/src/exports.rt has the functions,
- * and their contracts say what is proved about them. The structs have these names in the sources: RuleVerdicts in
- * crates/c_structs/src/table_verdicts.rt, RuleReport in rule_reports.rt and the structs of letter_rows.rt of the same
- * folder, KeptSums in crates/kept_sums/src/kept.rt, and RoomHandle in crates/room_handles/src/handles.rt. Tests compare this
- * header with these sources, but no proof does.
+ * them as libca.a and libca.so, with this header and ca.pc for pkg-config. crates/ca_c/src has the functions, and their
+ * contracts say what is proved about them. The structs have these names in the sources: RuleVerdicts in
+ * crates/c_structs/src/table_verdicts.rt; RuleParts in rule_parts.rt, MovedConfigs in moved.rt, RuleDegree in rule_degrees.rt,
+ * RuleReport in rule_reports.rt and the structs of letter_rows.rt, all of the same folder; KeptSums in
+ * crates/kept_sums/src/kept.rt; and RoomHandle in crates/room_handles/src/handles.rt. Tests compare this header with these
+ * sources, but no proof does.
  *
  * Pointers. If you pass a pointer with a length, the pointer must point to as many bytes as the length says. The pointer
  * may be NULL if the length is 0. Any other pointer must point to a whole object of its type, and must not be NULL. A call
@@ -16,13 +17,43 @@
  * Numbers. An argument is converted to its type without a warning: if you pass 258 as a uint8_t, it becomes 2. Check the range
  * of an int before you pass it.
  *
- * Stack. A call takes up to 192 KiB of stack. Give 256 KiB to a thread that calls the library.
+ * Stack. A call takes up to 320 KiB of stack. Give 384 KiB to a thread that calls the library. Of the texts that we tried,
+ * the worst one takes 245,000 to 286,000 bytes, by the compiler: check of objects that are nested 127 deep and have
+ * thousands of keys.
+ *
+ * Memory. The command check takes up to 750 MB for a text of 4,194,304 bytes that was made to take much: objects that are
+ * nested 126 deep and have one key each. The largest certificate, with two million listed sets, takes 90 MB.
  *
  * Threads. A call keeps no state but in a room. So several threads may call the library at once, if each thread has its own
  * buffer, its own length and its own room. Threads may share arguments that calls only read. A call waits for nothing and
  * starts no thread. It takes memory by malloc, realloc and free of your program, which must be safe for threads. It frees all
  * of this memory before it returns, except for the memory of a room. Don't call the library from a signal handler. If a
  * process with several threads forks, don't call the library in the child.
+ *
+ * Example. This program prints `conserving`:
+ *
+ *     #include <ca.h>
+ *     #include <stdio.h>
+ *
+ *     int main(void)
+ *     {
+ *         struct ca_rule rule;
+ *         const uint8_t fault = ca_read_rule("184", &rule);
+ *         if (fault != CA_FAULT_NONE) {
+ *             puts(ca_fault_text(fault));
+ *             return 1;
+ *         }
+ *         const bool keeps = ca_verdicts(rule.states, rule.width, rule.table, rule.table_length).conserving;
+ *         puts(keeps ? "conserving" : "not conserving");
+ *         return 0;
+ *     }
+ *
+ * After ./install PREFIX, this line compiles it:
+ *
+ *     PKG_CONFIG_PATH=PREFIX/lib/pkgconfig sh -c 'cc -o cars cars.c $(pkg-config --cflags --libs ca)'
+ *
+ * If the system doesn't look for libraries in PREFIX/lib, set LD_LIBRARY_PATH=PREFIX/lib when you run the program. If a C++
+ * compiler should not warn about casts in this header, pass the folder of the header by -isystem.
  */
 #ifndef CA_H
 #define CA_H
@@ -31,6 +62,7 @@
 #include <stddef.h>
 #include <stdint.h>
 #include <stdlib.h>
+#include <string.h>
 
 #ifdef __cplusplus
 extern "C" {
@@ -41,14 +73,16 @@ extern "C" {
 
 /* How many of these things there are at most. Use these numbers as the sizes of arrays. */
 #define CA_MOST_WINDOWS 256         /* letters of a table, and windows of an order */
-#define CA_MOST_NODES 16            /* words of width - 1 letters, and numbers in the flux of a report */
+#define CA_MOST_NODES 16            /* words of width - 1 letters, numbers in the flux of a report, letters of a moved ring */
 #define CA_MOST_REPORT_LETTERS 72712 /* letters of all words of a report together */
+#define CA_MOST_DEGREE_LETTERS 131070 /* letters of both words of a struct ca_rule_degree together */
 #define CA_MOST_WORDS 16            /* words of range letters, and their weights */
 #define CA_MOST_FLUX 128            /* words of width + range - 2 letters, and numbers of their flux */
 #define CA_MOST_RING_LETTERS 15     /* letters of a ring that shows that a rule doesn't keep a sum */
 
-/* The codes that ca_run and ca_run_json return. If the code is at most CA_CODE_TOO_LONG, there is an output. ca_report returns
- * only CA_CODE_DONE, CA_CODE_MEMORY or CA_CODE_SHORT. Only ca_run_in and ca_report_in return CA_CODE_NO_ROOM. */
+/* The codes that ca_run and ca_run_json return. If the code is at most CA_CODE_TOO_LONG, there is an output. ca_report and
+ * ca_degree return only CA_CODE_DONE, CA_CODE_MEMORY or CA_CODE_SHORT, and ca_room_open only CA_CODE_DONE or CA_CODE_MEMORY.
+ * Only ca_run_in, ca_report_in and ca_degree_in return CA_CODE_NO_ROOM. */
 enum ca_code {
     CA_CODE_DONE = 0,       /* the command was carried out */
     CA_CODE_REFUSED = 1,    /* check refused the input */
@@ -73,7 +107,8 @@ enum ca_code {
     CA_SHORT = CA_CODE_SHORT
 };
 
-/* Why a call returns no verdicts, report, order, rule, sums, flux or image. A call returns the first fault that applies. */
+/* Why a call returns no verdicts, report, order, rule, sums, flux, image or moved configurations. A call returns the first
+ * fault that applies. */
 enum ca_fault {
     CA_FAULT_NONE = 0,   /* there is no fault */
     CA_FAULT_STATES = 1, /* there are not 2 to 16 states */
@@ -84,7 +119,7 @@ enum ca_fault {
     CA_FAULT_LETTER = 6, /* a letter of the table is not below states */
     CA_FAULT_KIND = 7,   /* there are more than six states, so rules have no numbers */
     CA_FAULT_NUMBER = 8, /* a number isn't the number of a rule */
-    CA_FAULT_FORM = 9,   /* a text isn't the text of a rule; only ca_read_rule returns this */
+    CA_FAULT_FORM = 9,   /* a text isn't the text of a rule; only ca_rule_of returns this */
 
     CA_FAULT_PROPERTY = 10, /* the property isn't a value of enum ca_bit */
     CA_FAULT_ORDER = 11,    /* the order doesn't have each window once */
@@ -100,7 +135,9 @@ enum ca_fault {
 
     CA_FAULT_PERIOD = 19, /* a period of the configuration has no letter */
     CA_FAULT_CELL = 20,   /* a letter of the configuration is not below states */
-    CA_FAULT_PLACE = 21   /* first is not from -2^61 to 2^61, or count is more than 2^61 */
+    CA_FAULT_PLACE = 21,  /* first is not from -2^61 to 2^61, or count is more than 2^61 */
+
+    CA_FAULT_BY = 23 /* the window of cell 0 doesn't have the cell by */
 };
 
 /* The meaning of a fault, in English and without a full stop. */
@@ -129,6 +166,7 @@ static inline const char *ca_fault_text(uint8_t fault)
     case CA_FAULT_PERIOD: return "each period must have a letter";
     case CA_FAULT_CELL: return "each letter of the configuration must be less than the number of states";
     case CA_FAULT_PLACE: return "the first place must be from -2^61 to 2^61, with at most 2^61 letters";
+    case CA_FAULT_BY: return "the window of cell 0 must have the cell by which configurations are moved";
     default: return "no fault has this number";
     }
 }
@@ -155,7 +193,7 @@ struct ca_rule_verdicts {
     bool conserving; /* every ring has the same sum of letters as its image */
 };
 
-/* A word of a report. Its letters are length bytes of the buffer for letters, beginning at place begin. If there is no word,
+/* A word of a report or of a degree. Its letters are length bytes of the buffer for letters, beginning at place begin. If there is no word,
  * both numbers are 0. */
 struct ca_row {
     size_t begin;
@@ -215,6 +253,30 @@ struct ca_report {
 };
 
 /*
+ * How many preimages a typical configuration has, and how many first and last letters the preimages of a word have at least
+ * (Hedlund 1969; docs/DEGREE.md). A node is a word of width - 1 letters. A last node of a word is the last width - 1 letters
+ * of one of its preimages, and a first node is the first width - 1 letters of one of its preimages. A node is at the cut
+ * between two words if it is a last node of the first word and a first node of the second word.
+ *
+ * If the rule is surjective and there are n nodes, right * left = degree * n, right_multiplier = n / left, and
+ * left_multiplier = n / right. If the rule is also open, each configuration has `degree` preimages.
+ */
+struct ca_rule_degree {
+    uint8_t fault;            /* an enum ca_fault; if it isn't CA_FAULT_NONE, all other fields are 0 */
+    uint8_t degree;           /* the least number of preimages of a periodic configuration; 0 if the rule isn't surjective */
+    uint8_t right;            /* the least number of last nodes that a word has; 0 if the rule isn't surjective */
+    uint8_t left;             /* the least number of first nodes that a word has; 0 if the rule isn't surjective */
+    uint8_t right_multiplier; /* the greatest number of last nodes of the preimages of a word that begin with one node;
+                                 0 if the rule isn't surjective */
+    uint8_t left_multiplier;  /* the same for the mirrored rule */
+    uint16_t right_nodes;     /* the last nodes of right_word: bit u is the node with the value u */
+    uint16_t left_nodes;      /* the first nodes of left_word */
+    uint8_t reserved[6];      /* zeros */
+    struct ca_row right_word; /* the least word with `right` last nodes; the least orphan if the rule isn't surjective */
+    struct ca_row left_word;  /* the word with `left` first nodes that is least if words are read from right to left */
+};
+
+/*
  * The sums that a rule keeps, for weights of words of range letters (docs/SUMS.md).
  *
  * The place of a word is its value: the number that its letters form in base states, with the leftmost letter as the most
@@ -230,6 +292,19 @@ struct ca_kept_sums {
     uint8_t rings[CA_MOST_WORDS][CA_MOST_RING_LETTERS]; /* the letters of the ring. The bytes after them mean nothing */
 };
 
+/*
+ * The configurations that a rule only moves by some number of cells: their windows, and the least ring that repeats to such a
+ * configuration.
+ */
+struct ca_moved_configs {
+    uint16_t rows[CA_MOST_NODES]; /* the windows that occur in these configurations. Bit a of rows[u] is 1 if the window
+                                     occurs whose first width - 1 letters have the value u and whose last letter is a. All
+                                     other bits are 0 */
+    uint8_t ring[CA_MOST_NODES];  /* the letters of the least ring: the shortest, and among the shortest the first in
+                                     dictionary order. Then zeros */
+    uint8_t length;               /* the number of letters of the ring, or 0 if there is no such configuration */
+};
+
 /* A rule. Its fields are the arguments that the calls below need. */
 struct ca_rule {
     uint8_t states;
@@ -239,125 +314,29 @@ struct ca_rule {
     uint8_t table[CA_MOST_WINDOWS]; /* the letter for each window, by the window's value, and then zeros */
 };
 
-/* Returns how many decimal digits, or hexadecimal digits, a text begins with, but at most `most`. ca_read_rule calls it. */
-static inline size_t ca_count_digits(const char *text, bool decimal, size_t most)
-{
-    size_t count = 0;
-    while (count < most
-           && ((text[count] >= '0' && text[count] <= '9')
-               || (!decimal && ((text[count] >= 'a' && text[count] <= 'f') || (text[count] >= 'A' && text[count] <= 'F')))))
-        count++;
-    return count;
-}
-
-/* Writes the letters of a table into *rule, from their hexadecimal digits. ca_read_rule calls it. */
-static inline uint8_t ca_read_table(const char *digits, size_t length, struct ca_rule *rule)
-{
-    size_t at;
-    if (length != rule->table_length)
-        return CA_FAULT_LENGTH;
-    for (at = 0; at < length; at++) {
-        const unsigned letter = (unsigned)digits[at];
-        rule->table[at] = (uint8_t)(letter <= '9' ? letter - '0' : (letter | 32u) - 'a' + 10u);
-        if (rule->table[at] >= rule->states)
-            return CA_FAULT_LETTER;
-    }
-    return CA_FAULT_NONE;
-}
-
-/* Writes the table of the rule with a given number into *rule. The number has at most 39 decimal digits. ca_read_rule calls
- * it. */
-static inline uint8_t ca_read_number(const char *digits, size_t length, struct ca_rule *rule)
-{
-    uint8_t number[39], rest = 0;
-    size_t at, window;
-    for (at = 0; at < length; at++)
-        number[at] = (uint8_t)(digits[at] - '0');
-    for (window = 0; window < rule->table_length; window++) {
-        unsigned over = 0; /* the remainder of the number, divided by the number of states */
-        for (at = 0; at < length; at++) {
-            const unsigned part = 10u * over + number[at];
-            number[at] = (uint8_t)(part / rule->states);
-            over = part % rule->states;
-        }
-        rule->table[window] = (uint8_t)over;
-    }
-    for (at = 0; at < length; at++)
-        rest = (uint8_t)(rest | number[at]);
-    return rest == 0 ? CA_FAULT_NONE : CA_FAULT_NUMBER;
-}
-
-/* Checks the number of states, the width and the offset, and whether the form, t or w, is allowed. ca_read_rule calls it. */
-static inline uint8_t ca_read_shape(const int parts[3], char form, struct ca_rule *rule)
-{
-    int place, nodes = 1;
-    if (parts[0] < 2 || parts[0] > 16)
-        return CA_FAULT_STATES;
-    if (parts[1] < 2 || parts[1] > 5)
-        return CA_FAULT_WIDTH;
-    for (place = 1; place < parts[1]; place++)
-        nodes *= parts[0];
-    if (nodes > CA_MOST_NODES)
-        return CA_FAULT_NODES;
-    if (parts[2] < -16 || parts[2] + parts[1] - 1 > 16)
-        return CA_FAULT_OFFSET;
-    rule->states = (uint8_t)parts[0];
-    rule->width = (uint8_t)parts[1];
-    rule->offset = (int8_t)parts[2];
-    rule->table_length = (uint16_t)(nodes * parts[0]);
-    for (place = 0; place < CA_MOST_WINDOWS; place++)
-        rule->table[place] = 0;
-    return form == 'w' && parts[0] > 6 ? CA_FAULT_KIND : CA_FAULT_NONE;
-}
-
 /*
- * Reads the text of a rule, which has a 0 byte after it. docs/COMMANDS.md describes these texts. For example, "110",
- * "2:3:-1:w110" and "2:3:-1:t01110110" are the same rule. This function needs no library.
+ * Reads the text of a rule. docs/COMMANDS.md describes these texts. For example, "110", "2:3:-1:w110" and
+ * "2:3:-1:t01110110" are the same rule.
  *
  * If the text is a rule, it returns CA_FAULT_NONE and fills *rule. Otherwise it doesn't change *rule, and returns the first
  * of these faults that applies: CA_FAULT_FORM, CA_FAULT_STATES to CA_FAULT_OFFSET, CA_FAULT_KIND, CA_FAULT_LENGTH,
  * CA_FAULT_LETTER, CA_FAULT_NUMBER.
  */
+uint8_t ca_rule_of(const uint8_t *text, size_t text_length, struct ca_rule *rule);
+
+/* Reads the text of a rule by ca_rule_of. The text has a 0 byte after it. */
 static inline uint8_t ca_read_rule(const char *text, struct ca_rule *rule)
 {
-    int parts[3] = {2, 3, -1}, part; /* states, width and offset */
-    struct ca_rule read;
-    char form = 'w';
-    size_t length = ca_count_digits(text, true, 40);
-    uint8_t fault;
-    if (length < 1 || length > 39 || text[length] != '\0') {
-        for (part = 0; part < 3; part++) {
-            const int sign = part == 2 && *text == '-' ? -1 : 1;
-            text += sign < 0 ? 1 : 0;
-            length = ca_count_digits(text, true, 2);
-            if (length == 0 || text[length] != ':')
-                return CA_FAULT_FORM;
-            parts[part] = sign * ((length == 2 ? 10 * (text[0] - '0') : 0) + (text[length - 1] - '0'));
-            text += length + 1;
-        }
-        form = *text;
-        if (form != 't' && form != 'w')
-            return CA_FAULT_FORM;
-        text++;
-        length = form == 't' ? ca_count_digits(text, false, (size_t)-1) : ca_count_digits(text, true, 40);
-        if (text[length] != '\0' || (form == 'w' && (length < 1 || length > 39)))
-            return CA_FAULT_FORM;
-    }
-    fault = ca_read_shape(parts, form, &read);
-    if (fault == CA_FAULT_NONE)
-        fault = form == 't' ? ca_read_table(text, length, &read) : ca_read_number(text, length, &read);
-    if (fault == CA_FAULT_NONE)
-        *rule = read;
-    return fault;
+    return ca_rule_of((const uint8_t *)text, strlen(text), rule);
 }
 
 /* Returns the version of the interface of the linked library. */
 uint32_t ca_version(void);
 
 /*
- * A room: memory of some 16 MB, which ca_run_in and ca_report_in use again and again. So a call over a room takes less time.
- * ca_room_new makes a room, and ca_room_free drops it. No result depends on earlier calls over the room. A room serves one
- * call at a time, so make one for each thread. Don't read or write its fields, and don't copy it.
+ * A room: memory of some 17 MB, which ca_run_in, ca_report_in and ca_degree_in use again and again. So a call over a room
+ * takes less time. ca_room_new makes a room, and ca_room_free drops it. No result depends on earlier calls over the room. A
+ * room serves one call at a time, so make one for each thread. Don't read or write its fields, and don't copy it.
  *
  * Without ca_room_new, begin with {false, NULL}, which is a closed room: a room without memory. ca_room_open opens it, and
  * ca_room_close closes it and frees its memory.
@@ -367,7 +346,8 @@ struct ca_room {
     void *memory;
 };
 
-/* Opens a room. Returns CA_CODE_DONE, or CA_CODE_MEMORY if there is no memory. With CA_CODE_MEMORY the room stays as it was. */
+/* Opens a room. If it is open already, its memory is freed once there is new memory. Returns CA_CODE_DONE, or CA_CODE_MEMORY if
+ * there is no memory. With CA_CODE_MEMORY the room stays as it was. */
 uint8_t ca_room_open(struct ca_room *room);
 
 /* Closes a room. Nothing happens if the room is closed already. */
@@ -480,6 +460,30 @@ uint8_t ca_report(uint8_t states, uint8_t width, int8_t offset, const uint8_t *t
 uint8_t ca_report_in(struct ca_room *room, uint8_t states, uint8_t width, int8_t offset, const uint8_t *table,
                      size_t table_length, const uint8_t *weights, size_t weights_length, struct ca_report *report,
                      uint8_t *letters, size_t letters_room, size_t *length);
+
+/*
+ * Returns the degree of a rule, its multipliers, and the words with the fewest last and first nodes. The rule is given as for
+ * ca_report. The memory of the call is some 1 MB.
+ *
+ * It returns CA_CODE_DONE, CA_CODE_SHORT or CA_CODE_MEMORY, and always sets *length:
+ *
+ *   CA_CODE_DONE    *degree is filled. The first *length bytes of the buffer letters have the letters of right_word and then
+ *                   of left_word. The other bytes of the buffer don't change. If the rule has a fault, the field fault of
+ *                   *degree is the first of CA_FAULT_STATES to CA_FAULT_LETTER that applies, and *length is 0.
+ *   CA_CODE_SHORT   The words have *length letters together, which are more than room. *degree and the buffer don't change.
+ *                   CA_MOST_DEGREE_LETTERS letters are enough for every rule.
+ *   CA_CODE_MEMORY  *length is 0, and *degree and the buffer don't change.
+ */
+uint8_t ca_degree(uint8_t states, uint8_t width, int8_t offset, const uint8_t *table, size_t table_length,
+                  struct ca_rule_degree *degree, uint8_t *letters, size_t room, size_t *length);
+
+/*
+ * Returns the degree of a rule as ca_degree does, over a room. It never returns CA_CODE_MEMORY. If the room is closed, it
+ * returns CA_CODE_NO_ROOM, *length is 0, and *degree and the buffer don't change.
+ */
+uint8_t ca_degree_in(struct ca_room *room, uint8_t states, uint8_t width, int8_t offset, const uint8_t *table,
+                     size_t table_length, struct ca_rule_degree *degree, uint8_t *letters, size_t letters_room,
+                     size_t *length);
 
 /*
  * Applies a rule once to a configuration, writes letters of the image, and needs no memory. With this call you can check the
@@ -619,6 +623,20 @@ uint8_t ca_kept_sums(uint8_t states, uint8_t width, const uint8_t *table, size_t
  */
 uint8_t ca_flux(uint8_t states, uint8_t width, const uint8_t *table, size_t table_length, uint8_t range,
                 const int64_t weights[CA_MOST_WORDS], int64_t numbers[CA_MOST_FLUX]);
+
+/*
+ * Finds the configurations that a rule only moves by so many cells, and needs no memory. The rule is given as for ca_report.
+ *
+ * A rule only moves a configuration by by cells if each cell i of the image has the letter of cell i + by of the
+ * configuration. If by is 0, the rule leaves the configuration as it is. If by is -1, each step moves it one cell to the
+ * right. A configuration is moved so if and only if all of its windows are in rows, and each window in rows occurs in some
+ * configuration that is moved so. If there is any such configuration, there is a ring of at most CA_MOST_NODES letters.
+ *
+ * If there is no fault, it returns CA_FAULT_NONE. Otherwise it returns the first of CA_FAULT_STATES to CA_FAULT_LETTER and
+ * CA_FAULT_BY that applies, and *moved doesn't change. CA_FAULT_BY applies if by isn't from offset to offset + width - 1.
+ */
+uint8_t ca_moved(uint8_t states, uint8_t width, int8_t offset, const uint8_t *table, size_t table_length, int8_t by,
+                 struct ca_moved_configs *moved);
 
 #ifdef __cplusplus
 }

@@ -413,6 +413,80 @@ static void call_report(void)
         look_at(&a, output_end - room, length);
 }
 
+/* Asks for a degree in so much room, and looks at the code and at what must be kept. */
+static uint8_t degree_in(const struct asked *a, size_t room, size_t *length)
+{
+    struct ca_rule_degree *degree = (struct ca_rule_degree *)(void *)report_end - 1;
+    memset(degree, FILLING, sizeof *degree);
+    memset(output_end - room, FILLING, room);
+    *length = 12345;
+    uint8_t code = ca_degree(a->states, a->width, a->offset, table_end - a->length, a->length, degree, output_end - room,
+                             room, length);
+    if (code == CA_CODE_DONE)
+        is("the letters of a degree fit, and the rest is kept", *length <= room && is_kept(output_end, room - *length));
+    else
+        is("a degree that isn't written is kept, and so is the buffer",
+           (code == CA_CODE_SHORT ? *length > room : code == CA_CODE_MEMORY && *length == 0)
+               && is_kept(output_end, room) && is_kept(report_end, sizeof *degree));
+    return code;
+}
+
+/* How many bits of the number are 1. */
+static int ones(unsigned number)
+{
+    int count = 0;
+    for (; number != 0; number &= number - 1)
+        count++;
+    return count;
+}
+
+/* Looks at a degree with so many letters: its numbers agree with each other and with ca_verdicts. */
+static void look_at_degree(const struct asked *a, const uint8_t *letters, size_t length)
+{
+    const struct ca_rule_degree *v = (const struct ca_rule_degree *)(const void *)report_end - 1;
+    const struct ca_rule_verdicts found = ca_verdicts(a->states, a->width, table_end - a->length, a->length);
+    const int nodes = (int)(a->length / a->states);
+    bool below_states = true;
+    for (size_t at = 0; at < length; at++)
+        below_states = below_states && letters[at] < a->states;
+    is("letters of a degree are below the states", below_states);
+    is("the words of a degree are all letters", v->right_word.begin == 0 && v->left_word.begin == v->right_word.length
+                                                    && v->right_word.length + v->left_word.length == length);
+    is("as many nodes as are counted", ones(v->right_nodes) == v->right && ones(v->left_nodes) == v->left
+                                           && (v->right_nodes | v->left_nodes) >> (nodes - 1) <= 1);
+    is("a degree is 0 if the rule isn't surjective", (v->degree != 0) == found.surjective
+                                                         && (v->right != 0) == found.surjective
+                                                         && (v->left != 0) == found.surjective);
+    is("the product of the counts", v->right * v->left == v->degree * nodes);
+    if (found.surjective)
+        is("the multipliers", v->right_multiplier * v->left == nodes && v->left_multiplier * v->right == nodes);
+    is("an injective rule is open and has degree 1", found.injective == (found.is_open && v->degree == 1));
+}
+
+/* A call of ca_degree, and if the buffer is too short one with a byte too few and one with just room enough. */
+static void call_degree(void)
+{
+    struct asked a;
+    size_t length, again, room = below(3) != 0 ? below(24) : below(CA_MOST_DEGREE_LETTERS);
+    a.length = draw_table(&a.states, &a.width);
+    a.offset = (int8_t)(below(8) == 0 ? (int)below(256) - 128 : (int)below(29) - 16);
+    a.weights_length = 0;
+    uint8_t code = degree_in(&a, room, &length);
+    if (code == CA_CODE_SHORT) {
+        is("the letters of any degree fit", length <= CA_MOST_DEGREE_LETTERS);
+        room = length <= CA_MOST_DEGREE_LETTERS ? length : CA_MOST_DEGREE_LETTERS;
+        is("a letter of a degree too few is too few", degree_in(&a, room - 1, &again) == CA_CODE_SHORT && again == length);
+        code = degree_in(&a, room, &again);
+        is("just room enough for a degree is enough", code == CA_CODE_DONE && again == length);
+    }
+    const struct ca_rule_degree *v = (const struct ca_rule_degree *)(const void *)report_end - 1;
+    if (code != CA_CODE_DONE)
+        return;
+    is("the first fault of a degree", v->fault == report_fault(&a));
+    if (v->fault == CA_FAULT_NONE)
+        look_at_degree(&a, output_end - room, length);
+}
+
 /* Whether a list has each window once. */
 static bool is_order(const uint8_t *order, size_t length, size_t size)
 {
@@ -681,6 +755,77 @@ static void call_read_rule(void)
         is("the table of a text", fault_of(rule.states, rule.width, rule.table, rule.table_length) == CA_FAULT_NONE);
 }
 
+/* The window that begins at a place of a ring. */
+static size_t ring_window(const struct asked *a, const uint8_t *ring, size_t length, size_t begin)
+{
+    size_t window = 0;
+    for (size_t place = 0; place < a->width; place++)
+        window = window * a->states + ring[(begin + place) % length];
+    return window;
+}
+
+/* Whether the windows of the rows keep their letter at a place, and each has one that follows and one that leads to it. */
+static bool are_moved(const struct asked *a, const struct ca_moved_configs *moved, const uint8_t *table, size_t place,
+                      size_t *count)
+{
+    size_t nodes = a->length / a->states, power = 1;
+    for (size_t at = place + 1; at < a->width; at++)
+        power *= a->states;
+    *count = 0;
+    for (size_t window = 0; window < CA_MOST_NODES * 16; window++) {
+        const size_t node = window / 16, letter = window % 16, next = (node * a->states + letter) % nodes;
+        if (!(moved->rows[node] >> letter & 1))
+            continue;
+        ++*count;
+        if (node >= nodes || letter >= a->states)
+            return false;
+        const size_t value = node * a->states + letter;
+        bool before = false;
+        for (size_t first = 0; first < a->states; first++) {
+            const size_t into = first * nodes + node;
+            before = before || (moved->rows[into / a->states] >> into % a->states & 1);
+        }
+        if (table[value] != value / power % a->states || moved->rows[next] == 0 || !before)
+            return false;
+    }
+    return true;
+}
+
+/* A call of ca_moved: its fault is the first one, each window is kept and goes on to both sides, and the ring is moved. */
+static void call_moved(void)
+{
+    struct asked a;
+    size_t count = 0;
+    a.length = draw_table(&a.states, &a.width);
+    a.offset = (int8_t)(below(8) == 0 ? (int)below(256) - 128 : (int)below(29) - 16);
+    a.weights_length = 0;
+    const int8_t by = (int8_t)(below(8) == 0 ? (int)below(256) - 128 : a.offset + (int)below(6));
+    const uint8_t *table = table_end - a.length;
+    struct ca_moved_configs *moved = (struct ca_moved_configs *)(void *)report_end - 1;
+    memset(moved, FILLING, sizeof *moved);
+    int wanted = report_fault(&a);
+    if (wanted == CA_FAULT_NONE && (by < a.offset || by >= a.offset + a.width))
+        wanted = CA_FAULT_BY;
+    const int code = ca_moved(a.states, a.width, a.offset, table, a.length, by, moved);
+    is("the first fault of moved configurations", code == wanted);
+    if (code != CA_FAULT_NONE) {
+        is("without moved configurations the struct is kept", is_kept(report_end, sizeof *moved));
+        return;
+    }
+    const size_t place = (size_t)(by - a.offset);
+    is("windows that are moved", are_moved(&a, moved, table, place, &count));
+    is("a ring or no window", moved->length <= a.length / a.states && (moved->length != 0) == (count != 0));
+    for (size_t at = 0; at < CA_MOST_NODES; at++) {
+        if (at >= moved->length) {
+            is("zeros after the ring", moved->ring[at] == 0);
+            continue;
+        }
+        const size_t window = ring_window(&a, moved->ring, moved->length, at);
+        is("a ring that is moved", table[window] == moved->ring[(at + place) % moved->length]
+                                       && (moved->rows[window / a.states] >> window % a.states & 1));
+    }
+}
+
 static double now(void)
 {
     struct timespec time;
@@ -700,10 +845,12 @@ int main(int argc, char **argv)
     while (now() < end) {
         call_run();
         call_report();
+        call_degree();
         for (int call = 0; call < 8; call++) {
             call_verdicts();
             call_next_rule();
             call_image();
+            call_moved();
             call_read_rule();
         }
     }

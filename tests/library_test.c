@@ -754,6 +754,69 @@ static void test_images(void)
     is("an image too far on the right", has_no_image(2, -1, TABLE_110, "0", "1", "0", far + 1, CA_FAULT_PLACE));
 }
 
+/* Whether the configurations that an elementary rule only moves have these windows, a bit for each, and this least ring. */
+static bool is_moved(int number, int8_t by, unsigned windows, const char *ring)
+{
+    uint8_t table[8], letters[CA_MOST_NODES] = {0};
+    struct ca_moved_configs moved;
+    unsigned found = 0;
+    size_t length = letters_of(ring, letters);
+    table_of(number, table);
+    memset(&moved, FILLING, sizeof moved);
+    if (ca_moved(2, 3, -1, table, sizeof table, by, &moved) != CA_FAULT_NONE)
+        return false;
+    for (unsigned node = 0; node < CA_MOST_NODES; node++) {
+        if (moved.rows[node] >= (node < 4 ? 4 : 1))
+            return false;
+        found |= node < 4 ? (unsigned)moved.rows[node] << 2 * node : 0;
+    }
+    return found == windows && moved.length == length && memcmp(moved.ring, letters, sizeof letters) == 0;
+}
+
+/* Whether a call finds no moved configurations, and writes nothing, for this fault. */
+static bool moves_nothing(uint8_t states, uint8_t width, int8_t offset, const uint8_t *table, size_t length, int8_t by,
+                          int fault)
+{
+    struct ca_moved_configs moved;
+    memset(&moved, FILLING, sizeof moved);
+    return ca_moved(states, width, offset, table, length, by, &moved) == fault
+        && is_kept((const uint8_t *)&moved, 0, sizeof moved);
+}
+
+/* How many elementary rules move no configuration by so many cells. */
+static int moving_none(int8_t by)
+{
+    int rules = 0;
+    for (int number = 0; number < 256; number++)
+        rules += is_moved(number, by, 0, "");
+    return rules;
+}
+
+static void test_moved(void)
+{
+    static const uint8_t zeros[64];
+    static const uint8_t two[4] = {0, 1, 1, 2};
+    is("rule 184 moves single cars to the right", is_moved(184, -1, 0xb7, "0"));
+    is("rule 184 leaves cars that wait", is_moved(184, 0, 0x8b, "0"));
+    is("rule 30 leaves zeros and period 2", is_moved(30, 0, 0x25, "0"));
+    is("rule 204 leaves all", is_moved(204, 0, 0xff, "0"));
+    is("rule 51 moves period 2", is_moved(51, 1, 0x24, "01"));
+    is("rule 105 leaves a ring of four cells", is_moved(105, 0, 0x5a, "0011"));
+    is("rule 1 leaves nothing", is_moved(1, 0, 0, ""));
+    is("elementary rules that leave nothing, and move nothing by a cell",
+       moving_none(0) == 39 && moving_none(-1) == 39 && moving_none(1) == 39);
+    is("moved under one state", moves_nothing(1, 2, 0, zeros, 1, 9, CA_FAULT_STATES));
+    is("moved under width 6", moves_nothing(2, 6, 0, zeros, 64, 0, CA_FAULT_WIDTH));
+    is("moved under 17 nodes", moves_nothing(5, 3, 0, zeros, 64, 0, CA_FAULT_NODES));
+    is("moved under a far offset", moves_nothing(2, 3, 15, zeros, 8, 0, CA_FAULT_OFFSET));
+    is("moved under a table of seven letters", moves_nothing(2, 3, -1, zeros, 7, 0, CA_FAULT_LENGTH));
+    is("moved under a letter that is too great", moves_nothing(2, 2, 0, two, 4, 9, CA_FAULT_LETTER));
+    is("moved past the window on the left", moves_nothing(2, 3, -1, zeros, 8, -2, CA_FAULT_BY));
+    is("moved past the window on the right", moves_nothing(2, 3, -1, zeros, 8, 2, CA_FAULT_BY));
+    is("moved by the least and the greatest number", moves_nothing(2, 3, -1, zeros, 8, INT8_MIN, CA_FAULT_BY)
+                                                         && moves_nothing(2, 3, -1, zeros, 8, INT8_MAX, CA_FAULT_BY));
+}
+
 /* A pointer may be NULL if the length beside it is 0. */
 static void test_null(void)
 {
@@ -782,6 +845,7 @@ static void test_null(void)
        ca_image(2, 3, -1, NULL, 0, table, 1, NULL, 0, table, 1, 0, order, 8) == CA_FAULT_LENGTH);
     is("ca_image, NULL for the periods", ca_image(2, 3, -1, table, 8, NULL, 0, NULL, 0, NULL, 0, 0, NULL, 0) == CA_FAULT_PERIOD);
     is("ca_image, NULL for the letters", ca_image(2, 3, -1, table, 8, table, 1, NULL, 0, table, 1, 0, NULL, 0) == CA_FAULT_NONE);
+    is("ca_moved, NULL", ca_moved(2, 3, -1, NULL, 0, 0, &(struct ca_moved_configs){0}) == CA_FAULT_LENGTH);
     is("ca_flux, NULL", ca_flux(2, 3, NULL, 0, 1, (int64_t[CA_MOST_WORDS]){0}, (int64_t[CA_MOST_FLUX]){0}) == CA_FAULT_LENGTH);
 }
 
@@ -849,7 +913,9 @@ static void test_read_rule(void)
 static void test_fault_texts(void)
 {
     const char *none = ca_fault_text(255);
-    for (int fault = 0; fault <= CA_FAULT_PLACE; fault++) {
+    for (int fault = 0; fault <= CA_FAULT_BY; fault++) {
+        if (fault == CA_CODE_NO_ROOM) /* this number is a code */
+            continue;
         is("the text of a fault", strcmp(ca_fault_text((uint8_t)fault), none) != 0);
         for (int other = 0; other < fault; other++)
             is("texts of two faults", strcmp(ca_fault_text((uint8_t)fault), ca_fault_text((uint8_t)other)) != 0);
@@ -919,6 +985,75 @@ static void test_rooms(void)
     is("it is closed again", answers_in(&closed, WORDS("orphan\0" "90\0"), CA_CODE_NO_ROOM, ""));
 }
 
+/* A rule of width 3 and what ca_degree must give for it, found by listing the preimages of all words of at most seven letters. */
+struct degree_row {
+    uint8_t number, degree, right, left, right_multiplier, left_multiplier;
+    uint16_t right_nodes, left_nodes;
+    const char *right_word, *left_word;
+};
+
+static const struct degree_row DEGREES[] = {
+    {15, 1, 4, 1, 4, 1, 15, 8, "", "00"},     {30, 1, 4, 1, 4, 1, 15, 8, "", "0010"},
+    {60, 2, 4, 2, 2, 1, 15, 9, "", "0"},      {90, 4, 4, 4, 1, 1, 15, 15, "", ""},
+    {106, 1, 1, 4, 1, 4, 1, 15, "0100", ""},  {110, 0, 0, 0, 0, 0, 0, 0, "01010", "01010"},
+    {170, 1, 1, 4, 1, 4, 1, 15, "00", ""},    {204, 1, 2, 2, 2, 2, 3, 5, "0", "0"},
+    {240, 1, 4, 1, 4, 1, 15, 1, "", "00"},    {0, 0, 0, 0, 0, 0, 0, 0, "1", "1"},
+};
+
+/* The degree of a rule, alone, over a room, in a buffer that is too short, and over a closed room. */
+static void test_degree_of(const struct degree_row *row, struct ca_room *room)
+{
+    struct ca_rule_degree found, over;
+    uint8_t letters[64], table[8];
+    size_t length = 0, over_length = 0;
+    struct ca_room closed = {false, NULL};
+    for (int at = 0; at < 8; at++)
+        table[at] = (uint8_t)(row->number >> at & 1);
+    memset(letters, FILLING, sizeof letters);
+    memset(&found, FILLING, sizeof found);
+    is("a degree", ca_degree(2, 3, -1, table, 8, &found, letters, sizeof letters, &length) == CA_CODE_DONE
+           && found.fault == CA_FAULT_NONE && length == strlen(row->right_word) + strlen(row->left_word)
+           && is_kept(letters, length, sizeof letters));
+    is("the numbers of a degree", found.degree == row->degree && found.right == row->right && found.left == row->left
+           && found.right_multiplier == row->right_multiplier && found.left_multiplier == row->left_multiplier);
+    is("the nodes of a degree", found.right_nodes == row->right_nodes && found.left_nodes == row->left_nodes);
+    is("the words of a degree", is_word(letters, found.right_word, row->right_word)
+           && is_word(letters, found.left_word, row->left_word));
+    memset(&over, FILLING, sizeof over);
+    is("a degree over a room", ca_degree_in(room, 2, 3, -1, table, 8, &over, letters, sizeof letters, &over_length)
+           == CA_CODE_DONE && over_length == length && memcmp(&over, &found, sizeof over) == 0);
+    if (length > 0) {
+        memset(letters, FILLING, sizeof letters);
+        memset(&over, FILLING, sizeof over);
+        is("a short buffer for a degree", ca_degree(2, 3, -1, table, 8, &over, letters, length - 1, &over_length)
+               == CA_CODE_SHORT && over_length == length && is_kept(letters, 0, sizeof letters)
+               && is_kept((const uint8_t *)&over, 0, sizeof over));
+    }
+    memset(&over, FILLING, sizeof over);
+    over_length = 1;
+    is("a degree over a closed room", ca_degree_in(&closed, 2, 3, -1, table, 8, &over, letters, sizeof letters, &over_length)
+           == CA_CODE_NO_ROOM && over_length == 0 && is_kept((const uint8_t *)&over, 0, sizeof over));
+}
+
+static void test_degree(void)
+{
+    static const uint8_t table[8] = {0, 1, 2, 0, 0, 0, 0, 0};
+    struct ca_room *const room = ca_room_new();
+    struct ca_rule_degree found;
+    size_t length = 1;
+    if (room == NULL)
+        abort();
+    for (size_t at = 0; at < sizeof DEGREES / sizeof DEGREES[0]; at++)
+        test_degree_of(&DEGREES[at], room);
+    is("the degree of a table with a letter too many", ca_degree(2, 3, -1, table, 8, &found, NULL, 0, &length) == CA_CODE_DONE
+           && found.fault == CA_FAULT_LETTER && found.degree == 0 && found.right_word.length == 0 && length == 0);
+    is("the degree of a window out of reach", ca_degree_in(room, 2, 3, 15, table, 8, &found, NULL, 0, &length) == CA_CODE_DONE
+           && found.fault == CA_FAULT_OFFSET && length == 0);
+    is("the degree without a table", ca_degree(2, 3, -1, NULL, 0, &found, NULL, 0, &length) == CA_CODE_DONE
+           && found.fault == CA_FAULT_LENGTH);
+    ca_room_free(room);
+}
+
 static void *call_often(void *right)
 {
     struct ca_room *const room = ca_room_new();
@@ -931,7 +1066,7 @@ static void *call_often(void *right)
 }
 
 /* The stack that a call may take, as the header says, and the stack of the thread in which that is measured. */
-enum { STACK = 192 * 1024, WHOLE_STACK = 1024 * 1024 };
+enum { STACK = 320 * 1024, WHOLE_STACK = 1024 * 1024 };
 
 /* What a thread comes to: whether its calls answer as they must, and where its stack was before the first one. */
 struct stacked {
@@ -939,14 +1074,42 @@ struct stacked {
     const volatile uint8_t *begin;
 };
 
-/* The calls that take the most stack: certificates that are nested deeply, and long ones. */
+/* Writes a key of a JSON object, of two or three characters, and the text behind it. Returns how many bytes these are. */
+static size_t write_key(uint8_t *text, int key, bool is_long, const char *behind)
+{
+    static const char digits[] = "0123456789abcdefghijklmnopqrstuvwxyzABCDEFGHIJKLMNOPQRSTUVWXYZ";
+    const char name[] = {digits[key / 3844], digits[key / 62 % 62], digits[key % 62], 0};
+    return (size_t)sprintf((char *)text, "\"%s\":%s", name + !is_long, behind);
+}
+
+/* Writes the text for which check takes the most stack, of all texts that a search found, and returns its length: objects in
+ * objects, 127 deep. The more keys an object has, the more stack is taken to drop it, by steps at some 24, 144, 1,100 and 8,600
+ * keys. With 8,600 keys in each object the text would be too long, so 52 objects have 8,600, and the others 1,100. */
+static size_t write_worst(uint8_t *text)
+{
+    size_t used = 0;
+    for (int depth = 0; depth < 127; depth++) {
+        const int keys = depth < 52 ? 8600 : 1100;
+        text[used++] = '{';
+        for (int key = keys - 2; key >= 0; key--)
+            used += write_key(text + used, key, keys > 3844, "0,");
+        used += write_key(text + used, keys - 1, keys > 3844, "");
+    }
+    text[used++] = '0';
+    memset(text + used, '}', 127);
+    return used + 127;
+}
+
+/* The calls that take the most stack: certificates that are nested deeply, also with many keys in each object, and long ones. */
 static void *call_on_a_stack(void *stacked)
 {
     struct stacked *const found = stacked;
-    static uint8_t objects[2400000], lists[4000000], text[ROOM], letters[CA_MOST_REPORT_LETTERS];
+    static uint8_t objects[2400000], lists[4000000], many[4200000], text[ROOM], letters[CA_MOST_REPORT_LETTERS];
     static const uint8_t table[8] = {0, 1, 1, 1, 0, 1, 1, 0};
     static struct ca_report report;
     static struct ca_kept_sums sums;
+    static struct ca_moved_configs moved;
+    struct ca_rule_degree degree;
     size_t length;
     uint8_t order[8], rule[8] = {0};
     volatile uint8_t begin = 0;
@@ -956,9 +1119,11 @@ static void *call_on_a_stack(void *stacked)
     for (size_t at = 0; at < sizeof objects; at++)
         objects[at] = (uint8_t)"{\"a\":"[at % 5];
     memset(lists, '[', sizeof lists);
+    const size_t used = write_worst(many);
     found->right = ca_run(WORDS("check\0"), objects, sizeof objects, text, ROOM, &length) == CA_CODE_REFUSED
         && ca_run(WORDS("check\0"), lists, sizeof lists, text, ROOM, &length) == CA_CODE_REFUSED
         && ca_run_json(WORDS("check\0"), objects, sizeof objects, text, ROOM, &length) == CA_CODE_REFUSED
+        && ca_run_json(WORDS("check\0"), many, used, text, ROOM, &length) == CA_CODE_REFUSED
         && ca_run(WORDS("certify\0" "90\0"), NOTHING, text, ROOM, &length) == CA_CODE_DONE
         && ca_run_json(WORDS("decide\0" "110\0"), NOTHING, text, ROOM, &length) == CA_CODE_DONE
         && ca_run(WORDS("language\0" "110\0"), NOTHING, text, ROOM, &length) == CA_CODE_DONE
@@ -966,9 +1131,12 @@ static void *call_on_a_stack(void *stacked)
         && ca_report(2, 3, -1, table, 8, NULL, 0, &report, letters, sizeof letters, &length) == CA_CODE_DONE
         && room != NULL && ca_run_in(room, WORDS("certify\0" "90\0"), NOTHING, text, ROOM, &length) == CA_CODE_DONE
         && ca_report_in(room, 2, 3, -1, table, 8, NULL, 0, &report, letters, sizeof letters, &length) == CA_CODE_DONE
+        && ca_degree(2, 3, -1, table, 8, &degree, letters, sizeof letters, &length) == CA_CODE_DONE
+        && ca_degree_in(room, 2, 3, -1, table, 8, &degree, letters, sizeof letters, &length) == CA_CODE_DONE
         && ca_window_order(CA_BIT_INJECTIVE, 2, 3, order, 8) == CA_FAULT_NONE
         && ca_next_rule(CA_BIT_INJECTIVE, 2, 3, order, 8, NULL, 0, 0, rule, 8) == CA_FAULT_NONE
-        && ca_kept_sums(2, 3, table, 8, 2, &sums) == CA_FAULT_NONE;
+        && ca_kept_sums(2, 3, table, 8, 2, &sums) == CA_FAULT_NONE
+        && ca_moved(2, 3, -1, table, 8, 0, &moved) == CA_FAULT_NONE;
     ca_room_free(room);
     return NULL;
 }
@@ -1015,8 +1183,10 @@ int main(void)
     is("the version", ca_version() == CA_VERSION);
     is("the size of the verdicts", sizeof(struct ca_rule_verdicts) == 7);
     is("the size of a report", sizeof(struct ca_report) == 8 + 4 * 4 + 16 * 4 + (1 + 2 + 1 + 2 * 6) * 16 + 8 * 4);
+    is("the size of a degree", sizeof(struct ca_rule_degree) == 16 + 2 * 16);
     is("the size of a room", sizeof(struct ca_room) == 16);
     is("the size of the sums", sizeof(struct ca_kept_sums) == 16 * 16 * 8 + 16 + 16 * 15);
+    is("the size of moved configurations", sizeof(struct ca_moved_configs) == 16 * 2 + 16 + 2);
     test_commands();
     test_words();
     test_room();
@@ -1025,11 +1195,13 @@ int main(void)
     test_verdicts();
     test_report();
     test_rooms();
+    test_degree();
     test_verdict_bytes();
     test_next_rule();
     test_kept_sums();
     test_flux();
     test_images();
+    test_moved();
     test_null();
     test_read_rule();
     test_fault_texts();

@@ -12,15 +12,24 @@ One rule, each with its least evidence:
     as_dict(rule)                       all that is known of it, in one row
     kept_sums(rule, range)              all sums of weights of words that it keeps
     flux(rule, weights), keeps(..)      whether it keeps a sum that you have in mind, and what shows it
+    current(rule, weights)              what moves between neighbours of such a sum
+    moved(rule, by)                     the configurations that it leaves as they are, or only moves
+    degree(rule), blocks(rule)          how many preimages it has; a reversible rule as two layers of block permutations
     language(rule), same(rule, other)   which words have a preimage
     image(rule, word)                   one step: of a word, of a ring or of a configuration
     preimage(rule, tail), erase(rule)   what is mapped to a configuration; two words that may stand for each other
+    preimages(rule, word), count_preimages(..)
+                                        all words or rings with an image, and how many
 
 Rules made of rules:
     Rule(..), Rule.of(function, ..)     a rule of a text, a number, a table or a function; Rule.totalistic, Rule.from_wolfram
-    inverse, compose, lift, unlift      what undoes a rule; two rules in turn; a reversible rule of pairs
+    inverse, compose, lift, unlift      what undoes a rule; rules in turn; a reversible rule of pairs
+    power(rule, steps)                  several steps of a rule as one
     trim, widen, shift, reflect, permute, least
     class_of, is_involution, order      its kin; whether, and after how many steps, it undoes itself
+    is_linear(rule)                     whether it adds up multiples of letters
+    undoes, commutes(rule, other)       laws between two rules
+    symmetries(rule), time_reversal     which other names leave it as it is, or turn it into its inverse
 
 Many rules:
     rules(property, states, width)      every rule of a shape that has a property, or several
@@ -30,6 +39,7 @@ Many rules:
 
 To look at:
     picture(rule, show), windows(rule)  SVG, which a notebook shows
+    atlas_rows(states, width)           the classes of a shape as values
     page(rule), atlas(states, width)    HTML pages; site(folder, states, width) writes an atlas with a page for each class
     to_dot(rule), to_networkx(rule)     the de Bruijn graph for other programs
 
@@ -40,39 +50,46 @@ A rule is a Rule, a text, as '2:3:-1:t01110110', the number of an elementary rul
 frozen dataclasses; everything else is an exception of the class FoursaspenError. docs/PYTHON.md of the repository has examples
 of all this. The work is done by a library that is proved; this package is not.
 """
-from .atlases import atlas
+from .atlases import AtlasRow, atlas, atlas_rows
 from .bits import Bit, verdict_bytes, verdicts
-from .commands import (brief, certify, check, classes, compose, decide, erase, inverse, language, least, lift, number,
+from .block_layers import Blocks, blocks
+from .commands import (brief, certify, check, classes, decide, erase, inverse, language, least, lift, number,
                        orphan, permute, preimage, reflect, run, same, sample, shift, survey, trim, unlift, widen)
+from .degrees import Degree, Multipliers, degree
 from .drawing import Picture
 from .evidence import EvidenceError
 from .exports import to_dot, to_networkx
 from .faults import (FoursaspenError, LibraryMissingError, NotFitError, OutOfMemoryError, RefusedError, RuleError, TooLongError,
                      UsageError, WordsError)
 from .images import Image, image
+from .laws import Change, commutes, compose, power, symmetries, time_reversal, undoes
 from .library import Outcome, keep_freed_memory
 from .lists import Listing, Rules, rules
+from .moves import Moved, moved
 from .operands import Weights
-from .pages import page
+from .pages import Page, page
 from .pictures import picture, windows
-from .relations import RuleClass, as_dict, class_of, is_involution, order
+from .preimages import count_preimages, preimages
+from .relations import RuleClass, as_dict, class_of, is_involution, is_linear, order
 from .report import (Answer, Certificate, ClassSummary, Closing, Gap, Inverse, Language, Pair, Preimage, Report, Same,
                      Split, Summary, Tail, Verdicts, Window)
-from .rule_values import Rule, RuleLike
+from .rule_values import Rule, RuleLike, Word
 from .sites import site
-from .sums import KeptSums, flux, keeps, kept_sums
+from .sums import Keeps, KeptSums, current, flux, keeps, kept_sums
 from .surveys import Progress, survey_over
 
 __version__ = "3"
 __all__ = [
-    "Answer", "Bit", "Certificate", "ClassSummary", "Closing", "EvidenceError", "FoursaspenError", "Gap", "Image", "Inverse",
-    "KeptSums", "Language", "LibraryMissingError", "Listing", "NotFitError", "OutOfMemoryError", "Outcome", "Pair", "Picture",
-    "Preimage", "Progress", "RefusedError", "Report", "Rule", "RuleClass", "RuleError", "RuleLike", "Rules", "Same", "Split",
-    "Summary", "Tail", "TooLongError", "UsageError", "Verdicts", "Weights", "Window", "WordsError", "as_dict", "atlas", "brief",
-    "certify", "check", "class_of", "classes", "compose", "decide", "erase", "flux", "image", "inverse", "is_involution",
-    "keep_freed_memory", "keeps", "kept_sums", "language", "least", "lift", "number", "order", "orphan", "page", "permute",
-    "picture", "preimage", "reflect", "rules", "run", "same", "sample", "shift", "site", "survey", "survey_over", "to_dot",
-    "to_networkx", "trim", "unlift", "verdict_bytes", "verdicts", "widen", "windows",
+    "Answer", "AtlasRow", "Bit", "Blocks", "Certificate", "Change", "ClassSummary", "Closing", "Degree", "EvidenceError",
+    "FoursaspenError", "Gap", "Image", "Inverse", "Keeps", "KeptSums", "Language", "LibraryMissingError", "Listing", "Moved",
+    "Multipliers", "NotFitError", "OutOfMemoryError", "Outcome", "Page", "Pair", "Picture", "Preimage", "Progress",
+    "RefusedError", "Report", "Rule", "RuleClass", "RuleError", "RuleLike", "Rules", "Same", "Split", "Summary", "Tail",
+    "TooLongError", "UsageError", "Verdicts", "Weights", "Window", "Word", "WordsError", "as_dict", "atlas", "atlas_rows",
+    "blocks", "brief", "certify", "check", "class_of", "classes", "commutes", "compose", "count_preimages", "current", "decide",
+    "degree", "erase", "flux", "image", "inverse", "is_involution", "is_linear", "keep_freed_memory", "keeps", "kept_sums",
+    "language", "least", "lift", "moved", "number", "order", "orphan", "page", "permute", "picture", "power", "preimage",
+    "preimages", "reflect", "rules", "run", "same", "sample", "shift", "site", "survey", "survey_over", "symmetries", "time_reversal",
+    "to_dot", "to_networkx", "trim", "undoes", "unlift", "verdict_bytes", "verdicts", "widen", "windows",
 ]
 
 

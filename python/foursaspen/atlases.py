@@ -11,18 +11,21 @@ import json
 from collections.abc import Callable, Iterable, Iterator
 from dataclasses import dataclass
 from pathlib import Path
-from typing import SupportsIndex
+from typing import Any, SupportsIndex
 
-from .commands import decide, numbered, survey
+from .commands import class_count, decide, numbered, survey
+from .degrees import degree
 from .faults import UsageError
-from .pages import STYLE
-from .relations import RuleClass, classes_in
+from .moves import moved_rings, rings_of
+from .pages import STYLE, Page
+from .relations import RuleClass, classes_in, row_of, shape_classes, write_rows
+from .progress import shown
 from .report import Closing, Report
-from .rule_values import Rule, RuleLike, of_number, refuse, rule_of
-from .sums import kept_sums, ranges
+from .rule_values import Rule, RuleLike, centred, index, look_at, of_number, refuse, rule_of
+from .sums import kept_counts
 
 HEAD = ("least", "members", "surjective", "orphan", "injective", "window", "twins", "right", "right evidence", "left",
-        "left evidence", "open", "conserving", "conserving evidence", "kept sums")
+        "left evidence", "open", "conserving", "conserving evidence", "kept sums", "moved", "degree", "last nodes", "first nodes")
 
 FORMS = ("markdown", "csv", "html")
 MOST = 2 ** 20                                  # rules of a shape: these take some minutes
@@ -32,15 +35,37 @@ Told = Callable[[str], object]
 
 
 @dataclass(frozen=True)
-class Entry:
+class AtlasRow:
     """A class of rules that differ by a mirror and by names of the letters: its rules that are there, and the report of the
     least one."""
     members: tuple[Rule, ...]
     report: Report
 
     @property
+    def least(self) -> Rule:
+        """The least rule."""
+        return self.report.rule
+
+    @property
     def names(self) -> list[str]:
         return list(map(name, self.members))
+
+    @property
+    def kept_sums(self) -> tuple[int, ...]:
+        """How many sums the least rule keeps apart from the trivial ones, of words of 1 letter, of 2 and so on."""
+        return kept_counts(self.report.rule)
+
+    @property
+    def moved(self) -> tuple[str | None, ...]:
+        """The least ring that the least rule only moves, for each cell of its window; None where it moves nothing so."""
+        return moved_rings(self.report.rule)
+
+    def as_dict(self) -> dict[str, Any]:
+        """What `as_dict` says of the least rule, and the rules of the class."""
+        return {**row_of(self.report), "members": " ".join(self.members)}
+
+
+Entry = AtlasRow
 
 
 def name(rule: Rule) -> str:
@@ -49,9 +74,9 @@ def name(rule: Rule) -> str:
     return str(rule) if number is None or len(str(number)) > LONG else str(number)
 
 
-def atlas(states: SupportsIndex = 2, width: SupportsIndex = 3, form: str = "html") -> str:
+def atlas(states: SupportsIndex = 2, width: SupportsIndex = 3, form: str = "html", *, bar: bool = False) -> str:
     """The atlas of a shape as a text: a page to sort and filter, `csv`, or of the elementary rules `markdown`, which is
-    docs/ELEMENTARY.md."""
+    docs/ELEMENTARY.md. `bar` shows how many classes there are so far. `atlas_rows` has the same as values."""
     if not isinstance(form, str):
         raise refuse("form is", f"one of {', '.join(FORMS)}", form)
     if form not in FORMS:
@@ -61,7 +86,18 @@ def atlas(states: SupportsIndex = 2, width: SupportsIndex = 3, form: str = "html
         if (k, m) != (2, 3):
             raise UsageError("Markdown is made of the elementary rules alone: form is csv or html for other shapes")
         return elementary()
-    return as_csv(entries_of(k, m)) if form == "csv" else as_html(entries_of(k, m), title_of(k, m))
+    entries = shown(entries_of(k, m, centred(m)), bar, class_count(k, m) if bar else None, " classes")
+    return as_csv(entries) if form == "csv" else as_html(entries, title_of(k, m))
+
+
+def atlas_rows(states: SupportsIndex = 2, width: SupportsIndex = 3, offset: SupportsIndex | None = None, *,
+               bar: bool = False) -> Iterator[AtlasRow]:
+    """The classes of all rules of a shape, by their least numbers, each when it is asked for. By default windows lie round their
+    cells. `bar` shows how many there are so far."""
+    k, m, _, _ = numbered(states, width, 0, 1)
+    begin = centred(m) if offset is None else index("offset is", "a whole number", offset)
+    look_at(k, m, begin)
+    return shown(entries_of(k, m, begin), bar, class_count(k, m), " classes")
 
 
 def title_of(states: int, width: int) -> str:
@@ -74,13 +110,17 @@ def entries_of(states: SupportsIndex, width: SupportsIndex, offset: int = 0, tol
     size: int = k ** k ** m
     if size > MOST:
         raise UsageError(f"{k} states and width {m} have {size:,} rules, and an atlas has room for {MOST:,}")
-    return entries_in((of_number(k, m, offset, rule) for rule in range(size)), told)
+    return entries_from(shape_classes(k, m, offset), told)
 
 
 def entries_in(found: Iterable[RuleLike], told: Told | None = None) -> Iterator[Entry]:
     """The classes of the rules of a list."""
-    rules = map(rule_of, found)
-    for place, one in enumerate(classes_in(counting(rules, told))):
+    return entries_from(classes_in(counting(map(rule_of, found), told)), told)
+
+
+def entries_from(classes: Iterable[RuleClass], told: Told | None) -> Iterator[Entry]:
+    """Classes with the reports of their least rules."""
+    for place, one in enumerate(classes):
         if told is not None and place % 100 == 0:
             told(f"class {place:,}")
         yield Entry(one.members, decide(first_of(one)))
@@ -111,44 +151,44 @@ def closing(side: Closing) -> str:
 
 def row(entry: Entry) -> list[str]:
     """The cells of a class, as HEAD names them."""
-    report = entry.report
+    report, numbers = entry.report, ["", "", ""]
+    if report.surjective:
+        found = degree(report.rule)
+        numbers = [str(found.degree), str(found.right), str(found.left)]
     return [name(report.rule), " ".join(entry.names), said(report.surjective), report.orphan or "",
             said(report.injective), str(report.window or ""), str(report.twins or ""), said(report.right),
             closing(report.right), said(report.left),
             closing(report.left), said(report.open), said(report.conserving),
-            report.ring or " ".join(map(str, report.flux or ())), " ".join(map(str, kept(report.rule)))]
-
-
-def kept(rule: Rule) -> list[int]:
-    """How many sums a rule keeps apart from the trivial ones, of words of 1 letter, of 2 and so on."""
-    return [len(kept_sums(rule, letters).rows) for letters in ranges(rule.states)]
+            report.ring or " ".join(map(str, report.flux or ())), " ".join(map(str, entry.kept_sums)),
+            rings_of(entry.moved), *numbers]
 
 
 def as_csv(entries: Iterable[Entry]) -> str:
-    """An atlas as CSV, a line for each class."""
+    """An atlas as CSV, a line for each class: the least rule as `to_csv` of a list has it, and the rules of the class."""
     text = io.StringIO()
-    writer = csv.writer(text, lineterminator="\n")
-    writer.writerow(HEAD)
-    writer.writerows(map(row, entries))
+    write_rows(csv.writer(text, lineterminator="\n"), (entry.as_dict() for entry in entries))
     return text.getvalue()
 
 
-def as_html(entries: Iterable[Entry], title: str, pages: dict[Rule, str] | None = None) -> str:
+def as_html(entries: Iterable[Entry], title: str, pages: dict[Rule, str] | None = None) -> Page:
     """An atlas as a page in one file, to sort and filter. What is chosen stands in the page's address. With pages a class leads to
     the page of its least rule."""
-    listed = list(entries)
-    rows = [[*row(entry), (pages or {}).get(entry.report.rule, "")] for entry in listed]
-    rules = sum(len(entry.members) for entry in listed)
+    rows: list[list[str]] = []
+    rules, begin = 0, ""
+    for entry in entries:                       # each with its cells, so that who is told sees how far it is
+        rows.append([*row(entry), (pages or {}).get(entry.report.rule, "")])
+        rules, begin = rules + len(entry.members), begin or entry.report.rule.partition("t")[0] + "t"
     about = (f"The {rules:,} rules are in {len(rows):,} classes of rules that "
              "differ by a mirror and by names of the letters. Verdicts and evidence are those of the class's least "
              "rule: of its mirrored ones right and left are exchanged, and whether sums are kept is a matter of each.")
     parts = {"@TITLE@": title, "@STYLE@": STYLE.read_text(encoding="utf-8"), "@ABOUT@": about,
              "@EVIDENCE@": "<p>The <a href='evidence.html'>words</a> are explained with pictures.</p>" if pages else "",
-             "@HEAD@": json.dumps(HEAD), "@ROWS@": json.dumps(rows, separators=(",", ":"))}
+             "@HEAD@": json.dumps(HEAD), "@BEGIN@": json.dumps(begin),
+             "@ROWS@": json.dumps(rows, separators=(",", ":"))}
     text = TEMPLATE.read_text(encoding="utf-8")
     for part, made in parts.items():
         text = text.replace(part, made)
-    return text
+    return Page(text)
 
 
 # The page of the elementary rules
@@ -173,9 +213,17 @@ comes its evidence, as `decide` prints it. [EVIDENCE.md](EVIDENCE.md) explains t
 The other rules of a class have the same verdicts, except that right and left are exchanged for a mirrored rule. Conserving is
 the same for all rules of a class: if a rule keeps the number of ones, it also keeps the number of zeros.
 
-The last column has four numbers, for words of 1, 2, 3 and 4 letters. Each says how many sums of weights of such words the rule
-keeps. Sums that every rule keeps don't count, and none of the counted sums is a combination of the others ([SUMS.md](SUMS.md)).
-All rules of a class have the same four numbers.
+The column "kept sums" has four numbers, for words of 1, 2, 3 and 4 letters. Each says how many sums of weights of such words the
+rule keeps. Sums that every rule keeps don't count, and none of the counted sums is a combination of the others
+([SUMS.md](SUMS.md)). All rules of a class have the same four numbers.
+
+The column "moved" has three rings: the least ring that the rule [only moves](EVIDENCE.md#only-moved) one cell to the right, the
+least ring that it leaves as it is, and the least ring that it moves one cell to the left. If the rule moves no configuration
+so, the column has the word none.
+
+The last column has the degree of a surjective rule, then the least number of last nodes that a word has, and the least number
+of first nodes ([DEGREE.md](DEGREE.md)). All rules of a class have the same degree, and the other two numbers are exchanged for
+a mirrored rule.
 
 """
 
@@ -208,7 +256,8 @@ def page_row(entry: Entry) -> str:
         cell(report.surjective, cells["orphan"]), cell(report.injective, cells["window"] or cells["twins"]),
         cell(report.right, cells["right evidence"]), cell(report.left, cells["left evidence"]),
         cell(report.open, ""), cell(report.conserving, cells["conserving evidence"]),
-        cells["kept sums"]]) + " |"
+        cells["kept sums"], cells["moved"],
+        f"{cells['degree']} `{cells['last nodes']}` `{cells['first nodes']}`" if cells["degree"] else ""]) + " |"
 
 
 def elementary() -> str:
@@ -216,6 +265,6 @@ def elementary() -> str:
     entries = list(entries_of(2, 3))
     lines: Iterable[str] = [
         *summary_lines(entries), "",
-        "| Least | Members | Surjective | Injective | Right-closing | Left-closing | Open | Conserving | Kept sums |",
-        "|---|---|---|---|---|---|---|---|---|", *map(page_row, entries)]
+        "| Least | Members | Surjective | Injective | Right-closing | Left-closing | Open | Conserving | Kept sums | Moved | Degree |",
+        "|---|---|---|---|---|---|---|---|---|---|---|", *map(page_row, entries)]
     return INTRODUCTION + "\n".join(lines) + "\n"

@@ -9,7 +9,7 @@ from typing import SupportsIndex
 from .faults import RuleError
 from .library import library
 from .operands import shape
-from .rule_values import items, look_at, look_at_number, needs, whole
+from .rule_values import index, items, look_at, look_at_number, needs, whole
 
 PART = 1 << 20                                  # rules of one call of the library: a second at most
 MOST_NUMBERS = 1 << 128                         # a number of a rule is below this
@@ -52,7 +52,11 @@ def verdict_bytes(states: SupportsIndex, width: SupportsIndex, first: SupportsIn
 
     The library is called for a million rules at a time, and Python's other threads run meanwhile."""
     states, width = shape(states, width)
-    first = whole("first is", first, 0, MOST_NUMBERS - 1)
+    number = index("first is", "a whole number", first)
+    if number < 0:
+        look_at_number(states, width, 0)        # a shape that is refused is refused first
+        whole("first is", number, 0, states ** states ** width - 1)
+    first = whole("first is", number, 0, MOST_NUMBERS - 1)
     count = whole("count is", count, 0, MOST_NUMBERS)
     if count == 0:
         return b""

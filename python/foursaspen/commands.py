@@ -5,17 +5,20 @@ program answers with a status other than Done is an exception of foursaspen.faul
 """
 from __future__ import annotations
 
+import math
 from collections.abc import Iterable
+from itertools import permutations, product
 from typing import Any, SupportsIndex
 
 from .calls import finding, reply
-from .faults import NotFitError
+from .faults import NotFitError, UsageError
 from .library import Outcome, library
 from .operands import (MOST, CertificateLike, Letters, Weights, certificate_bytes, digits_text, own_weights, shape, tail_of,
                        weight_numbers, weights_of, weights_word)
 from .report import (Certificate, ClassSummary, Gap, Inverse, Language, Pair, Preimage, Report, Same, Summary, Tail,
                      Verdicts, preimage_of)
-from .rule_values import Rule, RuleLike, items, look_at, look_at_number, refuse, rule_of, whole
+from .rule_values import (DIGITS, Rule, RuleLike, Word, index, items, look_at, look_at_number, refuse, rule_of, whole,
+                          word_letters)
 
 
 def run(words: Iterable[str], data: bytes = b"") -> Outcome:
@@ -90,9 +93,17 @@ def same(rule: RuleLike, other: RuleLike) -> Same:
     return Same(finding("same", first, second)["same"])
 
 
-def preimage(rule: RuleLike, tail: Tail | str) -> Preimage | Gap:
-    """The first configuration that the rule maps to this one, or the orphan in it."""
+def preimage(rule: RuleLike, tail: Tail | str | None = None, *, ring: Word | None = None) -> Preimage | Gap:
+    """The first configuration that the rule maps to this one, or to the one that repeats a `ring`; or the orphan in it."""
     known = rule_of(rule)
+    if (tail is None) == (ring is None):
+        raise TypeError("preimage takes a configuration, or ring=WORD")
+    if ring is not None:
+        letters = "".join(DIGITS[letter] for letter in word_letters("ring", ring, known.states))
+        if not letters:
+            raise UsageError("ring has at least one letter, and not none")
+        tail = Tail.ring(letters)
+    assert tail is not None
     return preimage_of(finding("preimage", known, tail_of(known, tail)))
 
 
@@ -171,12 +182,18 @@ def made(command: str, rule: Rule, *words: object) -> Rule:
 
 START = 10 ** 39 - 1
 SEED = 2 ** 64 - 1
+FEW = 2 ** 20                                   # rules of a shape that is surveyed whole by one call
 
 
-def survey(states: SupportsIndex, width: SupportsIndex, start: SupportsIndex, count: SupportsIndex) -> Summary:
+def survey(states: SupportsIndex, width: SupportsIndex, start: SupportsIndex = 0, count: SupportsIndex | None = None) -> Summary:
     """How many of `count` rules, from 1 to 4,096, have each property, by their numbers from `start` on, from 0 to
-    K^(K^M) - count where K states have the width M."""
-    return Summary(**finding("survey", *numbered(states, width, start, count))["summary"])
+    K^(K^M) - count where K states have the width M. Without a count it is all rules from `start` on, of a shape that has at most
+    1,048,576 of them; `survey_over` takes any shape."""
+    if count is not None:
+        return Summary(**finding("survey", *numbered(states, width, start, count))["summary"])
+    k, m, first, size = rest(states, width, start)
+    calls = (finding("survey", k, m, at, min(MOST, size - at))["summary"] for at in range(first, size, MOST))
+    return sum((Summary(**one) for one in calls), Summary())
 
 
 def sample(states: SupportsIndex, width: SupportsIndex, seed: SupportsIndex, count: SupportsIndex) -> Summary:
@@ -187,10 +204,45 @@ def sample(states: SupportsIndex, width: SupportsIndex, seed: SupportsIndex, cou
     return Summary(**finding("sample", k, m, at, rules)["summary"])
 
 
-def classes(states: SupportsIndex, width: SupportsIndex, start: SupportsIndex, count: SupportsIndex) -> ClassSummary:
-    """The same as `survey`, and in how many classes the rules lie."""
+def classes(states: SupportsIndex, width: SupportsIndex, start: SupportsIndex = 0,
+            count: SupportsIndex | None = None) -> ClassSummary:
+    """The same as `survey`, and in how many classes the rules lie. Without `start` and `count` these are all rules of a shape of at
+    most 1,048,576, whose classes are counted by the changes that leave rules as they are (Burnside's lemma), which isn't proved."""
+    if count is None and index("start is", "a whole number", start) == 0:
+        whole_shape = survey(states, width)
+        return ClassSummary(whole_shape, class_count(*shape(states, width)))
+    if count is None:
+        raise UsageError("classes takes start and count, or neither for a whole shape")
     found: dict[str, Any] = finding("classes", *numbered(states, width, start, count))
     return ClassSummary(Summary(**found["summary"]), found["classes"])
+
+
+def class_count(states: int, width: int) -> int:
+    """In how many classes the rules of a shape lie: the mean number of rules that a change of names, in the mirror or not, leaves
+    as they are."""
+    total, words = 0, list(product(range(states), repeat=width))
+    for names in permutations(range(states)):
+        for turn in (1, -1):
+            left, once = 1, set(words)
+            while once:
+                first = word = once.pop()
+                length, ends = 1, list(names)
+                while (word := tuple(names[letter] for letter in word)[::turn]) != first:
+                    once.remove(word)
+                    length, ends = length + 1, [names[letter] for letter in ends]
+                left *= sum(letter == end for letter, end in enumerate(ends))       # letters that a window may have
+            total += left
+    return total // (2 * math.factorial(states))
+
+
+def rest(states: SupportsIndex, width: SupportsIndex, start: SupportsIndex) -> tuple[int, int, int, int]:
+    """A shape of few rules, the number of one, and how many rules there are."""
+    k, m, first, _ = numbered(states, width, start, 1)
+    size: int = k ** k ** m
+    if size > FEW:
+        raise UsageError(f"{k} states and width {m} have {size:,} rules, and without a count there are at most {FEW:,}: survey_over "
+                         "takes any shape")
+    return k, m, first, size
 
 
 def numbered(states: SupportsIndex, width: SupportsIndex, start: SupportsIndex, count: SupportsIndex) -> tuple[int, int, int, int]:

@@ -1,7 +1,9 @@
 """The current of a sum that is kept, from its flux and the offset of the rule.
 
 The flux of a word stands at the first letters of windows. The current stands between cells: what a cell's word weighs more in
-the image than before is the current to the left of the cell less that to its right.
+the image than before is the current to the left of the cell less that to its right. This leaves a constant free, the same at all
+places. It is chosen so that nothing moves through cells of the letter 0. So the current doesn't change if one number is added to all
+weights.
 """
 from __future__ import annotations
 
@@ -33,6 +35,6 @@ def current_of(states: int, width: int, offset: int, letters: int, flux: Sequenc
         return word // below % size
 
     def number(word: int) -> int:
-        moved = sum(weights[part(word, place, letters)] for place in range(abs(offset)))
+        moved = sum(weights[part(word, place, letters)] - weights[0] for place in range(abs(offset)))
         return flux[part(word, max(offset, 0), width + letters - 2)] + (moved if offset < 0 else -moved)
     return tuple(number(word) for word in range(states ** long))

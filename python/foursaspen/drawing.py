@@ -1,6 +1,7 @@
 """A canvas that writes SVG: lines with arrows, discs and texts, on a ground that follows the reader's dark mode."""
 from __future__ import annotations
 
+import json
 import math
 import os
 import textwrap
@@ -8,17 +9,20 @@ from collections.abc import Iterator, Sequence
 from contextlib import contextmanager
 from html import escape
 from pathlib import Path
+from typing import Any
 
-PAPER, SHADE, MARK = "#ffffff", "#f2f2f2", "#ffdf9e"
-DARK, GREY, LIGHT = "#1a1a1a", "#5a5a5a", "#8a8a8a"
-FIRST, SECOND = "#08306b", "#c44e00"            # of two walks: far apart in brightness too
+# Which pictures there are, what each says, the names of its rows, colours and sizes. The page for browsers draws by this file too.
+DESCRIBED: dict[str, Any] = json.loads(Path(__file__).with_name("pictures.json").read_text(encoding="utf-8"))
+LABELS: dict[str, str] = DESCRIBED["labels"]
+MOST: dict[str, int] = DESCRIBED["most"]
+SIZES: dict[str, int] = DESCRIBED["sizes"]
+NIGHT: dict[str, str] = dict(DESCRIBED["colours"].values())     # each colour where the reader's system is dark
+# FIRST and SECOND are of two walks: far apart in brightness too. A cell of two states is ZERO or ONE, and dark if it is a 1.
+PAPER, SHADE, MARK, DARK, GREY, LIGHT, FIRST, SECOND, ZERO, ONE = NIGHT
 DASHES = "6 4"                                  # of the second walk
-# Each colour where the reader's system is dark.
-NIGHT = {PAPER: "#15181c", SHADE: "#22272e", MARK: "#5a4310", DARK: "#e8e8e8", GREY: "#a6adb5", LIGHT: "#737b85",
-         FIRST: "#d6e8ff", SECOND: "#e07b2a"}
-MARGIN = 24                                     # left of all, and below it
-WIDEST = 1200                                   # of a picture whose words have room in it
-PHONE = 320                                     # what a phone shows of a picture
+MARGIN = SIZES["margin"]                        # left of all, and below it
+WIDEST = SIZES["widest"]                        # of a picture whose words have room in it
+PHONE = SIZES["phone"]                          # what a phone shows of a picture
 FONT = "DejaVu Sans, Verdana, sans-serif"
 LETTER, BOLD = 0.65, 0.7                        # the widths of digits of size 1
 Point = tuple[float, float]
@@ -62,7 +66,7 @@ class Canvas:
                       room: float = WIDEST) -> float:
         """A text from the left margin on, in as many lines as it takes; where the last one stands."""
         letters = int((room - 2 * MARGIN) / (size * (BOLD if bold else LETTER)))
-        for place, line in enumerate(textwrap.wrap(text, letters)):
+        for place, line in enumerate(textwrap.wrap(text, letters, break_on_hyphens=False)):
             y += 1.35 * size if place else 0
             self.text(MARGIN, y, line, size, "start", color, bold)
         return y

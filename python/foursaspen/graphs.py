@@ -6,6 +6,7 @@ from __future__ import annotations
 from collections.abc import Sequence
 from dataclasses import dataclass
 
+from .drawing import LABELS
 from .report import Tail
 from .rule_values import DIGITS, RuleLike, rule_of
 
@@ -49,8 +50,8 @@ class Graph:
 
     def said(self, edge: Edge) -> str:
         """An edge in words."""
-        return (f"{self.name(edge.source)} reads {DIGITS[edge.letter]}, writes {DIGITS[edge.image]} "
-                f"and leads to {self.name(edge.target)}")
+        return LABELS["edge"].format(source=self.name(edge.source), letter=DIGITS[edge.letter], image=DIGITS[edge.image],
+                                     target=self.name(edge.target))
 
     def change(self, edge: Edge, place: int = 0) -> int:
         """What the letter that is written weighs more than the letter of the edge's window at a place, the first one at 0."""

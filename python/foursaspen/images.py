@@ -1,14 +1,14 @@
-"""One step of a rule: the image of a word, of a ring or of a configuration."""
+"""One step of a rule, or several: the image of a word, of a ring or of a configuration."""
 from __future__ import annotations
 
 from dataclasses import dataclass
-from typing import overload
+from typing import SupportsIndex, overload
 
 from .faults import NotFitError, UsageError
 from .library import library
-from .operands import tail_of, word_letters
+from .operands import tail_of
 from .report import Answer, Tail, line, table
-from .rule_values import DIGITS, Rule, RuleLike, refuse, rule_of
+from .rule_values import DIGITS, Rule, RuleLike, Word, rule_of, whole, word_letters
 
 LONGEST = 1 << 20                               # letters of a word or a middle
 
@@ -33,49 +33,62 @@ class Image(Answer):
 
 
 @overload
-def image(rule: RuleLike, word: str, *, ring: None = None) -> str: ...
+def image(rule: RuleLike, word: Word, *, ring: None = None, steps: SupportsIndex = 1) -> str: ...
 
 
 @overload
-def image(rule: RuleLike, word: Tail | Image, *, ring: None = None) -> Image: ...
+def image(rule: RuleLike, word: Tail | Image, *, ring: None = None, steps: SupportsIndex = 1) -> Image: ...
 
 
 @overload
-def image(rule: RuleLike, *, ring: str) -> str: ...
+def image(rule: RuleLike, *, ring: Word, steps: SupportsIndex = 1) -> str: ...
 
 
-def image(rule: RuleLike, word: str | Tail | Image | None = None, *, ring: str | None = None) -> str | Image:
-    """What a rule makes of a word, of a `ring` or of a configuration in one step. The image of a word has width - 1 letters fewer,
-    that of a ring as many. A configuration is a Tail, or an Image, which is what comes of it."""
-    known = rule_of(rule)
+def image(rule: RuleLike, word: Word | Tail | Image | None = None, *, ring: Word | None = None,
+          steps: SupportsIndex = 1) -> str | Image:
+    """What a rule makes of a word, of a `ring` or of a configuration in one step, or in so many. The image of a word has width - 1
+    letters fewer for each step, that of a ring as many. A word or a ring is a text, or a list or an array of letters. A
+    configuration is a Tail, or an Image, which is what comes of it."""
+    known, count = rule_of(rule), whole("steps is", steps, 0, LONGEST)
     if (word is None) == (ring is None):
         raise TypeError("image takes a word or a configuration, or ring=WORD")
     if ring is not None:
         letters = bytes(word_letters("ring", ring, known.states))
         if not letters:
             raise UsageError("ring has at least one letter, and not none")
-        return applied(known, (letters, b"", letters), 0, len(letters))
+        for _ in range(count):
+            letters = applied(known, (letters, b"", letters), 0, len(letters))
+        return text_of(letters)
     if isinstance(word, (Tail, Image)):
-        return moved(known, word)
-    if not isinstance(word, str):
-        raise refuse("word is", "a text of digits, a Tail or an Image", word)
-    if "|" in word:
+        here = word if isinstance(word, Image) else Image(0, tail_of(known, word))
+        for _ in range(count):
+            here = stepped(known, here)
+        return here
+    if isinstance(word, str) and "|" in word:
         raise UsageError(f"word is a text of digits, and a configuration is Tail.of({word!r})")
     letters = bytes(word_letters("word", word, known.states))
-    if len(letters) < known.width - 1:
-        raise UsageError(f"word has at least {known.width - 1} letters, one fewer than a window, and not {len(letters)}")
-    return applied(known, (b"\0", letters, b"\0"), -known.offset, len(letters) - known.width + 1)
+    fewer = known.width - 1
+    if len(letters) < count * fewer:
+        raise UsageError(f"word has at least {count * fewer:,} letters, one fewer than a window{' for each step' if count > 1 else ''}"
+                         f", and not {len(letters)}")
+    for _ in range(count):
+        letters = applied(known, (b"\0", letters, b"\0"), -known.offset, len(letters) - fewer)
+    return text_of(letters)
 
 
-def applied(rule: Rule, parts: tuple[bytes, bytes, bytes], first: int, count: int) -> str:
+def applied(rule: Rule, parts: tuple[bytes, bytes, bytes], first: int, count: int) -> bytes:
     """So many letters of the image of a configuration, from a cell on."""
     if count > LONGEST:
         raise UsageError(f"an image has at most {LONGEST:,} letters, and not {count:,}")
-    found = library().image(rule.states, rule.width, rule.offset, bytes(rule.table), parts, first, count) if count else b""
-    return "".join(DIGITS[letter] for letter in found)
+    return library().image(rule.states, rule.width, rule.offset, bytes(rule.table), parts, first, count) if count else b""
 
 
-def moved(rule: Rule, before: Tail | Image) -> Image:
+def text_of(letters: bytes) -> str:
+    """Letters as digits."""
+    return "".join(DIGITS[letter] for letter in letters)
+
+
+def stepped(rule: Rule, before: Tail | Image) -> Image:
     """The image of a configuration."""
     start, tail = (before.start, before.tail) if isinstance(before, Image) else (0, before)
     if isinstance(before, Tail):
@@ -87,7 +100,7 @@ def moved(rule: Rule, before: Tail | Image) -> Image:
     # The windows of the cells before the first one hold letters of the left period alone, and those from the last one on of the
     # right period.
     first, last = 1 - rule.width - rule.offset, len(middle) - rule.offset
-    letters = applied(rule, (left, middle, right), first - len(left), last + len(right) - first + len(left))
+    letters = text_of(applied(rule, (left, middle, right), first - len(left), last + len(right) - first + len(left)))
     end = len(letters) - len(right)
     return shortest(start + first, letters[:len(left)], letters[len(left):end], letters[end:])
 

@@ -5,10 +5,10 @@ from __future__ import annotations
 
 import functools
 import math
-from .drawing import Point
+from .drawing import SIZES, Point
 from .graphs import Edge, Graph, Way
 
-RADIUS = 17                                     # of a node
+RADIUS = SIZES["node"]
 SIZE = 12                                       # of a label's letters
 HALF = (12.5, 6.5)                              # half the width and height of a label
 STEPS = 24                                      # pieces of an edge

@@ -11,7 +11,7 @@ import os
 import threading
 from collections.abc import Callable, Iterable, Sequence
 from pathlib import Path
-from typing import NamedTuple
+from typing import Any, NamedTuple
 
 from .faults import LibraryMissingError, OutOfMemoryError, WordsError
 
@@ -20,6 +20,7 @@ NAME = "libca_c.so"
 HERE = Path(__file__).resolve().parent
 TOP = HERE.parents[1]                           # of the repository, where the package lies in it
 ROOM = 1 << 16                                  # bytes, at first
+WORDS_ROOM = 256                                # letters of the words of a degree, at first
 WORD = (1 << 64) - 1                            # the greatest number of 64 bits
 
 MEMORY, NO_WORDS, NO_ROOM = 8, 9, 10            # codes that come without an output
@@ -28,7 +29,7 @@ NOT_KEPT = 17                                   # the code of a sum that has no 
 # Of the C library's mallopt, where it is glibc: from which size on a block is asked of the system, and how much free
 # memory at the end of the heap is kept.
 TRIM_THRESHOLD, MMAP_THRESHOLD = -1, -3
-KEPT = 8 << 20                                  # bytes
+KEPT = 32 << 20                                 # bytes
 
 
 ADVICE = (f"run ./library in {TOP}, which proves and builds it" if (TOP / "library").exists() else
@@ -47,13 +48,30 @@ class KeptTable(ctypes.Structure):
                 ("rings", (ctypes.c_uint8 * 15) * 16)]
 
 
+class MovedTable(ctypes.Structure):
+    """The configurations that a rule only moves: struct ca_moved_configs."""
+    _fields_ = [("rows", ctypes.c_uint16 * 16), ("ring", ctypes.c_uint8 * 16), ("length", ctypes.c_uint8)]
+
+
+class LetterRow(ctypes.Structure):
+    """Where a word is in a buffer of letters: struct ca_row."""
+    _fields_ = [("begin", ctypes.c_size_t), ("length", ctypes.c_size_t)]
+
+
+class RuleDegree(ctypes.Structure):
+    """The degree of a rule and what belongs to it: struct ca_rule_degree."""
+    _fields_ = [*((name, ctypes.c_uint8) for name in ("fault", "degree", "right", "left", "right_multiplier", "left_multiplier")),
+                ("right_nodes", ctypes.c_uint16), ("left_nodes", ctypes.c_uint16), ("reserved", ctypes.c_uint8 * 6),
+                ("right_word", LetterRow), ("left_word", LetterRow)]
+
+
 class RoomHandle(ctypes.Structure):
     """Memory that calls use again and again: struct ca_room."""
     _fields_ = [("is_open", ctypes.c_bool), ("memory", ctypes.c_void_p)]
 
 
 class OpenRoom:
-    """A room of some 16 MB, which is open as long as this object is there. It serves one call at a time."""
+    """A room of some 17 MB, which is open as long as this object is there. It serves one call at a time."""
 
     def __init__(self, open_room: Callable[..., int], close: Callable[..., None]) -> None:
         self.handle = RoomHandle()
@@ -91,6 +109,8 @@ class Library:
             # Older ones of this version lack these.
             self._image = getattr(loaded, "ca_image", None)
             self._run_in = getattr(loaded, "ca_run_in", None)
+            self._moved = getattr(loaded, "ca_moved", None)
+            self._degree_in = getattr(loaded, "ca_degree_in", None)
             version = int(loaded.ca_version())
         except (OSError, AttributeError) as fault:
             raise LibraryMissingError(f"the library can't be loaded: {fault}; {ADVICE}") from fault
@@ -117,6 +137,9 @@ class Library:
             parts = [text, size, text, size, text, size]
             self._image.argtypes = [byte, byte, ctypes.c_int8, text, size, *parts, ctypes.c_int64, text, size]
             self._image.restype = byte
+        if self._moved is not None:
+            self._moved.argtypes = [byte, byte, ctypes.c_int8, text, size, ctypes.c_int8, ctypes.POINTER(MovedTable)]
+            self._moved.restype = byte
         if self._run_in is not None:
             handle = ctypes.POINTER(RoomHandle)
             self._run_in.argtypes = [handle, *self._run.argtypes]
@@ -124,6 +147,10 @@ class Library:
             self._room_open, self._room_close = loaded.ca_room_open, loaded.ca_room_close
             self._room_open.argtypes = self._room_close.argtypes = [handle]
             self._room_open.restype, self._room_close.restype = byte, None
+        if self._degree_in is not None:
+            self._degree_in.argtypes = [ctypes.POINTER(RoomHandle), byte, byte, ctypes.c_int8, text, size, ctypes.POINTER(RuleDegree),
+                                        text, size, ctypes.POINTER(size)]
+            self._degree_in.restype = byte
         self._rooms = threading.local()
         self.path = path
 
@@ -131,10 +158,14 @@ class Library:
         """What the program comes to on these words and this input."""
         if self._run_in is None:
             return self._called(self._run, words, data)
+        return self._called(functools.partial(self._run_in, self._own_room()), words, data)
+
+    def _own_room(self) -> Any:
+        """The handle of the room of this thread."""
         kept: OpenRoom | None = getattr(self._rooms, "kept", None)
         if kept is None:
             kept = self._rooms.kept = OpenRoom(self._room_open, self._room_close)
-        return self._called(functools.partial(self._run_in, ctypes.byref(kept.handle)), words, data)
+        return ctypes.byref(kept.handle)
 
     def run_json(self, words: Iterable[str], data: bytes = b"") -> Outcome:
         """The same, with the JSON form of the output: docs/ANSWERS.md."""
@@ -200,6 +231,20 @@ class Library:
         assert fault in (0, NOT_KEPT), fault
         return None if fault else found[:states ** (width + letters - 2)]
 
+    def degree(self, states: int, width: int, offset: int, table: bytes) -> tuple[RuleDegree, bytes]:
+        """The degree of a rule and what belongs to it, and the letters of its words. Other threads run meanwhile."""
+        if self._degree_in is None:
+            raise LibraryMissingError(f"the library {self.path} is older than ca_degree_in; {ADVICE}")
+        found, length = RuleDegree(), ctypes.c_size_t()
+        letters = ctypes.create_string_buffer(WORDS_ROOM)
+        while True:
+            code = int(self._degree_in(self._own_room(), states, width, offset, table, len(table), ctypes.byref(found), letters,
+                                       len(letters), ctypes.byref(length)))
+            if code != NO_ROOM:
+                break
+            letters = ctypes.create_string_buffer(length.value)
+        assert not code and not found.fault, (code, found.fault)    # the table is a rule's, and the room is open
+        return found, letters.raw[:length.value]
 
     def image(self, states: int, width: int, offset: int, table: bytes, parts: Sequence[bytes], first: int, count: int) -> bytes:
         """So many letters, from the cell `first` on, of the image of the configuration with these three parts. Other threads run
@@ -211,6 +256,16 @@ class Library:
         fault = int(self._image(states, width, offset, table, len(table), *sized, first, room, count))
         assert not fault, fault                 # rule, letters and periods have been looked at
         return room.raw[:count]
+
+    def moved(self, states: int, width: int, offset: int, table: bytes, by: int) -> tuple[list[int], bytes]:
+        """The configurations that a rule only moves by so many cells: for each node the letters of their windows, as bits, and the
+        letters of the least ring, of which there are none if there is no such configuration. Other threads run meanwhile."""
+        if self._moved is None:
+            raise LibraryMissingError(f"the library {self.path} is older than ca_moved; {ADVICE}")
+        found = MovedTable()
+        fault = int(self._moved(states, width, offset, table, len(table), by, ctypes.byref(found)))
+        assert not fault, fault                 # the rule and the cell have been looked at
+        return list(found.rows), bytes(found.ring[:found.length])
 
 
 def keep_freed_memory() -> None:

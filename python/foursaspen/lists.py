@@ -17,12 +17,15 @@ from typing import Any, Literal, NamedTuple, SupportsIndex, Union, overload
 
 from .bits import Bit, of_table
 from .commands import brief, inverse
+from .degrees import degree as degree_of
 from .faults import FoursaspenError, UsageError
 from .library import library
 from .operands import HEX, shape
-from .relations import RuleClass, as_dict, classes_in
+from .progress import bar_of
+from .relations import RuleClass, as_dict, classes_in, write_rows
 from .rule_values import DIGITS, Rule, index, items, look_at, refuse, whole
-from .surveys import AHEAD, bar_of, executor_of
+from .sums import Sum, SumWeights
+from .surveys import AHEAD, executor_of
 
 PARTS = 64                                      # of a list, at least, where the shape has so many tables
 OPEN = 255                                      # no letter: its window is open
@@ -71,50 +74,51 @@ class Rules(Iterator[Rule]):
         self._found.close()
 
     def to_csv(self, path: str | os.PathLike[str]) -> int:
-        """Writes a line for each rule with all that `as_dict` says of it into a file; how many there are."""
-        count = 0
+        """Writes a line for each rule with all that `as_dict` says of it into a file, the words between bars; how many there are."""
         with open(path, "w", newline="", encoding="utf-8") as file:
-            writer = csv.writer(file, lineterminator="\n")
-            for count, rule in enumerate(self, 1):
-                row = as_dict(rule)
-                if count == 1:
-                    writer.writerow(row)
-                writer.writerow("" if value is None else value for value in row.values())
-        return count
+            return write_rows(csv.writer(file, lineterminator="\n"), map(as_dict, self))
 
 
 @overload
 def rules(property: Properties, states: SupportsIndex, width: SupportsIndex, offset: SupportsIndex = 0, begin: str = "", *,
-          classes: Literal[False] = False, shifts: bool = False, essential: bool = False,
-          inverse_width: SupportsIndex | None = None, executor: Executor | None = None,
+          classes: Literal[False] = False, shifts: bool = False, essential: bool = False, every_cell: bool = False,
+          inverse_width: SupportsIndex | None = None, keeps: SumWeights | None = None,
+          degree: SupportsIndex | None = None, executor: Executor | None = None,
           progress: Callable[[Listing], object] | None = None, bar: bool = False) -> Rules: ...
 
 
 @overload
 def rules(property: Properties, states: SupportsIndex, width: SupportsIndex, offset: SupportsIndex = 0, begin: str = "", *,
-          classes: Literal[True], shifts: bool = False, essential: bool = False,
-          inverse_width: SupportsIndex | None = None, executor: Executor | None = None,
+          classes: Literal[True], shifts: bool = False, essential: bool = False, every_cell: bool = False,
+          inverse_width: SupportsIndex | None = None, keeps: SumWeights | None = None,
+          degree: SupportsIndex | None = None, executor: Executor | None = None,
           progress: Callable[[Listing], object] | None = None, bar: bool = False) -> Iterator[RuleClass]: ...
 
 
 def rules(property: Properties, states: SupportsIndex, width: SupportsIndex, offset: SupportsIndex = 0, begin: str = "", *,
-          classes: bool = False, shifts: bool = False, essential: bool = False, inverse_width: SupportsIndex | None = None,
-          executor: Executor | None = None, progress: Callable[[Listing], object] | None = None,
-          bar: bool = False) -> Rules | Iterator[RuleClass]:
+          classes: bool = False, shifts: bool = False, essential: bool = False, every_cell: bool = False,
+          inverse_width: SupportsIndex | None = None, keeps: SumWeights | None = None,
+          degree: SupportsIndex | None = None, executor: Executor | None = None,
+          progress: Callable[[Listing], object] | None = None, bar: bool = False) -> Rules | Iterator[RuleClass]:
     """All rules of a shape that have a property, or several, and whose tables begin so, each once. The properties are
     `surjective`, `injective`, `right`, `left`, `open` and `conserving`, or other words for them, as `reversible`, or Bits;
     `begin` has the first digits of the table. docs/LISTS.md has the order, and which shapes have an end in sight. The offset is
     0 where none is named, and that of a number is -1: a rule of the one offset isn't equal to one of the other.
 
-    Of several properties the list of one is gone through, and the rules are left out that haven't the others. `essential`
-    leaves out those that ignore their first or their last cell, and so have a smaller width too, and `inverse_width` those
-    that have no inverse of at most so many cells. With `classes` the classes of the rules come in place of the rules, each with
-    its least rule and with its members that are in the list; with `shifts` rules that only read other cells are in one class.
+    `all` has all rules of the shape, by their numbers, which needs no search and so no executor. Of several properties the list of
+    one is gone through, and the rules are left out that haven't the others. `essential` leaves out those that ignore their first
+    or their last cell, and so have a smaller width too, and `every_cell` those that ignore any cell of the window. `inverse_width`
+    leaves out those that have no inverse of at most so many cells, `keeps` those that don't keep the sum of these weights, as the
+    function `keeps` takes them, and `degree` those that have another degree. With `classes` the classes of the rules come in place
+    of the rules, each with its least rule and with its members that are in the list; with `shifts` rules that only read other
+    cells are in one class.
 
     Without an executor each rule is searched when it is asked for, with some more where they come quickly. An executor, any of
     concurrent.futures whose workers have this package, searches the parts of the shape side by side, and the rules of a part come
-    together; the order is the same. A list that is stopped or left ends within a second. `progress` is called with a Listing after each part, and `bar` shows a bar where tqdm is installed."""
-    wanted = bits_of(property)
+    together; the order is the same. A list that is stopped or left ends within a second. `progress` is called with a Listing after
+    each part, and `bar` shows a bar of tqdm, or a line on standard error where that isn't installed."""
+    everything = isinstance(property, str) and property.lower() == "all"
+    wanted = Bit(0) if everything else bits_of(property)
     states, width = shape(states, width)
     begins = index("offset is", "a whole number", offset)
     look_at(states, width, begins)
@@ -126,20 +130,29 @@ def rules(property: Properties, states: SupportsIndex, width: SupportsIndex, off
     if progress is not None and not callable(progress):
         raise refuse("progress is", "a function of a Listing", progress)
     narrow = None if inverse_width is None else whole("inverse_width is", inverse_width, 1, 5)
-    found = listed(next(bit for bit in RARER if bit in wanted), states, width, f"{states}:{width}:{begins}:t", begin,
-                   executor_of(executor), progress, bar)
+    wanted_degree = None if degree is None else whole("degree is", degree, 1, 16)
+    kept = None if keeps is None else Sum.of(states, keeps)
+    head, pool = f"{states}:{width}:{begins}:t", executor_of(executor)
+    found = (all_rules(states, width, head, begin, progress, bar) if everything else
+             listed(next(bit for bit in RARER if bit in wanted), states, width, head, begin, pool, progress, bar))
     if wanted.bit_count() > 1:
         found = (rule for rule in found if wanted in of_table(states, width, bytes(rule.table)))
     if essential:
         found = (rule for rule in found if rule.is_essential)
+    if every_cell:
+        found = (rule for rule in found if rule.reads_every_cell)
+    if kept is not None:
+        found = (rule for rule in found if kept.flux(rule) is not None)
     if narrow is not None:
         found = (rule for rule in found if has_inverse(rule, narrow))
+    if wanted_degree is not None:
+        found = (rule for rule in found if degree_of(rule).degree == wanted_degree)
     return classes_in(found, shifts) if classes else Rules(found)
 
 
 def bits_of(property: Properties) -> Bit:
     """The properties that are meant, as a sum."""
-    expected = f"one of {', '.join(PROPERTIES)}, or a list of them"
+    expected = f"one of {', '.join(PROPERTIES)}, or a list of them, or all"
     if isinstance(property, Bit):
         if not property:
             raise UsageError(f"property is {expected}, and not none of them")
@@ -168,6 +181,31 @@ def has_inverse(rule: Rule, most: int) -> bool:
 def letters(digits: str) -> bytes:
     """The letters that digits stand for."""
     return bytes(int(digit, 16) for digit in digits)
+
+
+def all_rules(states: int, width: int, head: str, begin: str, progress: Callable[[Listing], object] | None,
+              bar: bool) -> Generator[Rule, None, None]:
+    """All rules whose tables begin so, by their numbers, and as often as the last letters change how far it is."""
+    free = states ** width - len(begin)
+    low = free
+    while states ** (free - low) < PARTS and low > 0:
+        low -= 1
+    count, of, begun = 0, states ** (free - low), time.monotonic()
+    digits = DIGITS[:states]
+    shown = bar_of(of, 0, " parts") if bar else None
+    try:
+        for place, high in enumerate(product(digits, repeat=free - low), 1):
+            tail = "".join(reversed(high))
+            for stand in product(digits, repeat=low):
+                count += 1
+                yield Rule._made(f"{head}{begin}{''.join(reversed(stand))}{tail}")
+            if shown is not None:
+                shown.update(1)
+            if progress is not None:
+                progress(Listing(place, of, count, time.monotonic() - begun))
+    finally:
+        if shown is not None:
+            shown.close()
 
 
 def listed(property: int, states: int, width: int, head: str, begin: str, executor: Executor | None,

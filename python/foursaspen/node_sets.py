@@ -2,11 +2,11 @@
 ones."""
 from __future__ import annotations
 
-from .drawing import DARK, GREY, LIGHT, MARGIN, PAPER, PHONE, SHADE, Canvas
+from .drawing import DARK, GREY, LIGHT, MARGIN, MOST as LIMITS, PAPER, PHONE, SHADE, Canvas
 from .graphs import Graph
 from .rule_values import DIGITS
 
-MOST = 64                                       # sets that are drawn
+MOST = LIMITS["sets"]                           # that are drawn
 Nodes = frozenset[int]
 
 

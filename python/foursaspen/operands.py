@@ -31,12 +31,15 @@ def shape(states: SupportsIndex, width: SupportsIndex) -> tuple[int, int]:
     return whole("states is", states, 2, 16), whole("width is", width, 2, 5)
 
 
-def by_letters(name: str, given: Mapping[Any, Any], states: int) -> list[Any]:
-    """The values of a mapping at the letters 0 to states - 1, which it has to have and no others; a letter may be its digit."""
+def by_letters(name: str, given: Mapping[Any, Any], states: int, default: int | None = None) -> list[Any]:
+    """The values of a mapping at the letters 0 to states - 1; a letter may be its digit. It has to have them all, unless there is a
+    default, and no others."""
     known: dict[int, Any] = {}
     for key, value in given.items():
         letter = DIGITS.find(key.lower()) if isinstance(key, str) and len(key) == 1 else key
         known[index(f"a letter of {name} is", f"a whole number from 0 to {states - 1}", letter)] = value
+    if default is not None and set(known) <= set(range(states)):
+        known = {**dict.fromkeys(range(states), default), **known}
     if sorted(known) != list(range(states)):
         raise UsageError(f"{name} have the letters 0 to {states - 1}, and not {', '.join(map(str, sorted(known))) or 'none'}")
     return [known[letter] for letter in range(states)]
@@ -56,7 +59,7 @@ def weight_numbers(states: int, weights: Weights) -> tuple[int, ...]:
             raise UsageError(f"weights are whole numbers with one comma between, as '0,1', and not {short(weights)}")
         listed: list[Any] = [int(part) for part in weights.split(",")]
     elif isinstance(weights, Mapping):
-        listed = by_letters("weights", weights, states)
+        listed = by_letters("weights", weights, states, 0 if weights else None)
     else:
         listed = items("weights are", expected, weights)
     numbers = tuple(index("weights are", "whole numbers", weight) for weight in listed)
@@ -112,17 +115,6 @@ def digits_text(states: int, digits: Letters) -> str:
         raise NotFitError("permutation", why=f"the digits must name each of the letters 0 to {DIGITS[states - 1]} once, and are "
                           f"{text}")
     return text
-
-
-def word_letters(name: str, word: object, states: int) -> list[int]:
-    """The letters of a word, which is a text."""
-    if not isinstance(word, str):
-        raise TypeError(f"{name} is a text, and not of type {type(word).__name__}")
-    known = DIGITS[:states]
-    for digit in word.lower():
-        if digit not in known:
-            raise UsageError(f"{name} has letters from 0 to {known[-1]}, and not {digit!r}")
-    return [known.index(digit) for digit in word.lower()]
 
 
 def certificate_bytes(certificate: CertificateLike) -> bytes:

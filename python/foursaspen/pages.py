@@ -4,6 +4,7 @@ table first, and where it doesn't fit there is no page. It has no script and ask
 """
 from __future__ import annotations
 
+import os
 from collections.abc import Iterable, Iterator
 from html import escape
 from pathlib import Path
@@ -11,20 +12,30 @@ from urllib.parse import quote
 
 from . import prose
 from .commands import brief, certify, check, decide, erase, inverse
+from .degrees import Degree, degree
+from .drawing import Picture
 from .evidence import EvidenceError, is_erasable, left_after, mirrored, reached, undecided, work_out
-from .faults import NotFitError
+from .faults import NotFitError, UsageError
 from .graphs import Edge, Graph, written
+from .layout import fits
+from .moved_field import heading as heading_moved
+from .moves import all_moved, in_words
 from .operands import Weights
-from .pictures import DRAWN, drawn, signed, title, walks_of, windows
+from .pictures import drawn, drawn_moved, part_of, signed, title, walks_of, windows
 from .relations import class_of
 from .report import Closing, Report, Window
 from .rule_values import NUMBERED, Rule, RuleLike, mirror
+from .smaller import colours, smaller
 from .sums import kept_sums, ranges
 
 VERDICTS = ("surjective", "injective", "right", "left", "open", "conserving")
 LONGEST = 200                                   # letters of a word that is drawn, and steps of a table
 SHOWN = 24                                      # rules of a class that are named
 HEADED = 40                                     # letters of a heading
+WINDOWS = 32                                    # windows of moved configurations that are named
+MOVES = 3                                       # pictures of moved configurations
+MARKED = 16                                     # edges of a graph that such a picture has
+PLAIN = '{}[]":,|'                              # what stands in the address of a certificate as it is
 STYLE = Path(__file__).with_name("style.css")
 PAGE = """<!doctype html>
 <html lang=en>
@@ -32,8 +43,7 @@ PAGE = """<!doctype html>
 <meta name=viewport content="width=device-width">
 <link rel=icon href="data:,">
 <title>{title}</title>
-<style>
-{style}</style>
+{style}
 <body>
 {top}<main>
 <h1>{title}</h1>
@@ -44,16 +54,36 @@ PAGE = """<!doctype html>
 """
 
 
-def page(rule: RuleLike, weights: Weights | None = None) -> str:
+class Page(str):
+    """An HTML text, which a notebook shows as a page of its own."""
+
+    def _repr_html_(self) -> str:
+        return f"<iframe srcdoc='{escape(self)}' style='width: 100%; height: 600px; border: 1px solid'></iframe>"
+
+    def __repr__(self) -> str:
+        return f"<Page: {len(self):,} characters of HTML>"
+
+    def save(self, path: str | os.PathLike[str]) -> None:
+        """Writes the page to a file."""
+        Path(path).write_text(self, encoding="utf-8", newline="")
+
+
+def page(rule: RuleLike, weights: Weights | None = None) -> Page:
     """The page of a rule as an HTML text; EvidenceError where evidence doesn't fit the rule's table. Where weights are given, or a
     report has them, the sums are of these."""
     sections = Sections(decide(rule, weights))
     return whole_page(sections.name, "\n".join([*sections.all(), *sections.words()]))
 
 
-def whole_page(name: str, sections: str, top: str = "") -> str:
-    """A page with this title."""
-    return PAGE.format(title=escape(name), style=STYLE.read_text(encoding="utf-8"), sections=sections, top=top)
+def whole_page(name: str, sections: str, top: str = "", style: str | None = None) -> Page:
+    """A page with this title, with its style or with the file that has it."""
+    said = f"<style>\n{whole_style()}</style>" if style is None else f"<link rel=stylesheet href={style}>"
+    return Page(PAGE.format(title=escape(name), style=said, sections=smaller(sections), top=top))
+
+
+def whole_style() -> str:
+    """The style of pages and of their pictures."""
+    return STYLE.read_text(encoding="utf-8") + colours()
 
 
 def heading(report: Report) -> str:
@@ -82,6 +112,11 @@ def steps(summary: str, head: Iterable[str], rows: Iterable[Iterable[object]]) -
     heads = "".join(f"<th scope=col>{cell}</th>" for cell in head)
     return (f"<details open><summary>{summary}</summary><div class=scroll tabindex=0><table><caption>{summary}</caption>"
             f"<thead><tr>{heads}</tr></thead><tbody>{body}</tbody></table>{more}</div></details>")
+
+
+def boxed(picture: Picture) -> str:
+    """A picture that scrolls where it is wider than the page, and is as high as it is."""
+    return f"<div class='scroll whole' tabindex=0>{picture}</div>"
 
 
 class Sections:
@@ -114,6 +149,8 @@ class Sections:
         yield self.head("conserving", "Conserving")
         yield self.ring(report.ring) if report.ring else self.flux(report.flux or ())
         yield self.sums()
+        yield self.preimages()
+        yield self.moves()
         yield self.kin()
         yield self.certificates()
 
@@ -135,13 +172,16 @@ class Sections:
 
     def rule(self) -> str:
         """The table, and the graph."""
-        large = self.graph.states ** self.graph.width > DRAWN
-        shown = "" if large else f"<div class=scroll tabindex=0>{windows(self.report.rule)}</div>"
+        table = self.has_table()                # has each window already, with the letter that it gives
         return "".join([
-            "<h2 id=rule>The rule</h2><p>Each window with the letter that it gives, in the order of the windows' values, as the "
-            "table has them. Wolfram writes the letters in the reverse order.</p>", shown,
+            "<h2 id=rule>The rule</h2>", "" if table else f"<p>Each window with the letter that it gives, in the order of the windows' "
+            f"values, as the table has them. Wolfram writes the letters in the reverse order.</p>{boxed(windows(self.report.rule))}",
             f"<p>In the graph a {self.term('node')} is what is read last, and each edge reads a letter and writes one. A "
             f"configuration is a {self.term('walk')}, and what that writes is its image.</p>", self.drawn("graph")])
+
+    def has_table(self) -> bool:
+        """Whether the graph is a table with a row for each first letter of a window and a column for each last one."""
+        return not fits(self.graph) and self.graph.width == 2
 
     def head(self, key: str, name: str) -> str:
         verdict = said(self.report, key)
@@ -152,8 +192,8 @@ class Sections:
         """The graph, with numbers or without, or what stands beneath it alone."""
         if long > LONGEST:
             return f"<p class=note>It has {long:,} letters, too many for a picture.</p>"
-        made = drawn(self.report, show, with_graph=show in ("graph", "flux", "current"))
-        return f"<div class=scroll tabindex=0>{made}</div>"
+        made = drawn(self.report, show, with_graph=show in ("graph", "flux", "current"), headed=False)
+        return boxed(made)
 
     def told(self, show: str) -> str:
         """What a window or a look-ahead tells, where there is room for it."""
@@ -217,17 +257,30 @@ class Sections:
         except NotFitError:
             back = None
         return "".join([
-            f"<p>The letter at place {window.place}, from 0 on, of {window.letters + self.graph.width - 1} is told by their "
-            f"image, {counted(window.letters, 'letter')}: a {self.term('window')}.</p>", self.told("window"),
+            f"<p>Of any {window.letters + self.graph.width - 1} neighbouring cells the image has {counted(window.letters, 'letter')}, "
+            f"and {'this tells' if window.letters == 1 else 'these tell'} {self.which(window)}: a {self.term('window')}.</p>",
+            self.told("window"),
             steps("Two walks that differ at that place and write the same letters",
                   ("letters of the image", "pairs of nodes that are left"), enumerate(undecided(self.graph, window))),
             f"<p>The {self.term('inverse')} is {self.to(back) if back else 'wider than a rule may be'}.</p>"])
 
+    def which(self, window: Window) -> str:
+        """The cell that a window tells."""
+        last = window.letters + self.graph.width - 2
+        if window.place == 0:
+            return "the first one"
+        if window.place == last:
+            return "the last one"
+        return f"{'the middle one' if 2 * window.place == last else 'one of them'} (place {window.place}, from 0 on)"
+
     def ahead(self, ahead: int, side: str, other: str) -> str:
         counts = left_after(self.graph if side == "right" else mirrored(self.graph), ahead)
+        line = "row" if side == "right" else "column"
+        shown = (f"<p>In the table of the graph no letter stands twice behind a / in one {line}.</p>"
+                 if ahead == 1 and self.has_table() else self.told(side))
         return "".join([
             f"<p>Where two configurations agree to the {other} of a cell, that cell is told by {counted(ahead, 'letter')} of "
-            f"their image, and by no fewer: the {self.term('look-ahead')} is {ahead}.</p>", self.told(side),
+            f"their image, and by no fewer: the {self.term('look-ahead')} is {ahead}.</p>", shown,
             steps("Two walks from one node that read different letters first and write the same ones",
                   ("letters written", "pairs of nodes that are left"), enumerate(counts, 1))])
 
@@ -267,6 +320,48 @@ class Sections:
             "it is, and none of them is a combination of the others.</p>",
             steps("Sums that are kept", ("letters", "sums", "what the words of each weigh"), rows)])
 
+    def preimages(self) -> str:
+        """The degree with the walks that show it."""
+        found, nodes = degree(self.report.rule), self.graph.nodes
+        head = "<h2 id=degree>How many preimages</h2>"
+        if found.degree is None:
+            return f"{head}<p>Some word has no preimage, so it has no degree.</p>"
+        if found.right * found.left != found.degree * nodes:
+            raise EvidenceError(f"the degree doesn't fit the table of {self.report.rule}")
+        rows = [("last", found.right_word and code(found.right_word), found.right, " ".join(found.right_nodes)),
+                ("first", found.left_word and code(found.left_word), found.left, " ".join(found.left_nodes))]
+        text = "".join(
+            f"<p>The preimages of {word if word else 'the empty word'} have {counted(count, f'{which} node')}, {code(names)}, and no "
+            "word has fewer.</p>" for which, word, count, names in rows)
+        text += (f"<p>So the degree is {found.right} times {found.left} divided by {nodes}, the number of all nodes: {found.degree}. "
+                 + ("Each configuration has so many preimages.</p>" if self.report.open else
+                    "Some periodic configuration has so many preimages, and none has fewer.</p>"))
+        if found.flow is not None:
+            text += f"<p>Its flow is {found.flow}: so many times as much flows to the right as to the left.</p>"
+        return f"{head}{text}{self.cut(found)}"
+
+    def cut(self, found: Degree) -> str:
+        """The walks that show the degree, where there is room for them."""
+        try:
+            return boxed(found.picture())
+        except UsageError as fault:
+            return f"<p class=note>{fault}.</p>"
+
+    def moves(self) -> str:
+        """What the rule only moves, for each cell of the window, and pictures of what is more than one letter everywhere."""
+        found = list(all_moved(self.report.rule))
+        rows = [(in_words(one.by), one.ring or "none", " ".join(one.windows[:WINDOWS]) + (" .." if one.windows[WINDOWS:] else ""))
+                for one in found]
+        shown = [one for one in found if any(len(set(window)) > 1 for window in one.windows)]
+        small = len(self.graph.edges()) <= MARKED   # a large graph stands once on the page
+        pictures = "".join(
+            f"<p>{heading_moved(one) if small else part_of(one)[0].upper() + part_of(one)[1:]}.</p>"
+            f"{boxed(drawn_moved(one, with_graph=small, headed=False))}" for one in sorted(shown, key=lambda one: abs(one.by))[:MOVES])
+        return "".join([
+            f"<h2 id=moved>What it only moves</h2><p>Some configurations are {self.term('moved', 'only moved')}: their image is the "
+            "configuration itself, so many cells further on. A configuration is moved so exactly if it has only these windows.</p>",
+            steps("For each cell of the window", ("the rule ..", "least ring", "windows"), rows), pictures])
+
     def kin(self) -> str:
         """The mirrored rule, and the class."""
         rule = self.report.rule
@@ -276,13 +371,13 @@ class Sections:
         known = class_of(rule)
         names = ", ".join(map(self.to, known.members[:SHOWN]))
         more = f" and {len(known.members) - SHOWN:,} more" if len(known.members) > SHOWN else ""
-        return (f"{text}<p>With other names of the letters, in the mirror or both, and at offset 0, it is one of "
+        return (f"{text}<p>With other names of the letters, in the mirror or both, and at its own offset, it is one of "
                 f"{counted(len(known.members), 'rule')}: {names}{more}. The first has the least number of them.</p>")
 
     def to(self, rule: Rule) -> str:
         """A rule, with its number where it has a short one; it leads to its page where there is one."""
         number = rule.number
-        name = code(rule) + (f" ({number})" if number is not None and rule.states ** rule.width <= 9 else "")
+        name = code(rule) + (f" (Wolfram number {number})" if number is not None and rule.states ** rule.width <= 9 else "")
         place = self.pages.get(rule) or self.pages.get(at_zero(rule))
         return f"<a href='{place}'>{name}</a>" if place else name
 
@@ -293,7 +388,7 @@ class Sections:
             if any(getattr(verdicts, key) != bool(getattr(self.report, key)) for key in VERDICTS):
                 raise EvidenceError(f"the certificate of version {version} doesn't fit the report of {self.report.rule}")
             file = f"{self.report.rule[:60]} version {version}.json".replace(":", "_").replace(" ", "_")
-            links.append(f"<p><a download='{file}' href='data:application/json,{quote(text)}'>the certificate of version "
+            links.append(f"<p><a download='{file}' href='data:application/json,{quote(text, safe=PLAIN)}'>the certificate of version "
                          f"{version}, {len(text):,} bytes</a></p><details><summary>its text</summary><pre>{escape(text)}</pre></details>")
         return "".join([
             f"<h2 id=certificates>Certificates</h2><p>Each {self.term('certificate')} has all that is needed to check these "

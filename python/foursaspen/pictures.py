@@ -4,21 +4,26 @@ those of twins or of a split, a configuration with a preimage of it, what a wind
 from __future__ import annotations
 
 from dataclasses import dataclass
+from typing import SupportsIndex
 
 from .commands import decide, erase, preimage
-from .drawing import DARK, DASHES, FIRST, GREY, MARGIN, PAPER, PHONE, SECOND, SHADE, WIDEST, Canvas, Picture
+from .drawing import (DARK, DASHES, DESCRIBED, FIRST, GREY, LABELS, MARGIN, MOST, PAPER, PHONE, SECOND, SHADE, WIDEST, Canvas,
+                      Picture)
 from .graphs import Edge, Graph
 from .layout import RADIUS, fits, ring
+from .moved_field import draw_field, heading
+from .moves import Moved, in_words, moved
 from .node_sets import Nodes, draw_sets, sets_of
 from .operands import Weights
-from .report import Gap, Report, Tail
-from .rule_values import DIGITS, RuleLike, refuse, rule_of
+from .report import Gap, Report, Split, Tail
+from .rule_values import DIGITS, Rule, RuleLike, refuse, rule_of
 from .telling import CELL, Telling, by_look_ahead, by_window, draw_cases, draw_letter, own_place
 from .trellis import draw_reading, draw_walks
 
-# What a picture may show.
-SHOWN = ("graph", "orphan", "sets", "erase", "twins", "window", "right", "left", "flux", "current", "ring")
-DRAWN = 256                                     # windows of a picture, at most
+PICTURES = DESCRIBED["pictures"]
+MOVED = "moved"
+SHOWN = tuple(name for name in PICTURES if name not in ("preimage", "degree", MOVED))  # what a picture may show, besides these
+DRAWN = MOST["windows"]                         # of a picture, at most
 
 
 @dataclass(frozen=True)
@@ -60,53 +65,81 @@ class Sets:
 Beneath = Walks | Reading | Numbers | Sets | Telling | None
 
 
-def picture(rule: RuleLike, show: str | Tail | None = None, weights: Weights | None = None) -> Picture:
+def picture(rule: RuleLike, show: str | Tail | None = None, weights: Weights | None = None, *, by: SupportsIndex = 0) -> Picture:
     """The graph of a rule. Beneath it stands what `show` names: the reading of the least orphan or the list of sets that shows
     that there is none, the two walks of the least twins or what the least window tells, those of the least split of a side,
     `right` or `left`, or what the look-ahead tells, that of the least ring whose sum isn't kept; of a configuration, a Tail or
     its text, a preimage or the orphan in it; where it is None the orphan, if there is one. `graph` has nothing beneath it.
     `flux` and `current` have these numbers at the nodes, and at the edges what they carry, by the weights that are given or
-    that a report has. ValueError where the rule has no such thing, or too much of it for a picture."""
+    that a report has. `moved` marks the windows of the configurations that the rule only moves by so many cells, and has a part of one
+    beneath. ValueError where the rule has no such thing, or too much of it for a picture."""
     if not isinstance(show, (str, Tail, type(None))):
-        raise refuse("show is", f"one of {', '.join(SHOWN)}, or a configuration, a Tail or a text LEFT|MIDDLE|RIGHT", show)
+        raise refuse("show is", f"one of {', '.join((*SHOWN, MOVED))}, or a configuration, a Tail or a text LEFT|MIDDLE|RIGHT", show)
+    if show == MOVED:
+        return drawn_moved(moved(rule, by))
     return drawn(decide(rule, weights), show)
 
 
-def drawn(report: Report, show: str | Tail | None = None, with_graph: bool = True) -> Picture:
-    """The picture of a report; without the graph only what stands beneath it."""
+def drawn(report: Report, show: str | Tail | None = None, with_graph: bool = True, headed: bool = True) -> Picture:
+    """The picture of a report; without the graph only what stands beneath it, with what is said of it or without."""
     graph = Graph(report.rule, report.weights)
     below = beneath(report, show)
     what = f", and {below.heading[0].lower()}{below.heading[1:]}" if below else ""
-    canvas = Canvas(f"The de Bruijn graph of {title(report)}{what}" if with_graph or below is None else
+    canvas = Canvas(LABELS["graph"].format(rule=title(report)) + what if with_graph or below is None else
                     f"{title(report)}: {below.heading}")
     if with_graph:
         canvas.lines_of_text(26, title(report), 16, bold=True)
         draw_graph(canvas, graph, below.edges(graph) if isinstance(below, Walks) else [],
                    below if isinstance(below, Numbers) else None)
-    top = canvas.height + (34 if with_graph else 26)
+    top = canvas.height + (34 if with_graph else 26 if headed else 0)
+    said = below.heading if below and headed else ""
     if isinstance(below, Walks):
-        draw_walks(canvas, graph, below.rows, below.cells, below.moved, below.heading, top)
+        draw_walks(canvas, graph, below.rows, below.cells, below.moved, said, top)
     elif isinstance(below, Reading):
-        draw_reading(canvas, graph, below.orphan, below.heading, top)
+        draw_reading(canvas, graph, below.orphan, said, top)
     elif isinstance(below, Sets):
-        draw_sets(canvas, graph, below.found, below.heading, top)
+        draw_sets(canvas, graph, below.found, said, top)
     elif isinstance(below, Telling):
-        draw_cases(canvas, graph, below, top)
+        draw_cases(canvas, graph, below, said, top)
     return canvas.svg()
+
+
+def drawn_moved(found: Moved, with_graph: bool = True, headed: bool = True) -> Picture:
+    """The picture of what a rule only moves, with what is said of it or without; without the graph a part of such a configuration
+    alone."""
+    if not found:
+        raise ValueError(PICTURES[MOVED]["lacks"].format(moves=in_words(found.by)))
+    graph = Graph(found.rule)
+    name, said_below = title_of(found.rule), heading(found)
+    if not with_graph:
+        canvas = Canvas(f"{name}: {part_of(found)}")
+        draw_field(canvas, graph, found, "", 0)
+        return canvas.svg()
+    canvas = Canvas(f"{LABELS['graph'].format(rule=name)}, and {said_below[0].lower()}{said_below[1:]}")
+    canvas.lines_of_text(26, name, 16, bold=True)
+    draw_graph(canvas, graph, [[edge for edge in graph.edges() if edge.way in found.ways()]], None)
+    draw_field(canvas, graph, found, said_below + "." if headed else "", canvas.height + (34 if headed else 10))
+    return canvas.svg()
+
+
+def part_of(found: Moved) -> str:
+    """What a picture without the graph shows."""
+    return f"a part of a configuration that the rule {in_words(found.by)}, and its next two steps"
 
 
 def windows(rule: RuleLike) -> Picture:
     """The windows of a rule by their values, each with the letter that it gives beneath its own cell, or beneath its middle where
     it doesn't hold that cell."""
     known = rule_of(rule)
-    canvas, graph = Canvas(f"The windows of {known}, by their values, and what each gives"), Graph(known)
+    canvas, graph = Canvas(LABELS["windows"].format(rule=known)), Graph(known)
     step = CELL * known.width + 14
+    room = PHONE if len(graph.edges()) < 10 else WIDEST
     in_row = 1                                  # a power of the states: windows below each other end alike
-    while in_row < len(graph.edges()) and in_row * known.states * step <= WIDEST - 2 * MARGIN:
+    while in_row < len(graph.edges()) and in_row * known.states * step <= room - 2 * MARGIN:
         in_row *= known.states
     for place, edge in enumerate(graph.edges()[:DRAWN]):
         x, y = MARGIN + step * (place % in_row), 16 + (2 * CELL + 16) * (place // in_row)
-        with canvas.titled(f"{graph.window(edge)} gives {DIGITS[edge.image]}"):
+        with canvas.titled(LABELS["window"].format(window=graph.window(edge), letter=DIGITS[edge.image])):
             for at, letter in enumerate(graph.window(edge)):
                 draw_letter(canvas, known.states, letter, x + CELL * at, y)
             draw_letter(canvas, known.states, DIGITS[edge.image], x + CELL * own_place(graph), y + CELL + 2)
@@ -115,14 +148,18 @@ def windows(rule: RuleLike) -> Picture:
 
 def title(report: Report) -> str:
     """The rule: an elementary one by its number, another one by its table."""
-    return f"rule {report.number}" if report.rule.startswith("2:3:-1:") else str(report.rule)
+    return title_of(report.rule)
+
+
+def title_of(rule: Rule) -> str:
+    return LABELS["rule"].format(number=rule.number) if rule.startswith("2:3:-1:") else str(rule)
 
 
 def weighing(report: Report) -> str:
     """What the letters weigh, where that isn't their own value."""
     if report.weights is None:
         return ""
-    return f", where the letters weigh {', '.join(map(str, report.weights))}"
+    return LABELS["weights"].format(weights=", ".join(map(str, report.weights)))
 
 
 def beneath(report: Report, show: str | Tail | None) -> Beneath:
@@ -142,20 +179,19 @@ def beneath(report: Report, show: str | Tail | None) -> Beneath:
     if show == "sets":
         return sets_beneath(report)
     if show not in ("orphan", None):
-        raise ValueError(f"show is one of {', '.join(SHOWN)}, or a configuration LEFT|MIDDLE|RIGHT, and not {show!r}")
+        raise ValueError(f"show is one of {', '.join((*SHOWN, MOVED))}, or a configuration LEFT|MIDDLE|RIGHT, and not {show!r}")
     if report.orphan:
-        return Reading(f"No word has the image {report.orphan}: where a walk may be that writes it", report.orphan)
+        return Reading(PICTURES["orphan"]["heading"].format(orphan=report.orphan), report.orphan)
     if show:
-        raise ValueError("the rule is surjective: it has no orphan")
+        raise ValueError(PICTURES["orphan"]["lacks"])
     return None
 
 
 def sets_beneath(report: Report) -> Sets:
     """The list of sets of a surjective rule."""
     if report.orphan:
-        raise ValueError(f"the rule isn't surjective: after {report.orphan} the set of nodes is empty")
-    return Sets("Where a walk may be, whatever it has written: behind each letter, /0 and so on, stands the set that follows. No "
-                "set is empty, so every word has a preimage", sets_of(Graph(report.rule)))
+        raise ValueError(PICTURES["sets"]["lacks"].format(orphan=report.orphan))
+    return Sets(PICTURES["sets"]["heading"], sets_of(Graph(report.rule)))
 
 
 def told_of(report: Report, show: str) -> Telling | None:
@@ -164,7 +200,7 @@ def told_of(report: Report, show: str) -> Telling | None:
     graph = Graph(report.rule)
     if show == "window":
         if not report.window:
-            raise ValueError("the rule isn't injective: it has no window")
+            raise ValueError(PICTURES["window"]["lacks"])
         return by_window(graph, report.window)
     ahead = (report.right if show == "right" else report.left).ahead
     return by_look_ahead(graph, ahead, show) if ahead else None
@@ -173,45 +209,39 @@ def told_of(report: Report, show: str) -> Telling | None:
 def numbers_of(report: Report, show: str) -> Numbers:
     """The flux or the current; ValueError where there is none, or it has other words than the graph has nodes."""
     if report.flux is None:
-        raise ValueError(f"the rule isn't conserving: it has no {show}")
+        raise ValueError(PICTURES[show]["lacks"])
+    heading = PICTURES[show]["heading"] + weighing(report)
     if show == "flux":
-        return Numbers("At a node its flux; at an edge what the letter of the image weighs more than the first letter of the "
-                       f"window, which is the flux where the edge begins less that where it ends{weighing(report)}",
-                       report.flux, 0)
+        return Numbers(heading, report.flux, 0)
     if not 0 <= -report.rule.offset < report.rule.width:
-        raise ValueError("the window of a cell doesn't hold the cell itself: the current is no number for each node")
-    return Numbers("At a node the current; at an edge what the letter of the image weighs more than the cell before, which is the "
-                   f"current where the edge begins less that where it ends{weighing(report)}", report.current or (),
-                   -report.rule.offset)
+        raise ValueError(PICTURES[show]["outside"])
+    return Numbers(heading, report.current or (), -report.rule.offset)
 
 
 def walks_of(report: Report, show: str) -> Walks:
     """The walks of the twins, of an erasable pair, of a split or of a ring; ValueError where there are none."""
-    if show == "erase":
-        pair = erase(report.rule)
-        if pair is None:
-            raise ValueError("the rule is surjective: it has no erasable pair")
-        heading = f"{pair.first} and {pair.second} may stand for each other everywhere: two walks that differ only in them"
-        tails = [Tail(word[0], word, word[-1]) for word in (pair.first, pair.second)]
-        return Walks(heading, {"first": tails[0], "second": tails[1]}, seen_at(Graph(report.rule), range(len(pair.first))))
+    tails, cells = walked(report, show)
+    if not tails:
+        raise ValueError(PICTURES[show]["lacks"])
+    named = [str(tail) if PICTURES[show]["each"] == "tail" else tail.middle or tail.left for tail in tails]
+    heading = PICTURES[show]["heading"].format(*named, weights=weighing(report))
+    return Walks(heading, dict(zip(PICTURES[show]["rows"], tails)), cells)
+
+
+def walked(report: Report, show: str) -> tuple[list[Tail], range]:
+    """Configurations with one image, or a ring, and the cells that are shown; none where the rule has no such thing."""
+    split = {"right": report.right, "left": report.left}.get(show, report.right).split
+    pair = erase(report.rule) if show == "erase" else report.twins if show == "twins" else split
     if show == "ring":
-        if not report.ring:
-            raise ValueError("the rule is conserving: each ring keeps its sum")
-        return Walks(f"The ring of {report.ring} and its image have different sums{weighing(report)}: the walk along it",
-                     {"ring": Tail.ring(report.ring)}, range(len(report.ring)))
+        return [Tail.ring(report.ring)] if report.ring else [], range(len(report.ring or ""))
+    if pair is None:
+        return [], range(0)
+    if isinstance(pair, Split):
+        return [pair.first, pair.second], seen_at(Graph(report.rule), shown_of(pair.first, pair.second))
+    words, cells = (pair.first, pair.second), range(len(pair.first))
     if show == "twins":
-        if not report.twins:
-            raise ValueError("the rule is injective: it has no twins")
-        first, second = Tail.ring(report.twins.first), Tail.ring(report.twins.second)
-        heading = f"The rings of {report.twins.first} and {report.twins.second} have one image: the walks along them"
-        return Walks(heading, {"first": first, "second": second}, range(len(report.twins.first)))
-    split = (report.right if show == "right" else report.left).split
-    if not split:
-        raise ValueError(f"the rule closes on the {show}: it has no split there")
-    heading = (f"{split.first} and {split.second} have one image and agree to the "
-               f"{'left' if show == 'right' else 'right'}: their walks")
-    return Walks(heading, {"first": split.first, "second": split.second},
-                 seen_at(Graph(report.rule), shown_of(split.first, split.second)))
+        return [*map(Tail.ring, words)], cells
+    return [Tail(word[0], word, word[-1]) for word in words], seen_at(Graph(report.rule), cells)
 
 
 def shown_of(*tails: Tail) -> range:
@@ -230,23 +260,23 @@ def preimage_of(report: Report, show: Tail | str) -> Walks | Reading:
     found = preimage(report.rule, show)
     tail = show if isinstance(show, Tail) else Tail.of(show)
     if isinstance(found, Gap):
-        return Reading(f"Nothing maps to {tail}: a part of it is {found.word}, which no word has as its image", found.word)
+        return Reading(PICTURES["preimage"]["gap"].format(tail=tail, word=found.word), found.word)
     own, given = shown_of(found.tail), shown_of(tail)
     cells = range(min(own.start + found.start, given.start), max(own.stop + found.start, given.stop))
-    return Walks(f"{found.tail} from cell {found.start} on maps to {tail}: the walk along it", {"preimage": found.tail},
-                 cells, found.start)
+    heading = PICTURES["preimage"]["heading"].format(found.tail, start=found.start, tail=tail)
+    return Walks(heading, dict(zip(PICTURES["preimage"]["rows"], [found.tail])), cells, found.start)
 
 
 def draw_graph(canvas: Canvas, graph: Graph, walks: list[list[Edge]], numbers: Numbers | None) -> None:
     """The graph as nodes and edges, or as a table where there are too many edges."""
-    said = "letter read / letter of the image"
+    said = LABELS["edges"]
     if numbers is not None:
         said = numbers.heading[0].lower() + numbers.heading[1:]
     if fits(graph):
         draw_ring(canvas, graph, walks, numbers)
     else:
         draw_table(canvas, graph, walks, numbers)
-        said += "; the edge leads to the node of the letter read"
+        said += LABELS["table"]
     canvas.lines_of_text(canvas.height + 22, said, 12, GREY, room=PHONE)
 
 
@@ -287,7 +317,7 @@ def draw_ring(canvas: Canvas, graph: Graph, walks: list[list[Edge]], numbers: Nu
 def draw_table(canvas: Canvas, graph: Graph, walks: list[list[Edge]], numbers: Numbers | None) -> None:
     """A row for each node and a column for each letter that is read: the letter of the image is written there."""
     wide, high, left, top = 34, 24, MARGIN + 70, canvas.height + 45
-    canvas.text(left - 14, top - 12, "node", anchor="end", color=GREY)
+    canvas.text(left - 14, top - 12, LABELS["node"], anchor="end", color=GREY)
     for letter in range(graph.states):
         canvas.text(left + wide * (letter + 0.5), top - 12, f"{letter:x}/", bold=True)
     for node in range(graph.nodes):

@@ -20,7 +20,7 @@ PARTS = {
     "node": "the-graph", "walk": "the-graph", "orphan": "an-orphan", "surjective": "an-orphan", "erasable pair": "an-orphan",
     "twins": "twins", "injective": "a-window", "window": "a-window", "inverse": "a-window", "split": "a-split",
     "closes": "a-split", "look-ahead": "a-look-ahead", "open": "a-look-ahead", "ring": "a-ring", "conserving": "a-ring",
-    "flux": "a-flux", "current": "a-current", "certificate": "all-configurations", "sum": "a-ring",
+    "flux": "a-flux", "current": "a-current", "moved": "only-moved", "certificate": "all-configurations", "sum": "a-ring",
 }
 
 
@@ -44,32 +44,32 @@ def link(word: str, page: str = "", shown: str | None = None) -> str:
     return f"<a class=term href='{page}#{PARTS[word]}'>{escape(shown or word)}</a>"
 
 
-def written(pictures: dict[str, str] | None = None) -> str:
-    """All parts; with pictures by the names of their files, or without any."""
-    return "".join("".join(part(name, blocks, pictures or {})) for name, blocks in parts().items())
+def written(pictures: dict[str, str] | None = None, level: int = 3) -> str:
+    """All parts, with headings of this level; with pictures by the names of their files, or without any."""
+    return "".join("".join(part(name, blocks, pictures or {}, level)) for name, blocks in parts().items())
 
 
-def part(name: str, blocks: list[str], pictures: dict[str, str]) -> Iterator[str]:
+def part(name: str, blocks: list[str], pictures: dict[str, str], level: int) -> Iterator[str]:
     """A part: its heading, and then its blocks."""
-    yield f"<h3 id={name}>{escape(blocks[0])}</h3>"
+    yield f"<h{level} id={name}>{escape(blocks[0])}</h{level}>"
     for block in blocks[1:]:
         picture = re.fullmatch(r"!\[(.*)\]\((.*)\)", block)
         if picture:
-            yield f"<div class=scroll>{pictures[picture[2]]}</div>" if picture[2] in pictures else ""
+            yield f"<div class=scroll tabindex=0>{pictures[picture[2]]}</div>" if picture[2] in pictures else ""
         elif block.startswith("    "):
             yield f"<pre>{escape(re.sub('(?m)^    ', '', block))}</pre>"
         elif block.startswith("|"):
-            yield table(block.split("\n"))
+            yield table(block.split("\n"), blocks[0])
         else:
             yield f"<p>{inline(block)}</p>"
 
 
-def table(rows: list[str]) -> str:
+def table(rows: list[str], caption: str) -> str:
     cells = [re.split(r"(?<!\\)\|", row)[1:-1] for row in rows if not set(row) <= set("|- ")]
     heads, *lines = [[inline(cell.strip()) for cell in row] for row in cells]
     head = "".join(f"<th scope=col>{cell}</th>" for cell in heads)
     body = "".join(f"<tr>{''.join(f'<td>{cell}</td>' for cell in line)}</tr>" for line in lines)
-    return f"<div class=scroll><table><tr>{head}</tr>{body}</table></div>"
+    return f"<div class=scroll tabindex=0><table><caption>{escape(caption)}</caption><tr>{head}</tr>{body}</table></div>"
 
 
 def inline(text: str) -> str:

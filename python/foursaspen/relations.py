@@ -3,17 +3,20 @@ from __future__ import annotations
 
 import math
 from collections.abc import Iterable, Iterator
-from dataclasses import dataclass
 from itertools import permutations, product
+from operator import itemgetter
 from typing import Any, NamedTuple, SupportsIndex
 
 from .commands import decide, inverse, least, trim
-from .faults import NotFitError, UsageError
-from .rule_values import NUMBERED, Rule, RuleLike, mirror, renamed, rule_of, whole
-from .sums import kept_sums, ranges
+from .degrees import degree
+from .faults import NotFitError
+from .moves import moved_rings, rings_of
+from .powers import Power
+from .report import Report, barred, flat
+from .rule_values import DIGITS, NUMBERED, Rule, RuleLike, mirror, renamed, rule_of, whole
+from .sums import kept_counts
 
 RINGS = 1024                                    # of one length that are turned round
-LARGEST = 1 << 20                               # letters of the table of a power
 
 
 class RuleClass(NamedTuple):
@@ -24,12 +27,12 @@ class RuleClass(NamedTuple):
 
 
 def class_of(rule: RuleLike) -> RuleClass:
-    """All rules of the class of a rule, at offset 0, by their numbers; NotFitError from seven states on."""
+    """All rules of the class of a rule, at the offset of the rule, by their numbers; NotFitError from seven states on."""
     known = rule_of(rule)
-    first = least(known)                        # which has offset 0
+    first = Rule(states=known.states, offset=known.offset, table=least(known).table)
     names = list(permutations(range(known.states)))
     members = {renamed(side, order) for side in (first, mirror(first)) for order in names}
-    here = {Rule(states=one.states, table=one.table) for one in members}
+    here = {Rule(states=one.states, offset=known.offset, table=one.table) for one in members}
     return RuleClass(first, tuple(sorted(here, key=lambda one: one.table[::-1])))
 
 
@@ -41,6 +44,50 @@ def classes_in(found: Iterable[Rule], shifts: bool = False) -> Iterator[RuleClas
         members.setdefault(least(trim(rule) if shifts else rule), []).append(rule)
     for first, those in members.items():
         yield RuleClass(first, tuple(those))
+
+
+def shape_classes(states: int, width: int, offset: int) -> Iterator[RuleClass]:
+    """The classes of all rules of a shape, by their least numbers. Each rule is met once: the first one of a class, by its number, is
+    its least one, and the others are made of it."""
+    words, digits = list(product(range(states), repeat=width)), DIGITS[:states]
+    changes = []                                # where the letter of each window comes from, and its new name
+    for names in permutations(range(states)):
+        back = [names.index(letter) for letter in range(states)]
+        named = str.maketrans(digits, "".join(digits[name] for name in names))
+        for turn in (1, -1):
+            places = [value_of(states, [back[letter] for letter in word][::turn]) for word in words]
+            changes.append((itemgetter(*places), named))
+    met = bytearray(states ** len(words))
+    head = f"{states}:{width}:{offset}:t"
+    for number in range(len(met)):
+        if met[number]:
+            continue
+        table = "".join(digits[number // states ** window % states] for window in range(len(words)))
+        members = {}
+        for moved, named in changes:
+            made = "".join(moved(table)).translate(named)
+            members[int(made[::-1], states)] = made
+        for member in members:
+            met[member] = 1
+        found = tuple(Rule._made(head + members[member]) for member in sorted(members))
+        yield RuleClass(found[0], found)
+
+
+def value_of(states: int, word: Iterable[int]) -> int:
+    value = 0
+    for letter in word:
+        value = value * states + letter
+    return value
+
+
+def is_linear(rule: RuleLike) -> bool:
+    """Whether a rule is linear up to a constant: it adds up multiples of the letters of the window and a constant, modulo the number
+    of states."""
+    known = rule_of(rule)
+    k, m, table = known.states, known.width, known.table
+    times = [table[k ** (m - 1 - place)] - table[0] for place in range(m)]
+    return all((table[0] + sum(a * b for a, b in zip(times, window)) - letter) % k == 0
+               for window, letter in zip(product(range(k), repeat=m), table))
 
 
 def is_involution(rule: RuleLike) -> bool:
@@ -71,13 +118,16 @@ def order(rule: RuleLike, most: SupportsIndex = 12) -> int | None:
 
 def returning(rule: Rule, ring: tuple[int, ...], steps: int) -> int | None:
     """After how many steps a ring is back, where these are few enough."""
-    here, table = ring, rule.table
+    k, width, table = rule.states, rule.width, rule.table       # a rule is a text, and each of these reads it
+    turn, more = rule.offset % len(ring), -(-width // len(ring)) + 1
+    here = ring
     for count in range(1, steps + 1):
+        round_it = here[turn:] + here * more
         image = []
-        for cell in range(len(here)):
+        for cell in range(len(ring)):
             window = 0
-            for place in range(rule.width):
-                window = window * rule.states + here[(cell + rule.offset + place) % len(here)]
+            for letter in round_it[cell:cell + width]:
+                window = window * k + letter
             image.append(table[window])
         here = tuple(image)
         if here == ring:
@@ -85,55 +135,44 @@ def returning(rule: Rule, ring: tuple[int, ...], steps: int) -> int | None:
     return None
 
 
-@dataclass(frozen=True)
-class Power:
-    """A map of configurations by a table of any width, without cells at the ends that it ignores."""
-    states: int
-    width: int
-    offset: int
-    table: tuple[int, ...]
-
-    @staticmethod
-    def of(rule: Rule) -> Power:
-        return Power(rule.states, rule.width, rule.offset, rule.table).trimmed()
-
-    def trimmed(self) -> Power:
-        k, width, offset, table = self.states, self.width, self.offset, self.table
-        while width > 1 and table == table[:len(table) // k] * k:
-            width, offset, table = width - 1, offset + 1, table[:len(table) // k]
-        while width > 1 and all(table[at::k] == table[::k] for at in range(1, k)):
-            width, table = width - 1, table[::k]
-        return Power(k, width, offset, table)
-
-    def after(self, first: Power) -> Power:
-        """What comes of the first map and then of this one."""
-        k, width = self.states, self.width + first.width - 1
-        if k ** width > LARGEST:
-            raise UsageError(f"a power of the rule reads {width} cells, whose table is too large")
-        read, small = k ** first.width, k ** self.width
-        table = []
-        for word in range(k ** width):
-            window = 0
-            for place in reversed(range(self.width)):
-                window = window * k + first.table[word // k ** place % read]
-            table.append(self.table[window % small])
-        return Power(k, width, self.offset + first.offset, tuple(table)).trimmed()
-
-    def is_identity(self) -> bool:
-        return (self.width, self.offset, self.table) == (1, 0, tuple(range(self.states)))
-
-
 def as_dict(rule: RuleLike) -> dict[str, Any]:
     """All that is known of a rule in one row of values that JSON and a cell of a table have room for: the verdicts and their
-    evidence, the inverse as a rule, the least rule of its class, and how many sums it keeps of words of 1 letter, of 2 and so on.
-    None where there is no such thing."""
-    report = decide(rule)
+    evidence, the inverse as a rule, the least rule of its class at the offset of the rule, how many sums it keeps of words of 1
+    letter, of 2 and so on, the least ring that it only moves for each cell of its window, its degree, the fewest last nodes and
+    first nodes that a word has, and its flow. None where there is no such thing."""
+    return row_of(decide(rule))
+
+
+def row_of(report: Report) -> dict[str, Any]:
+    """The same of the rule of a report."""
     known = report.rule
     row = report.as_dict()
     row["inverse"] = inverse_of(known) if report.injective else None
-    row["least"] = least(known) if known.states <= NUMBERED else None
-    row["kept_sums"] = " ".join(str(len(kept_sums(known, letters).rows)) for letters in ranges(known.states))
+    row["least"] = least_at_offset(known) if known.states <= NUMBERED else None
+    row["kept_sums"] = flat(kept_counts(known))
+    row["moved"] = rings_of(moved_rings(known))
+    row |= {"degree": None, "last_nodes": 0, "first_nodes": 0, "flow": None}
+    if report.surjective:
+        found = degree(known)
+        row |= {"degree": found.degree, "last_nodes": found.right, "first_nodes": found.left,
+                "flow": None if found.flow is None else str(found.flow)}
     return row
+
+
+def write_rows(writer: Any, rows: Iterable[dict[str, Any]]) -> int:
+    """Writes a line of CSV for each row, the words between bars, below the names of the values; how many rows there were."""
+    count = 0
+    for count, row in enumerate(rows, 1):
+        if count == 1:
+            writer.writerow(row)
+        row = {**row, "orphan": barred(row["orphan"]), "ring": barred(row["ring"])}
+        writer.writerow("" if value is None else value for value in row.values())
+    return count
+
+
+def least_at_offset(rule: Rule) -> Rule:
+    """The least rule of a class, at the offset of the rule and not at 0. So a rule that is the least of its class is equal to it."""
+    return Rule(states=rule.states, offset=rule.offset, table=least(rule).table)
 
 
 def inverse_of(rule: Rule) -> Rule | None:

@@ -7,16 +7,19 @@ from __future__ import annotations
 
 import html
 import json
+import os
 import re
 from collections.abc import Iterable
 from dataclasses import dataclass, field, fields
+from fractions import Fraction
 from functools import cached_property
+from pathlib import Path
 from reprlib import repr as short
 from typing import Any, Literal
 
-from .currents import current_of
+from .currents import current_of, reach
 from .faults import UsageError
-from .rule_values import DIGITS, Rule, refuse
+from .rule_values import DIGITS, Rule, Word, refuse, word_letters
 
 LISTED = 64                                     # rows of a table, and letters in cells of their own
 
@@ -41,6 +44,11 @@ def flat(value: Any) -> Any:
     if isinstance(value, (tuple, list)):
         return " ".join(map(str, value))
     return value if value is None or isinstance(value, (bool, int, str)) else str(value)
+
+
+def barred(word: str | None) -> str:
+    """A word in a CSV file: between bars, since pandas and spreadsheets take 010 for the number 10."""
+    return "" if word is None else f"|{word}|"
 
 
 # Lines
@@ -207,6 +215,11 @@ class Report(Answer):
             verdict("conserving", self.conserving, *(("ring", self.ring) if self.flux is None else ("flux", *self.flux)))])
 
     @property
+    def reversible(self) -> bool:
+        """The same as `injective`."""
+        return self.injective
+
+    @cached_property
     def current(self) -> tuple[int, ...] | None:
         """What moves between neighbours, or None where the sum isn't kept: a number for each word of width - 1 letters, by the
         word's value. The word lies to the left of a place between two cells where the offset is 1 - width, and round it or to
@@ -216,6 +229,24 @@ class Report(Answer):
             return None
         rule = self.rule
         return current_of(rule.states, rule.width, rule.offset, 1, self.flux, self.weights or range(rule.states))
+
+    def flow(self, ring: Word) -> Fraction | None:
+        """How much moves to the right past a border between two cells of a ring, in the mean over the borders: the sum of the current
+        round the ring, by its number of letters. None where the sum isn't kept."""
+        numbers, letters = self.current, word_letters("ring", ring, self.rule.states)
+        if numbers is None:
+            return None
+        if not letters:
+            raise UsageError("ring has at least one letter, and not none")
+        states, total = self.rule.states, 0
+        size = reach(self.rule.width, self.rule.offset, 1)
+        around = letters * (2 + size // len(letters))
+        for place in range(len(letters)):
+            word = 0
+            for letter in around[place:place + size]:
+                word = word * states + letter
+            total += numbers[word]
+        return Fraction(total, len(letters))
 
     def as_dict(self) -> dict[str, Any]:
         values = super().as_dict()
@@ -264,6 +295,10 @@ class Certificate(Answer):
     def as_dict(self) -> dict[str, Any]:
         return dict(self.data)
 
+    def save(self, path: str | os.PathLike[str]) -> None:
+        """Writes the text to a file."""
+        Path(path).write_text(self.text, encoding="utf-8", newline="")
+
     def __repr__(self) -> str:
         return f"Certificate({str(self.rule)!r}, version={self.data['version']}, {len(self.text):,} bytes)"
 
@@ -285,6 +320,11 @@ class Verdicts(Answer):
     open: bool
     conserving: bool
     weights: tuple[int, ...] | None
+
+    @property
+    def reversible(self) -> bool:
+        """The same as `injective`."""
+        return self.injective
 
     @property
     def text(self) -> str:
@@ -321,19 +361,19 @@ class Language(Answer):
         return {"classes": self.classes, "dead": self.dead, "after": [list(row) for row in self.after]}
 
     def class_of(self, word: object) -> int:
-        """The class of a word, which is a text."""
-        if not isinstance(word, str):
-            raise TypeError(f"word is a text, and not of type {type(word).__name__}")
-        here, known = 0, DIGITS[:len(self.after[0])]
-        for digit in word.lower():
-            if digit not in known:
-                raise UsageError(f"word has letters from 0 to {known[-1]}, and not {digit!r}")
-            here = self.after[here][known.index(digit)]
+        """The class of a word, which is a text, or a list or an array of letters."""
+        here = 0
+        for letter in word_letters("word", word, len(self.after[0])):
+            here = self.after[here][letter]
         return here
 
     def __contains__(self, word: object) -> bool:
         """Whether the word has a preimage."""
         return self.class_of(word) != self.dead
+
+    def accepts(self, word: Word) -> bool:
+        """The same as `word in language`."""
+        return word in self
 
     def _repr_html_(self) -> str:
         rows = [[f"{here}, of the orphans" if here == self.dead else str(here), *map(str, row)]

@@ -7,11 +7,12 @@ import re
 from collections.abc import Callable, Iterable, Sequence
 from itertools import product
 from reprlib import repr as short
-from typing import Any, Protocol, SupportsIndex, Union
+from typing import TYPE_CHECKING, Any, Protocol, SupportsIndex, Union
 
 from .faults import RuleError, UsageError, WordsError
 
 DIGITS = "0123456789abcdef"
+VALUES = bytes.maketrans(DIGITS.encode(), bytes(range(16)))
 ELEMENTARY = 256
 NUMBERED = 6                                    # states of rules that have numbers, at most
 NODES = 16
@@ -24,6 +25,14 @@ BEGUN = (re.compile(r"[0-9]{0,39}"),
          re.compile(r"(?:[0-9]{1,2}(?::(?:[0-9]{1,2}(?::(?:-?(?:[0-9]{1,2}(?::(?:t[0-9a-fA-F]*|w[0-9]{0,39})?)?)?)?)?)?)?)?"))
 
 
+# The calls of the package whose first operand is a rule: no methods of a rule.
+CALLS = frozenset((
+    "as_dict", "blocks", "brief", "certify", "class_of", "commutes", "compose", "count_preimages", "current", "decide", "degree",
+    "erase", "flux", "image", "inverse", "is_involution", "is_linear", "keeps", "kept_sums", "language", "least", "lift", "moved",
+    "order", "orphan", "page", "permute", "picture", "power", "preimage", "preimages", "reflect", "same", "shift", "symmetries",
+    "time_reversal", "to_dot", "to_networkx", "trim", "undoes", "unlift", "widen", "windows"))
+
+
 class HasRule(Protocol):
     """A report, verdicts, an inverse, a certificate."""
 
@@ -32,6 +41,7 @@ class HasRule(Protocol):
 
 
 RuleLike = Union[str, SupportsIndex, HasRule]
+Word = Union[str, Iterable[SupportsIndex]]
 
 
 def refuse(name: str, expected: str, value: object) -> TypeError:
@@ -64,6 +74,18 @@ def items(name: str, expected: str, value: Any) -> list[Any]:
     return list(value)
 
 
+def word_letters(name: str, word: object, states: int) -> list[int]:
+    """The letters of a word, which is a text of digits, or a list or an array of whole numbers."""
+    if not isinstance(word, str):
+        return [whole(f"a letter of {name} is", letter, 0, states - 1)
+                for letter in items(f"{name} is", "a text of digits or a list of letters", word)]
+    known = DIGITS[:states]
+    for digit in word.lower():
+        if digit not in known:
+            raise UsageError(f"{name} has letters from 0 to {known[-1]}, and not {digit!r}")
+    return [known.index(digit) for digit in word.lower()]
+
+
 class Rule(str):
     """A rule, by its table. It is the text STATES:WIDTH:OFFSET:tTABLE, and has what that says as values:
 
@@ -80,19 +102,35 @@ class Rule(str):
         True
         >>> Rule.of(lambda a, b, c: (a + c) % 2, states=2, offset=-1).number
         90
+
+    A number of any shape is handed over with the shape, and without one it is that of an elementary rule. By default a window
+    lies round its cell.
+
+        >>> Rule(number=110) == rule, Rule(number=6000, states=2, width=4)
+        (True, Rule('2:4:-1:t0000111011101000'))
     """
     __slots__ = ()
 
     def __new__(cls, rule: RuleLike | None = None, *, states: SupportsIndex | None = None, width: SupportsIndex | None = None,
-                offset: SupportsIndex = 0, table: Iterable[SupportsIndex] | None = None) -> Rule:
+                offset: SupportsIndex | None = None, table: Iterable[SupportsIndex] | None = None,
+                number: SupportsIndex | None = None) -> Rule:
+        if number is not None:
+            alone = states is None and width is None and 0 <= index("number is", "a whole number", number) < ELEMENTARY
+            if rule is not None or table is not None or not alone and (states is None or width is None):
+                raise TypeError("a number is handed over with states and width, as Rule(number=6000, states=2, width=4), or is that of "
+                                "an elementary rule, as Rule(number=110)")
+            return of_shape(2 if states is None else states, 3 if width is None else width, offset, number)
         if table is None:
             if rule is None:
                 raise TypeError("a rule is made of a text, of a number, or of states and a table")
+            if (states, width, offset) != (None, None, None):
+                raise TypeError("states, width and offset go with a table: a rule has its own. The text of a number of another shape "
+                                "is STATES:WIDTH:OFFSET:wNUMBER, as '2:4:-1:w6000', and shift gives a rule another offset")
             return rule_of(rule)
         if rule is not None or states is None:
             raise TypeError("a table is handed over with the number of states, as Rule(states=2, table=[0, 1, 1, 0])")
         letters = items("table is", "a list of letters", table)
-        return of_table(states, width, offset, letters)
+        return of_table(states, width, 0 if offset is None else offset, letters)
 
     @classmethod
     def _made(cls, text: str) -> Rule:
@@ -146,7 +184,7 @@ class Rule(str):
     @property
     def states(self) -> int:
         """How many letters there are."""
-        return int(self.split(":")[0])
+        return int(self.partition(":")[0])
 
     @property
     def width(self) -> int:
@@ -161,7 +199,7 @@ class Rule(str):
     @property
     def table(self) -> tuple[int, ...]:
         """The letter of each window, in the order of the windows' values."""
-        return tuple(int(digit, 16) for digit in self.split(":t")[1])
+        return tuple(self.partition("t")[2].encode().translate(VALUES))
 
     @property
     def number(self) -> int | None:
@@ -184,11 +222,23 @@ class Rule(str):
 
     @property
     def is_essential(self) -> bool:
-        """Whether the first and the last letter of a window matter, so that no rule of a smaller width does the same."""
+        """Whether the first and the last letter of a window matter, so that no rule of a smaller width does the same. A letter
+        between them may not matter: `reads_every_cell`."""
         return {0, self.width - 1} <= set(self.reads)
+
+    @property
+    def reads_every_cell(self) -> bool:
+        """Whether each letter of a window matters."""
+        return len(self.reads) == self.width
 
     def __repr__(self) -> str:
         return f"Rule({str(self)!r})"
+
+    if not TYPE_CHECKING:                       # for a type checker a rule has its own attributes alone
+        def __getattr__(self, name: str) -> Any:
+            """AttributeError; for a call of the package, which is no method of a rule, it says what to write."""
+            told = f": write {name}(rule), a call of the package" if name in CALLS else ""
+            raise AttributeError(f"a rule has no {name!r}{told}")
 
 
 def rule_of(rule: RuleLike, name: str = "rule", place: int = 1) -> Rule:
@@ -223,7 +273,8 @@ def read(text: str, place: int = 1) -> Rule:
         if states > NUMBERED:
             raise RuleError(place, "kind", found=f"and not {states}")
         if int(number) >= states ** states ** width:
-            behind = f"; a table stands behind STATES:WIDTH:OFFSET:t, as 2:3:-1:t{text}" if re.fullmatch("[01]{8}", text) else ""
+            behind = (f"; Rule.from_wolfram('{text}') takes this row, from 111 to 000, and its reverse stands behind "
+                      f"STATES:WIDTH:OFFSET:t, as 2:3:-1:t{text[::-1]}") if re.fullmatch("[01]{8}", text) else ""
             raise RuleError(place, "number", found=numbers_of(states, width, int(number)) + behind)
         return of_number(states, width, offset, int(number))
     if len(digits) != states ** width:
@@ -287,6 +338,19 @@ def needs(count: int, thing: str, size: int) -> str:
 def of_number(states: int, width: int, offset: int, number: int) -> Rule:
     digits = "".join(DIGITS[number // states ** window % states] for window in range(states ** width))
     return Rule._made(f"{states}:{width}:{offset}:t{digits}")
+
+
+def of_shape(states: SupportsIndex, width: SupportsIndex, offset: SupportsIndex | None, number: SupportsIndex) -> Rule:
+    """The rule of a number of any shape, whose windows lie round their cells where no offset is named."""
+    count, wide = whole("states is", states, 2, 16), whole("width is", width, 2, 5)
+    begin = centred(wide) if offset is None else index("offset is", "a whole number", offset)
+    at = index("number is", "a whole number", number)
+    look_at(count, wide, begin)
+    if count > NUMBERED:
+        raise RuleError(1, "kind", found=f"and not {count}")
+    if not 0 <= at < count ** count ** wide:
+        raise RuleError(1, "number", found=numbers_of(count, wide, at))
+    return of_number(count, wide, begin, at)
 
 
 def of_table(states: SupportsIndex, width: SupportsIndex | None, offset: SupportsIndex, letters: list[Any]) -> Rule:

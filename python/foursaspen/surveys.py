@@ -1,7 +1,6 @@
 """A survey of all rules of a shape over any executor: threads, processes, the workers of Dask or of MPI."""
 from __future__ import annotations
 
-import importlib
 import json
 import math
 import os
@@ -11,10 +10,11 @@ from concurrent.futures import FIRST_COMPLETED, Executor, Future, ThreadPoolExec
 from dataclasses import astuple, dataclass, fields
 from itertools import islice
 from pathlib import Path
-from typing import Any, SupportsIndex
+from typing import Any, SupportsIndex, overload
 
 from .commands import START, numbered, survey
 from .operands import MOST
+from .progress import bar_of
 from .report import Summary
 from .rule_values import refuse, whole
 
@@ -42,16 +42,30 @@ class Progress:
         return f"{self.rules:,} of {self.of:,} rules, {self.seconds:.0f} s, {self.left:.0f} s left"
 
 
+@overload
 def survey_over(executor: Executor | None, states: SupportsIndex, width: SupportsIndex, *, start: SupportsIndex = 0,
+                stop: SupportsIndex | None = None, task: SupportsIndex | None = None,
+                file: str | os.PathLike[str] | None = None, bar: bool = False) -> Generator[Progress, None, None]: ...
+
+
+@overload
+def survey_over(states: SupportsIndex, width: SupportsIndex, executor: Executor | None = None, /, *, start: SupportsIndex = 0,
+                stop: SupportsIndex | None = None, task: SupportsIndex | None = None,
+                file: str | os.PathLike[str] | None = None, bar: bool = False) -> Generator[Progress, None, None]: ...
+
+
+def survey_over(executor: Any, states: Any, width: Any = None, *, start: SupportsIndex = 0,
                 stop: SupportsIndex | None = None, task: SupportsIndex | None = None,
                 file: str | os.PathLike[str] | None = None, bar: bool = False) -> Generator[Progress, None, None]:
     """Counts all rules of a shape, or those from the number `start` on, before `stop`, and yields how far it is: the
     last has the whole. The executor is any of concurrent.futures; None is a thread for each processor, since a call
-    gives up Python's lock. Its workers need this package.
+    gives up Python's lock. Its workers need this package. It may also stand behind the shape, or be left out there.
 
     A task has `task` rules, by default as many as take up to half a second. With `file`, which is made where it isn't
     there, each task that is done is a line, and a survey that was stopped takes up what is there; ValueError where
-    the file is another survey's. `bar` shows a bar where tqdm is installed. It begins when the first is asked for."""
+    the file is another survey's. `bar` shows a bar of tqdm, or a line on standard error where that isn't installed. It begins when the first is asked for."""
+    if width is None or hasattr(width, "submit"):
+        executor, states, width = width, executor, states
     pool = executor_of(executor)
     states, width, first, _ = numbered(states, width, start, 1)
     end: int = states ** states ** width
@@ -108,14 +122,6 @@ def part(states: int, width: int, first: int, count: int) -> Summary:
     """The summary of a task."""
     calls = (survey(states, width, at, min(MOST, first + count - at)) for at in range(first, first + count, MOST))
     return sum(calls, Summary())
-
-
-def bar_of(of: int, done: int, unit: str = " rules") -> Any:
-    """A bar of tqdm; None where it isn't installed."""
-    try:
-        return importlib.import_module("tqdm").tqdm(total=of, initial=done, unit=unit, unit_scale=True)
-    except ImportError:
-        return None
 
 
 def resumed(file: Path, head: dict[str, int]) -> dict[int, Summary]:

@@ -7,16 +7,16 @@ from collections.abc import Iterator
 from dataclasses import dataclass
 from itertools import product
 
-from .drawing import DARK, GREY, MARGIN, MARK, PAPER, PHONE, WIDEST, Canvas
+from .drawing import DARK, DESCRIBED, GREY, LABELS, MARGIN, MARK, MOST, ONE, PAPER, PHONE, SHADE, SIZES, WIDEST, ZERO, Canvas
 from .evidence import mirrored
 from .graphs import Graph, written
 from .report import Window
 from .rule_values import DIGITS
 
-CASES = 256                                     # of a picture, at most
-TRIED = 1 << 16                                 # words from which they are found, at most
-CELL = 18.0
-GAP = 20.0                                      # between two cases
+CASES = MOST["cases"]                           # of a picture
+TRIED = MOST["tried"]                           # words from which they are found
+CELL = SIZES["cell"]
+GAP = SIZES["gap"]                              # between two cases
 
 
 @dataclass(frozen=True)
@@ -47,8 +47,8 @@ def by_window(graph: Graph, window: Window) -> Telling:
     told = {written(graph.within(word)): word[window.place] for word in words(graph.states, letters)}
     start = own_place(graph)
     cases = tuple(Case(told[image].rjust(window.place + 1).ljust(letters), window.place, image, start) for image in sorted(told))
-    many = "one letter of the image tells" if window.letters == 1 else f"{window.letters} letters of the image tell"
-    return Telling(f"Whatever the other cells are, {many} the marked cell", (cases,))
+    said = counted(window.letters), "tells" if window.letters == 1 else "tell"
+    return Telling(DESCRIBED["pictures"]["window"]["heading"].format(letters=said[0], tell=said[1]), (cases,))
 
 
 def by_look_ahead(graph: Graph, ahead: int, side: str) -> Telling:
@@ -59,12 +59,14 @@ def by_look_ahead(graph: Graph, ahead: int, side: str) -> Telling:
     rows = []
     for node in map(way.name, range(way.nodes)):
         told = {written(way.within(node + word)): word[0] for word in words(way.states, ahead)}
-        cases = [Case(node + told[image] + " " * (ahead - 1), len(node), image, len(node)) for image in sorted(told)]
+        cases = [Case(node + told[image] + " " * (ahead - 1), len(node), image, own_place(way)) for image in sorted(told)]
         rows.append(tuple(case if side == "right" else case.mirrored() for case in cases))
     look_at(sum(map(len, rows)), 0, f"the look-ahead is {ahead}")
-    other = "left" if side == "right" else "right"
-    many = "one letter" if ahead == 1 else f"{ahead} letters"
-    return Telling(f"The cells to the {other} and {many} of the image tell the marked cell", tuple(rows))
+    return Telling(DESCRIBED["pictures"][side]["told"].format(letters=counted(ahead)), tuple(rows))
+
+
+def counted(letters: int) -> str:
+    return "one letter" if letters == 1 else f"{letters} letters"
 
 
 def words(states: int, letters: int) -> Iterator[str]:
@@ -84,16 +86,19 @@ def own_place(graph: Graph) -> float:
 
 
 def draw_letter(canvas: Canvas, states: int, letter: str, x: float, y: float, fill: str = "") -> None:
-    """A cell with its letter; of two states a 1 is dark."""
-    dark = states == 2 and letter == "1" and not fill
-    canvas.box(x, y, CELL, CELL, fill or (DARK if dark else PAPER), GREY)
+    """A cell with its letter; of two states a 1 is black and a 0 white, by day and in the dark. A cell that may have any letter is
+    blank and grey."""
+    ground, ink = SHADE if letter == " " else PAPER, DARK
+    if states == 2 and letter in "01":
+        ground, ink = (ONE, ZERO) if letter == "1" else (ZERO, ONE)
+    canvas.box(x, y, CELL, CELL, fill or ground, GREY)
     if letter != " ":
-        canvas.text(x + CELL / 2, y + CELL / 2 + 4.3, letter, color=PAPER if dark else DARK)
+        canvas.text(x + CELL / 2, y + CELL / 2 + 4.3, letter, color=DARK if fill else ink)
 
 
-def draw_cases(canvas: Canvas, graph: Graph, telling: Telling, top: float) -> None:
+def draw_cases(canvas: Canvas, graph: Graph, telling: Telling, said: str, top: float) -> None:
     """The cases, as many in a row as there is room for."""
-    y = canvas.lines_of_text(top, telling.heading, room=PHONE) + 16
+    y = canvas.lines_of_text(top, said, room=PHONE) + 16
     for row in telling.rows:
         step = CELL * len(row[0].cells) + GAP
         fit = max(1, int((WIDEST - 2 * MARGIN) // step))
@@ -104,7 +109,7 @@ def draw_cases(canvas: Canvas, graph: Graph, telling: Telling, top: float) -> No
 
 
 def draw_case(canvas: Canvas, states: int, case: Case, x: float, y: float) -> None:
-    with canvas.titled(f"{case.image} tells {case.cells[case.told]}"):
+    with canvas.titled(LABELS["case"].format(image=case.image, letter=case.cells[case.told])):
         for place, letter in enumerate(case.cells):
             draw_letter(canvas, states, letter, x + CELL * place, y, MARK if place == case.told else "")
         for place, letter in enumerate(case.image):

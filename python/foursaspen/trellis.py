@@ -3,11 +3,11 @@ from __future__ import annotations
 
 import math
 
-from .drawing import (DARK, DASHES, FIRST, GREY, LIGHT, MARGIN, MARK, PAPER, PHONE, SECOND, WIDEST, Canvas)
+from .drawing import DARK, DASHES, FIRST, GREY, LABELS, LIGHT, MARGIN, MARK, PAPER, PHONE, SECOND, SIZES, WIDEST, Canvas
 from .graphs import Edge, Graph, written
 from .report import Tail
 
-ROW = 24
+ROW = SIZES["row"]
 LEFT = MARGIN + 92.0                            # of the columns
 LEAST = 16.0                                    # of a column's width
 STYLES = ((FIRST, "", FIRST, -2.5), (SECOND, DASHES, PAPER, 2.5))   # of two walks: line, dashes, nodes, how far down
@@ -42,11 +42,22 @@ class Trellis:
     def y(self, node: int) -> float:
         return self.top + ROW * (node + 0.5)
 
-    def letters(self, head: str, letters: list[str], y: float, color: str = DARK, size: float = 12) -> None:
+    def letters(self, head: str, letters: list[str], y: float, color: str = DARK, bold: bool = True) -> None:
         """A row of letters, each between two columns."""
         self.canvas.text(self.left - 22, y, head, anchor="end", color=color)
         for place, letter in enumerate(letters):
-            self.canvas.text(self.x(place + 0.5), y, letter, size, color=color, bold=size == 12)
+            if letter:
+                self.canvas.text(self.x(place + 0.5), y, letter, color=color, bold=bold)
+
+    def numbers(self, cells: range, y: float) -> None:
+        """The numbers of the cells; where the columns are narrow every fifth."""
+        wide = max(len(str(cells.start)), len(str(cells.stop - 1))) * 8 + 4
+        every = 1 if self.column >= wide else 5
+        self.letters(LABELS["cell"], [str(cell) if cell % every == 0 else "" for cell in cells], y, GREY, bold=False)
+
+    def bar(self, column: int, y: float) -> None:
+        """A bar beside a row of letters, where a period begins or ends."""
+        self.canvas.line([(self.x(column), y - 13), (self.x(column), y + 4)], DARK, 1.6)
 
     def step(self, column: int, edge: Edge, color: str, width: float, down: float = 0.0, dashes: str = "") -> None:
         """An edge from a column to the next."""
@@ -62,20 +73,20 @@ def draw_reading(canvas: Canvas, graph: Graph, orphan: str, said: str, top: floa
     """Where a walk may be that writes the orphan, letter by letter: at last nowhere."""
     top = canvas.lines_of_text(top, said, room=room_of(graph, len(orphan)))
     trellis = Trellis(canvas, graph, len(orphan), top + 44)
-    trellis.letters("image", list(orphan), trellis.top - 14)
+    trellis.letters(LABELS["image"], list(orphan), trellis.top - 14)
     for column, (nodes, edges) in enumerate(graph.reading(orphan)):
         for edge in edges:
             trellis.step(column, edge, DARK, 1.2)
         for node in nodes:
             canvas.disc(trellis.x(column), trellis.y(node), 5, DARK, DARK)
-    canvas.text(trellis.x(len(orphan)), trellis.y(graph.nodes) + 6, "nowhere", color=GREY)
+    canvas.text(trellis.x(len(orphan)), trellis.y(graph.nodes) + 6, LABELS["nowhere"], color=GREY)
 
 
 def draw_walks(canvas: Canvas, graph: Graph, rows: dict[str, Tail], cells: range, moved: int, said: str,
                top: float) -> None:
     """Configurations with one image, by their names: their letters at the cells, those that differ marked, and at
     each cell its letter of the image with the steps of the walks that write it. `moved` is the cell at which the
-    middles begin."""
+    middles begin, and bars are where periods end and begin."""
     room = room_of(graph, len(cells))
     top = canvas.lines_of_text(top, said, room=room) + 12
     ends = cells.start - moved, cells.stop - moved
@@ -85,10 +96,14 @@ def draw_walks(canvas: Canvas, graph: Graph, rows: dict[str, Tail], cells: range
     for place, letters in enumerate(zip(*words)):
         if len(set(letters)) > 1:
             canvas.box(trellis.x(place) + 1, top + 18, trellis.column - 2, 18 * len(rows), MARK)
-    trellis.letters("cell", [str(cell) for cell in cells], top + 10, GREY, 8)
+    trellis.numbers(cells, top + 10)
     for place, (name, word) in enumerate(zip(rows, words)):
         trellis.letters(name, list(word), top + 18 * place + 31, STYLES[place][0])
-    trellis.letters("image", list(written(walks[0])), trellis.top - 14)
+    for place, tail in enumerate(rows.values()):
+        for column in sorted({moved - cells.start, moved + len(tail.middle) - cells.start}):
+            if 0 < column < len(cells):
+                trellis.bar(column, top + 18 * place + 31)
+    trellis.letters(LABELS["image"], list(written(walks[0])), trellis.top - 14)
     for walk, (color, dashes, fill, down) in zip(walks, STYLES):
         for column, edge in enumerate(walk):
             trellis.step(column, edge, color, 2, down, dashes)
@@ -96,5 +111,5 @@ def draw_walks(canvas: Canvas, graph: Graph, rows: dict[str, Tail], cells: range
         canvas.disc(trellis.x(len(walk)), trellis.y(walk[-1].target) + down, 3.4, fill, color)
     reads = graph.offset + graph.width - 1
     where = f"{abs(reads)} cell{'' if abs(reads) == 1 else 's'} to the {'right' if reads > 0 else 'left'}"
-    canvas.lines_of_text(trellis.y(graph.nodes) + 14, "A step stands below the letter that it writes, and reads the letter "
-                         f"{where if reads else 'of the same cell'}.", 12, GREY, room=room)
+    said = LABELS["step"].format(where=where if reads else "of the same cell")
+    canvas.lines_of_text(trellis.y(graph.nodes) + 14, said, 12, GREY, room=room)

@@ -87,7 +87,7 @@ class Reports(unittest.TestCase):
         more = ca.as_dict(170)
         self.assertEqual({name: more[name] for name in ("window", "right_ahead", "left_ahead", "flux", "inverse", "least", "kept_sums")},
                          {"window": "1 2", "right_ahead": 1, "left_ahead": 3, "flux": "0 -1 -1 -2", "inverse": "2:2:-1:t0011",
-                          "least": "2:3:0:t01010101", "kept_sums": "1 2 4 8"})
+                          "least": "2:3:-1:t01010101", "kept_sums": "1 2 4 8"})
         for answer in (ca.survey(2, 2, 0, 16), ca.classes(2, 2, 0, 16), ca.inverse(170), ca.same(110, 90), ca.certify(30),
                        ca.preimage(204, "1|0|1"), ca.language(110), ca.check(ca.brief(30))):
             self.assertEqual(answer.as_dict(), json.loads(json.dumps(answer.as_dict())))

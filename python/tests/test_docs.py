@@ -28,7 +28,7 @@ class Examples(unittest.TestCase):
 
     def test_the_package(self) -> None:
         self.assertEqual(doctest.testmod(foursaspen, verbose=False), (0, 2))
-        self.assertEqual(doctest.testmod(rule_values, verbose=False), (0, 5))
+        self.assertEqual(doctest.testmod(rule_values, verbose=False), (0, 6))
 
 
 if __name__ == "__main__":

@@ -60,6 +60,20 @@ class Images(unittest.TestCase):
             if report.ring:
                 self.assertNotEqual(report.ring.count("1"), ca.image(number, ring=report.ring).count("1"))
 
+    def test_steps(self) -> None:
+        """So many steps are one after another, of words, rings and configurations, as texts or as lists of letters."""
+        word, ring, tail = "0110100110010110", "0010111", ca.Tail("0", "1", "01")
+        here: tuple[str, str, ca.Image] = word, ring, ca.Image(0, tail)
+        for steps in range(6):
+            self.assertEqual(ca.image(110, word, steps=steps), here[0])
+            self.assertEqual(ca.image(110, ring=ring, steps=steps), here[1])
+            self.assertEqual(ca.image(110, ring=[int(letter) for letter in ring], steps=steps), here[1])
+            self.assertEqual(ca.image(110, bytearray(map(int, word)), steps=steps), here[0])
+            self.assertEqual(ca.image(110, tail, steps=steps), here[2])
+            here = ca.image(110, here[0]), ca.image(110, ring=here[1]), ca.image(110, here[2])
+        with self.assertRaisesRegex(ca.UsageError, "^word has at least 6 letters, one fewer than a window for each step, and not 4$"):
+            ca.image(110, "0110", steps=3)
+
     def test_text(self) -> None:
         found = ca.image(110, ca.Tail("0", "1", "0"))
         self.assertEqual((found.start, str(found.tail), str(found)), (-1, "0|11|0", "image -1 0|11|0\n"))
@@ -82,7 +96,7 @@ class Images(unittest.TestCase):
             (lambda: image(110, ring=""), ca.UsageError, "ring has at least one letter, and not none"),
             (lambda: image(110, "0|1|0"), ca.UsageError, "word is a text of digits, and a configuration is Tail.of('0|1|0')"),
             (lambda: image(110, ca.Tail("", "1", "0")), ca.NotFitError, "the left period of a configuration must have a letter"),
-            (lambda: image(110, 3), TypeError, "word is a text of digits, a Tail or an Image, and not 3 of type int"),
+            (lambda: image(110, 3), TypeError, "word is a text of digits or a list of letters, and not 3 of type int"),
             (lambda: image(110), TypeError, "image takes a word or a configuration, or ring=WORD")]
         for asked, kind, said in wrong:
             with self.assertRaises(kind) as raised:

@@ -1,6 +1,7 @@
 """Lists of all rules with a property: in one piece, in parts over each kind of executor, and on the command line."""
 from __future__ import annotations
 
+import io
 import sys
 import tempfile
 import threading
@@ -87,6 +88,40 @@ class Lists(unittest.TestCase):
             self.assertEqual([one.rules for one in seen], sorted(one.rules for one in seen))
             self.assertEqual(seen[-1].rules, 30)
             self.assertIn("64 of 64 parts, 30 rules", str(seen[-1]))
+
+    def test_all_rules(self) -> None:
+        """By their numbers, and with a beginning those of it."""
+        self.assertEqual([rule.number for rule in ca.rules("all", 2, 3, -1)], list(range(256)))
+        self.assertEqual([rule.number for rule in ca.rules("all", 3, 2)], list(range(3 ** 9)))
+        begun = [rule for rule in ca.rules("all", 2, 3) if rule.startswith("2:3:0:t0110")]
+        self.assertEqual((list(ca.rules("ALL", 2, 3, begin="0110")), len(begun)), (begun, 16))
+        seen: list[ca.Listing] = []
+        self.assertEqual((len(list(ca.rules("all", 2, 2, begin="0110", progress=seen.append))), seen[-1].parts, seen[-1].rules), (1, 1, 1))
+        self.assertEqual(len(list(ca.rules("all", 2, 3, progress=seen.append))), 256)
+        self.assertEqual((seen[-1].parts, seen[-1].of, seen[-1].rules), (64, 64, 256))
+        self.assertEqual(len(list(ca.rules("all", 2, 3, classes=True))), 88)
+
+    def test_rules_that_keep_a_sum(self) -> None:
+        """Of two states and width 4 there are 584 that keep the number of 10, and all of a list keep it."""
+        self.assertEqual(len(list(ca.rules("all", 2, 4, keeps={"10": 1}))), 584)
+        cars = list(ca.rules("all", 2, 4, keeps={1: 1}))
+        self.assertEqual(set(cars), set(ca.rules("conserving", 2, 4)))
+        self.assertEqual(sum(1 for _ in ca.rules("reversible", 3, 3, keeps={"2": 1})),
+                         sum(bool(ca.keeps(rule, {"2": 1})) for rule in ca.rules("reversible", 3, 3)))
+
+    def test_rules_that_read_every_cell(self) -> None:
+        found = list(ca.rules("reversible", 3, 3, every_cell=True, inverse_width=3))
+        self.assertEqual(len(found), 738)
+        self.assertTrue(all(len(rule.reads) == 3 and rule.reads_every_cell for rule in found))
+
+    def test_a_line_without_tqdm(self) -> None:
+        """It says how far the list is, and ends with how far it came."""
+        with mock.patch.dict(sys.modules, {"tqdm": None}), mock.patch("sys.stderr", new_callable=io.StringIO) as said, \
+                mock.patch("foursaspen.progress.OFTEN", 0.0):
+            self.assertEqual(len(list(ca.rules("open", 2, 3, bar=True))), 14)
+        lines = said.getvalue().split("\r")
+        self.assertTrue(lines[1].startswith("1 of 64 parts, 0 s"), lines[1])
+        self.assertTrue(lines[-1].startswith("64 of 64 parts, ") and lines[-1].endswith("\n"), lines[-1])
 
     def test_a_bar(self) -> None:
         tqdm = mock.MagicMock()

@@ -55,7 +55,7 @@ class Mistakes(unittest.TestCase):
             if "np." not in call:
                 with self.subTest(call=call):
                     self.assertEqual(said(call, wanted), wanted)
-        self.assertEqual(count, 142)
+        self.assertEqual(count, 149)
 
     def test_arrays(self) -> None:
         python = python_with("numpy", "python3-numpy")

@@ -1,6 +1,7 @@
 """Operands: what may be one, and errors that name the one that is wrong."""
 from __future__ import annotations
 
+import inspect
 import io
 import tempfile
 import types
@@ -13,6 +14,7 @@ from unittest import mock
 import foursaspen as ca
 from foursaspen.library import Library
 from foursaspen.operands import CertificateLike
+from foursaspen.rule_values import CALLS
 
 # Any: these operands are wrong on purpose.
 decide: Any = ca.decide
@@ -25,6 +27,8 @@ tail: Any = ca.Tail
 rules: Any = ca.rules
 picture: Any = ca.picture
 flux: Any = ca.flux
+keeps: Any = ca.keeps
+site: Any = ca.site
 rule: Any = ca.Rule
 rule_of: Any = ca.Rule.of
 Wrong = list[tuple[Callable[[], object], type[Exception], str]]
@@ -48,7 +52,7 @@ MISTAKES: Wrong = [
     (lambda: decide(110, 3), TypeError, "weights are a text or whole numbers, one for each letter, and not 3 of type int"),
     (lambda: decide(110, {0, 1}), TypeError, "weights are a text or whole numbers, one for each letter, and not {0, 1} of type set"),
     (lambda: decide(110, {1: 1, 2: 4}), ca.UsageError, "weights have the letters 0 to 1, and not 1, 2"),
-    (lambda: decide(110, {0: 1}), ca.UsageError, "weights have the letters 0 to 1, and not 0"),
+    (lambda: decide(110, {}), ca.UsageError, "weights have the letters 0 to 1, and not none"),
     (lambda: decide(110, {"x": 1, "y": 2}), ca.UsageError, "weights have the letters 0 to 1, and not"),
     (lambda: decide(110, {0.5: 1, 1: 2}), TypeError, "a letter of weights is a whole number from 0 to 1, and not 0.5 of type float"),
     (lambda: ca.shift(110, 100), ca.UsageError, "cells is -31 to 31, and not 100"),
@@ -81,7 +85,7 @@ MISTAKES: Wrong = [
     (lambda: ca.survey(2, 2, 10, 7), ca.RuleError, "that of a rule of the shape, from 0 to 15, and not 16"),
     (lambda: ca.verdict_bytes(2, 3, 0, 257), ca.RuleError, "that of a rule of the shape, from 0 to 255, and not 256"),
     (lambda: ca.verdicts(2, 3, [0, 1, 1]), ca.RuleError, "the table must have one digit for each window, and has 3 letters and needs 8"),
-    (lambda: ca.compose("2:5:0:w0", 110), ca.NotFitError, "notfit width: the width of the result must be at most 5, and would be 7"),
+    (lambda: ca.compose("2:5:0:t" + "0110100110010110" * 2, 150), ca.NotFitError, "notfit width: the width of the result must be at most 5, and would be 7"),
     (lambda: ca.widen("2:4:0:w0", 3), ca.NotFitError, "the width must be at least that of the rule, 4, and not 3"),
     (lambda: ca.preimage(110, "|101|0"), ca.NotFitError, "notfit tail leftempty: the left period of a configuration must have a letter"),
     (lambda: ca.preimage(110, "0|1|2"), ca.NotFitError, "each letter of a configuration must be below 2, and 2 isn't"),
@@ -106,7 +110,7 @@ MISTAKES: Wrong = [
     (lambda: rules(2, 2, 3), TypeError, "property is one of surjective, "),
     (lambda: picture(110, 3), TypeError, "show is one of graph, orphan, "),
     (lambda: flux(14, [1, 2]), TypeError, "weights are a dict of words and what they weigh, as {'10': 1}, and not [1, 2] of type list"),
-    (lambda: flux(14, {10: 1}), TypeError, "a word of weights is a text of digits, and not 10 of type int"),
+    (lambda: flux(14, {10: 1}), TypeError, "a word of weights is a text of digits, or a letter from 0 to 1, and not 10 of type int"),
     (lambda: flux(14, {"10": 0.5}), TypeError, "the weight of 10 is a whole number or a fraction, and not 0.5 of type float"),
     (lambda: flux(14, {"10": 1, "1": 2}), ca.UsageError, "weights are of words of one length, and not of 1 and 2"),
     (lambda: flux(14, {}), ca.UsageError, "weights are of words of one length, and not of no word"),
@@ -126,6 +130,15 @@ MISTAKES: Wrong = [
     (lambda: ca.Rule.totalistic(3, 3, 3 ** 7), ca.UsageError, "code is 0 to 2,186, and not 2,187"),
     (lambda: ca.Rule.from_wolfram("011"), ca.RuleError, "of which 2 states have 4, 8, 16, 32, and not 3"),
     (lambda: ca.Rule.from_wolfram("0x10"), ca.UsageError, "row is a letter for each window, as '01101110', and not '0x10'"),
+    (lambda: rule(number=6000, states=2), TypeError, "a number is handed over with states and width, as Rule(number=6000, states=2, width=4), "
+     "or is that of an elementary rule, as Rule(number=110)"),
+    (lambda: rule(number=256), TypeError, "a number is handed over with states and width, as Rule(number=6000, states=2, width=4)"),
+    (lambda: rule(110).inverse(), AttributeError, "a rule has no 'inverse': write inverse(rule), a call of the package"),
+    (lambda: ca.power(110, -1), ca.UsageError, "steps is 0 to 1,000, and not -1"),
+    (lambda: ca.verdict_bytes(2, 3, -1, 3), ca.UsageError, "first is 0 to 255, and not -1"),
+    (lambda: survey_over(2, 4, 0.5), TypeError, "executor is an Executor of concurrent.futures or None, and not 2 of type int"),
+    (lambda: site(2, 3, 4), TypeError, "folder is a path, and not 2 of type int"),
+    (lambda: keeps(184, {2: 1}), TypeError, "a word of weights is a text of digits, or a letter from 0 to 1, and not 2 of type int"),
     (lambda: ca.order(110, 0), ca.UsageError, "most is 1 to 1,000, and not 0"),
     (lambda: ca.atlas(2, 3, "pdf"), ca.UsageError, "form is one of markdown, csv, html, and not 'pdf'"),
 ]
@@ -168,11 +181,15 @@ class Operands(unittest.TestCase):
             (ca.reflect, (110,)), (ca.permute, (110, [1, 0])), (ca.least, (110,)), (ca.lift, (110,)), (ca.unlift, (110,)),
             (ca.survey, (2, 2, 0, 16)), (ca.sample, (2, 2, 0, 16)), (ca.classes, (2, 2, 0, 16)), (ca.run, (["number", "110"], b"")),
             (ca.verdicts, (2, 2, [0, 1, 1, 0])), (ca.verdict_bytes, (2, 2, 0, 16)), (ca.kept_sums, (110, 1)), (ca.flux, (14, {"10": 1})),
-            (ca.keeps, (14, {"10": 1})), (ca.picture, (110, "orphan", [0, 1])), (ca.windows, (110,)), (ca.page, (110, [0, 1])),
+            (ca.keeps, (14, {"10": 1})), (ca.degree, (110,)), (ca.blocks, (170,)), (ca.picture, (110, "orphan", [0, 1])),
+            (ca.windows, (110,)), (ca.page, (110, [0, 1])),
             (ca.to_dot, (110,)), (ca.class_of, (110,)), (ca.is_involution, (110,)), (ca.order, (110, 3)), (ca.as_dict, (110,)),
             (ca.image, (110, "010")), (ca.rules, ("open", 2, 2, 0, "0")), (ca.survey_over, (None, 2, 2)), (ca.Rule, (110,)),
             (ca.Rule.totalistic, (2, 3, 10, -1)), (ca.Rule.from_wolfram, ("0110", 2, 0)), (ca.Tail, ("0", "1", "0")),
-            (ca.Tail.of, ("0|1|0",)), (ca.language(110).class_of, ("0",)), (ca.atlas, (2, 2, "csv")), (ca.site, ("/nowhere/site", 2, 2))]
+            (ca.Tail.of, ("0|1|0",)), (ca.language(110).class_of, ("0",)), (ca.atlas, (2, 2, "csv")), (ca.site, ("/nowhere/site", 2, 2)),
+            (ca.atlas_rows, (2, 2, 0)), (ca.current, (14, {"10": 1})), (ca.moved, (110, 0)), (ca.undoes, (51, 51)), (ca.commutes, (90, 150)),
+            (ca.symmetries, (110,)), (ca.time_reversal, (170,)), (ca.is_linear, (110,)), (ca.preimages, (110, "01")),
+            (ca.count_preimages, (110, "01")), (ca.power, (110, 2))]
         known = {getattr(one, "__name__", "") for one, _ in calls}
         functions = {name for name in ca.__all__ if isinstance(getattr(ca, name), types.FunctionType)}
         self.assertEqual(functions - known, {"keep_freed_memory", "to_networkx"})
@@ -181,6 +198,26 @@ class Operands(unittest.TestCase):
                 with self.subTest(call=call, place=place), self.assertRaises(TypeError) as raised:
                     call(*operands[:place], Nothing(), *operands[place + 1:])
                 self.assertRegex(str(raised.exception), "Nothing$")
+
+    def test_calls_that_are_no_methods_of_a_rule(self) -> None:
+        """Each call whose first operand is a rule is named; what is no call is refused as ever."""
+        taking = {name for name in ca.__all__ if isinstance(getattr(ca, name), types.FunctionType) and
+                  next(iter(inspect.signature(getattr(ca, name)).parameters), "") == "rule"}
+        self.assertEqual(taking - {"number"} | {"undoes", "to_networkx"}, CALLS)
+        for name in CALLS:
+            with self.assertRaisesRegex(AttributeError, rf"^a rule has no '{name}': write {name}\(rule\)"):
+                getattr(ca.Rule(110), name)
+        self.assertFalse(hasattr(ca.Rule(110), "keys"))
+
+    def test_names_that_are_guessed(self) -> None:
+        """What users write at first means what they mean."""
+        self.assertEqual(ca.Rule(number=110), ca.Rule(110))
+        self.assertEqual((ca.decide(170).reversible, ca.decide(90).reversible, ca.check(ca.brief(51)).reversible), (True, False, True))
+        self.assertEqual((ca.language(110).accepts("0110"), ca.language(110).accepts("01010")), (True, False))
+        self.assertEqual(ca.decide(184, {1: 1}), ca.decide(184, [0, 1]))
+        self.assertEqual((ca.keeps(184, {1: 1}), keeps("4:2:0:w0", {Index(): 0})), (ca.keeps(184, {"1": 1}), ca.keeps("4:2:0:w0", {"3": 0})))
+        self.assertEqual((ca.power(90, 2), ca.power(90, 1), ca.power(90, 0)), (ca.compose(90, 90), ca.Rule(90), ca.Rule("2:2:0:t0011")))
+        self.assertEqual((ca.power(51, 100), ca.trim(ca.power(51, 2))), (ca.power(51, 0),) * 2)
 
     def test_what_has_a_rule_is_a_rule(self) -> None:
         shift = "2:2:0:t0101"

@@ -16,9 +16,12 @@ import unittest
 from pathlib import Path
 
 import foursaspen as ca
+from foursaspen import __main__
+from foursaspen.__main__ import OWN
+from foursaspen.__main__ import PROGRAM as COMMANDS
 from foursaspen.lists import Stop
 
-from .support import ENVIRONMENT, heed_ctrl_c, output, patience, program, python_with
+from .support import ENVIRONMENT, PROGRAM, TOP, heed_ctrl_c, output, patience, program, python_with
 
 ASK = [sys.executable, "-m", "foursaspen"]
 NETWORKX = """import networkx
@@ -70,12 +73,58 @@ class CommandLine(unittest.TestCase):
     def test_commands_of_the_program(self) -> None:
         """Output and status are the program's, and standard error says what a fault means."""
         for line, said in (("decide 110", ""), ("shift 110 -1", ""), ("inverse 90", "the rule must be injective"), ("orphan 256", "0 to 255"),
-                           ("decide 110 0,1,2", "one weight for each letter"), ("decide", "docs/COMMANDS.md"),
-                           ("same 110 2:3:-1:t0", "has 1 digit and needs 8"), ("survey 2 2 10 7", "0 to 15")):
+                           ("decide 110 0,1,2", "one weight for each of the 2 letters, and there are 3"),
+                           ("decide", "after decide comes RULE [WEIGHTS], but here nothing"),
+                           ("erase 110 30", "after erase comes RULE, but here 110 30"),
+                           ("same 110 2:3:-1:t0", "has 1 digit and needs 8"), ("survey 2 2 10 7", "0 to 15"),
+                           ("survey 2 3 0 65536", "count is 1 to 4,096, and not 65,536"), ("survey 2 x 0 1", "width is a whole number, and not 'x'"),
+                           ("sample 2 3 18446744073709551616 1", "seed is 0 to 18,446,744,073,709,551,615"),
+                           ("decide 184 -1,1", "the program's weights are 0 to 255"),
+                           ("decide 184 1,300", "the greatest is at most 255 more than the least"),
+                           ("permute 110 1,0", "digits are 1 to 16 hexadecimal digits"), ("shift 110 +1", "cells is a whole number, and not '+1'"),
+                           ("shift 110 001", "numbers without zeros in front"), ("widen 110 6", "width is 2 to 5, and not 6"),
+                           ("preimage 110 0101", "LEFT|MIDDLE|RIGHT"), ("decide 01101110", "Rule.from_wolfram('01101110')")):
             status, told, error = self.asked(*line.split())
             self.assertEqual((status, told.encode()), program(line.split()))
             self.assertIn(said, error)
             self.assertEqual(error == "", said == "")
+
+    def test_a_word_without_utf_8(self) -> None:
+        words = [b"decide", b"\xff"]
+        done = subprocess.run([*map(os.fsencode, ASK), *words], env=ENVIRONMENT, cwd="/", capture_output=True, check=False)
+        own = subprocess.run([os.fsencode(PROGRAM), *words], capture_output=True, check=False)
+        self.assertEqual((done.returncode, done.stdout), (own.returncode, own.stdout))
+        self.assertIn(b"UTF-8", done.stderr)
+
+    def test_names_of_commands(self) -> None:
+        """Those of docs/COMMANDS.md, with as many operands, and the package's own. Another word names them all."""
+        forms = re.findall(r"^    \./ca ([a-z]+) (.*?)(?:  .*)?$", (TOP / "docs" / "COMMANDS.md").read_text().split("\n## All forms\n")[1]
+                           .split("\n## ")[0], re.MULTILINE)
+        self.assertEqual({name: [word[0] == "[" for word in operands.split()] for name, operands in forms if name != "check"},
+                         {name: [word[0] == "[" for word in form.split()] for name, form in COMMANDS.items() if name != "check"})
+        self.assertEqual({name for name in re.findall("python -m foursaspen ([a-z]+)", __main__.__doc__ or "") if name not in COMMANDS}, set(OWN))
+        for name in OWN:
+            self.assertRegex(output([*ASK, name, "--help"]), f"^usage: python -m foursaspen {name} ")
+        for word, meant in (("decde", "decide"), ("Decide", "decide"), ("110", "decide"), ("Site", "site")):
+            status, told, error = self.asked(word, "110")
+            self.assertEqual((status, told), (2, ""))
+            self.assertIn(f"there is no command {word!r}; is it {meant}?", error)
+            for name in (*COMMANDS, *OWN):
+                self.assertIn(f" {name}", error)
+
+    def test_sites_and_atlases_name_both_or_none(self) -> None:
+        with tempfile.TemporaryDirectory() as folder:
+            for words in (["site", "2", "4"], ["site", "2", "3"], ["site", f"{folder}/site"], ["site", "2", f"{folder}/site"], ["atlas", "2", "--csv"],
+                          ["site", "--from", "-", "2", "3", f"{folder}/site"]):
+                done = subprocess.run([*ASK, *words], env=ENVIRONMENT, cwd=folder, input="110", capture_output=True, text=True, check=False)
+                self.assertEqual((done.returncode, done.stdout), (2, ""), words)
+                self.assertRegex(done.stderr, "takes STATES WIDTH|invalid int value")
+                self.assertEqual(os.listdir(folder), [])
+
+    def test_negative_weights(self) -> None:
+        self.assertEqual(output([*ASK, "page", "184", "-1,1"]), ca.page(184, [-1, 1]))
+        self.assertEqual(output([*ASK, "picture", "184", "flux", "--weights", "-1,1"]), ca.picture(184, "flux", [-1, 1]))
+        self.assertEqual(output([*ASK, "picture", "--weights", "3,-2", "184", "current"]), ca.picture(184, "current", [3, -2]))
 
     def test_check_takes_a_file(self) -> None:
         with tempfile.TemporaryDirectory() as folder:
@@ -89,15 +138,19 @@ class CommandLine(unittest.TestCase):
             status, told, error = self.asked("check", str(file))
             self.assertEqual((status, told), (1, "refused format shape version\n"))
             self.assertIn("docs/CERTIFICATES.md", error)
-            self.assertEqual(self.asked("check", str(file) + ".gone")[0], 1)
+            for unreadable in (str(file) + ".gone", folder):
+                status, told, error = self.asked("check", unreadable)
+                self.assertEqual((status, told), (6, ""))
+                self.assertIn(unreadable, error)
 
     def test_what_cannot_be_written(self) -> None:
         if not os.access("/dev/full", os.W_OK):
             self.skipTest("there is no /dev/full")
-        for words in (["picture", "110"], ["page", "110"], ["list", "injective", "2:3:-1:t"], ["kept", "14", "2"], ["decide", "110"]):
+        for status, *words in ((1, "picture", "110"), (1, "page", "110"), (1, "list", "injective", "2:3:-1:t"), (1, "kept", "14", "2"),
+                               (7, "decide", "110"), (7, "decide", "256")):
             with open("/dev/full", "w") as full:
-                done = subprocess.run([*ASK, *words], env=ENVIRONMENT, cwd="/", stdout=full, stderr=subprocess.PIPE, text=True, check=False)
-            self.assertEqual((done.returncode, done.stderr), (1, "[Errno 28] No space left on device\n"), words)
+                done = subprocess.run([*ASK, *map(str, words)], env=ENVIRONMENT, cwd="/", stdout=full, stderr=subprocess.PIPE, text=True, check=False)
+            self.assertEqual((done.returncode, done.stderr), (status, "[Errno 28] No space left on device\n"), words)
 
     def test_a_reader_that_has_enough(self) -> None:
         done = subprocess.run(["bash", "-c", f"set -o pipefail; {{ {' '.join(ASK)} list surjective 2:4:0:t | head -n 1; }} 2>&1"],
@@ -114,7 +167,7 @@ class Stopped(unittest.TestCase):
         os.close(theirs)
         said = b""
         try:
-            while b"rule 1,000" not in said:
+            while b"class 100" not in said:
                 said += os.read(ours, 1000)
             begun.send_signal(signal.SIGINT)
             self.assertEqual(begun.wait(600), 130)
@@ -125,7 +178,7 @@ class Stopped(unittest.TestCase):
             begun.kill()
             begun.wait()
             os.close(ours)
-        self.assertRegex(said.decode(), r"^\rrule 0 +\rrule 1,000 .*stopped\r\n$")
+        self.assertRegex(said.decode(), r"^\rclass 0 +\rclass 100 .*stopped\r\n$")
 
     OVER_THREADS = """import sys
 from concurrent.futures import ThreadPoolExecutor

@@ -23,11 +23,13 @@ import foursaspen as ca
 from foursaspen import atlases, pages
 from foursaspen.evidence import EvidenceError, is_split, work_out
 from foursaspen.graphs import Graph
+from foursaspen.smaller import smaller
 
 from .browser import Browser
 from .support import ENVIRONMENT, drawn, output
 
 RULES: tuple[ca.RuleLike, ...] = (110, 184, 30, "2:2:0:t0101")
+WINDOWS = "3:3:-1:t001110220001112222110001222"     # reversible, and 5 letters of the image tell a cell
 WIDE = "".join(f"{(x + 2 * y) % 16:x}" for x in range(16) for y in range(16))
 
 
@@ -112,10 +114,19 @@ class Texts(unittest.TestCase):
 
     def test_what_windows_and_look_aheads_tell(self) -> None:
         """Where there is room for it."""
-        known: list[tuple[ca.RuleLike, int, int]] = [(170, 3, 0), (30, 1, 0), (110, 0, 0), (f"16:2:0:t{WIDE}", 1, 2)]
+        known: list[tuple[ca.RuleLike, int, int]] = [(170, 3, 0), (30, 1, 0), (110, 0, 0), (f"16:2:0:t{WIDE}", 0, 2)]
         for rule, count, note in known:
             text = ca.page(rule)
             self.assertEqual((text.count(" the marked cell</title>"), text.count(": a picture has at most 256 cases.</p>")), (count, note), rule)
+
+    def test_a_table_stands_once_on_a_page(self) -> None:
+        """Of 16 states the table of the graph has all windows, so they aren't drawn again, and it shows that the rule closes on the
+        left: f(x, y) is x + 2y, so it takes each value once where y is fixed."""
+        text = ca.page(f"16:2:0:t{WIDE}")
+        self.assertIn("In the table of the graph no letter stands twice behind a / in one column.", text)
+        self.assertNotIn("in one row.", text)
+        for rule, there in ((f"16:2:0:t{WIDE}", False), ("110", True)):
+            self.assertEqual("Each window with the letter that it gives, in the order" in ca.page(rule), there)
 
     def test_words_lead_to_what_they_mean(self) -> None:
         for rule in RULES:
@@ -158,6 +169,52 @@ class Texts(unittest.TestCase):
             self.assertEqual((done.returncode, done.stdout, done.stderr[:len(said)]), (1, "", said))
 
 
+def cells_of(text: str) -> tuple[list[tuple[float, float, str]], list[tuple[float, float, str]]]:
+    """The boxes of all cells of a page's pictures with their colours, and the letters, where they are drawn. What is used is drawn
+    where it is used."""
+    space = "{http://www.w3.org/2000/svg}"
+    boxes: list[tuple[float, float, str]] = []
+    letters: list[tuple[float, float, str]] = []
+    pictures = [tree.fromstring("<svg" + part.partition("</svg>")[0] + "</svg>") for part in text.split("<svg")[1:]]
+    shapes = {shape.get("id"): shape for picture in pictures for shape in picture.iter(space + "g") if shape.get("id")}
+
+    def draw(part: tree.Element, left: float, top: float) -> None:
+        x, y = left + float((part.get("x") or "0").split()[0]), top + float(part.get("y") or 0)
+        color = part.get("fill") or re.sub(r"^.*?fill:var\(--([0-9a-f]+)\).*$", r"#\1", part.get("style") or "")
+        if part.tag == space + "use":
+            draw(shapes[(part.get("href") or "")[1:]], x, y)
+        elif part.tag == space + "rect" and part.get("width") in ("18", "18.0"):
+            boxes.append((round(x, 1), round(y, 1), color))
+        elif part.tag == space + "text":
+            places = [left + float(place) for place in (part.get("x") or "0").split()]
+            letters.extend((round(place, 1), round(y, 1), letter) for place, letter in zip(
+                places, part.text or "" if len(places) > 1 or len(part.text or "") == 1 else ""))
+        elif part.tag != space + "defs":
+            for inner in part:
+                draw(inner, left, top)
+    for picture in pictures:
+        draw(picture, 0, 0)
+    return sorted(boxes), sorted(letters)
+
+
+class Smaller(unittest.TestCase):
+    """The pictures of a page are written shorter, and show the same."""
+
+    def test_the_same_is_drawn(self) -> None:
+        seen = 0
+        for rule in [*map(str, (30, 60, 110, 170, 184)), *drawn(16, seed=23), f"16:2:0:t{WIDE}", WINDOWS]:
+            sections = "\n".join(pages.Sections(ca.decide(rule)).all())
+            plain, short = cells_of(sections), cells_of(smaller(sections))
+            self.assertEqual(short, plain, rule)
+            seen += len(plain[0])
+        self.assertGreater(seen, 5000)
+
+    def test_the_page_is_small(self) -> None:
+        """A window of 5 letters has 243 cases, and with a box for each cell the page takes 1.2 MB."""
+        self.assertEqual(ca.decide(WINDOWS).window, ca.Window(5, 3))
+        self.assertLess(len(ca.page(WINDOWS)), 130_000)
+
+
 class Clicks(unittest.TestCase):
     browser: Browser
     room: Path
@@ -194,8 +251,12 @@ class Clicks(unittest.TestCase):
                 self.browser.open(address, width, dark)
                 get = self.browser.get
                 self.assertEqual(get("getComputedStyle(document.body).backgroundColor"), ground)
-                self.assertEqual(get("[...document.querySelectorAll('svg > rect:first-of-type')].map(r => getComputedStyle(r).fill)"
-                                     ".filter(fill => fill !== '" + ground + "')"), [])
+                self.assertEqual(get("[...document.querySelectorAll('svg > rect')].filter(r => r.width.baseVal.value === "
+                                     "r.ownerSVGElement.width.baseVal.value).length"), 0)       # the ground is that of the page
+                # What is used elsewhere follows by itself, since the style of a picture doesn't reach it.
+                self.assertEqual(get("document.querySelectorAll('defs [fill], defs [stroke]').length"), 0)
+                self.assertEqual(get("[...document.querySelectorAll('defs rect')].filter(r => getComputedStyle(r).fill === '" +
+                                     ("rgb(255, 255, 255)" if dark else "rgb(21, 24, 28)") + "').length"), 0)
                 self.assertLessEqual(get("document.documentElement.scrollWidth"), width)
                 self.assertEqual(get("[...document.querySelectorAll('svg')].filter(svg => Math.abs("
                                      "svg.getBoundingClientRect().width - svg.width.baseVal.value) > 1).length"), 0)
@@ -254,7 +315,7 @@ class Clicks(unittest.TestCase):
 
     def test_a_site(self) -> None:
         folder = self.room / "site"
-        self.assertEqual(ca.site(folder, 2, 2), 7 + 2)
+        self.assertEqual(ca.site(2, 2, folder), 7 + 2)
         self.assertGreater(self.links(folder), 100)
         get, index = self.browser.get, (folder / "index.html").as_uri()
         for name in ("index.html", "evidence.html", "2_2_0_t0110.html"):
@@ -273,7 +334,7 @@ class Clicks(unittest.TestCase):
         folder, file = self.room / "listed", self.room / "rules.txt"
         file.write_text("".join(f"{rule}\n" for rule in ca.rules("injective", 3, 2)) + "rules 48\n")
         told = output([sys.executable, "-m", "foursaspen", "site", "--from", str(file), str(folder)])
-        self.assertEqual((told.split()[:2], len(list(folder.iterdir()))), (["9", "pages,"], 9))
+        self.assertEqual((told.split()[:2], len(list(folder.glob("*.html"))), (folder / "style.css").exists()), (["9", "pages,"], 9, True))
         self.links(folder)
 
     def test_headings_stay(self) -> None:
@@ -285,7 +346,8 @@ class Clicks(unittest.TestCase):
         self.assertLess(abs(places[0] - places[1]), 2)
 
     def test_large_graphs_and_long_tables(self) -> None:
-        """At 360 pixels they scroll in boxes of their own, which are no higher than the screen, and headings of tables stay."""
+        """At 360 pixels they scroll in boxes of their own. Those of tables are no higher than the screen, and their headings stay; a
+        picture isn't cut below."""
         get = self.browser.get
         for name, rule in (("wide.html", f"16:2:0:t{WIDE}"), ("long.html", "2:5:0:t00101111001011011101000011010010")):
             address = self.file(name, ca.page(rule))
@@ -293,13 +355,14 @@ class Clicks(unittest.TestCase):
             self.browser.open(address, 360)
             self.named()
             boxes = get("[...document.querySelectorAll('.scroll')].map(box => [box.clientWidth, box.clientHeight, box.scrollWidth,"
-                        "box.scrollHeight, box.tabIndex])")
-            self.assertTrue(all(wide <= 360 and high <= 0.9 * 900 for wide, high, *_ in boxes), boxes)
-            self.assertGreater(sum(whole > wide for wide, _, whole, _, _ in boxes), 1)
-            self.assertEqual({stop for wide, high, whole, deep, stop in boxes if whole > wide or deep > high}, {0})
+                        "box.scrollHeight, box.tabIndex, box.querySelector('thead') !== null])")
+            self.assertTrue(all(wide <= 360 and (high <= 0.9 * 900 if table else high == deep)
+                                for wide, high, _, deep, _, table in boxes), boxes)
+            self.assertGreater(sum(whole > wide for wide, _, whole, *_ in boxes), 1)
+            self.assertEqual({stop for wide, high, whole, deep, stop, _ in boxes if whole > wide or deep > high}, {0})
             if name == "wide.html":
                 continue
-            self.assertGreater(sum(whole > high for _, high, _, whole, _ in boxes), 0)      # 120 pairs of nodes
+            self.assertGreater(sum(whole > high for _, high, _, whole, *_ in boxes), 0)     # 120 pairs of nodes
             get("(window.high = [...document.querySelectorAll('.scroll')].find(box => box.querySelector('thead') && "
                 "box.scrollHeight > box.clientHeight + 200)).scrollTop = 150")
             self.shows("high.scrollTop", 150)
@@ -341,12 +404,12 @@ class Clicks(unittest.TestCase):
                 self.browser.get("document.getElementById('count').textContent"))
 
     def test_an_atlas(self) -> None:
-        rows = list(csv.reader(io.StringIO(ca.atlas(2, 3, "csv"))))
+        rows = list(csv.DictReader(io.StringIO(ca.atlas(2, 3, "csv"))))
         address = self.file("atlas.html", ca.atlas(2, 3))
         self.look(address)
         self.browser.open(address)
         get = self.browser.get
-        self.comes(self.counts, ([row[0] for row in rows[1:]], "88 of 88 classes, 256 rules"))
+        self.comes(self.counts, ([row["number"] for row in rows], "88 of 88 classes, 256 rules"))
         get("(it => { it.value = 'yes'; it.dispatchEvent(new Event('change')) })(document.getElementById('injective'))")
         self.comes(self.counts, (["15", "51", "170", "204"], "4 of 88 classes, 6 rules"))
         self.browser.click("document.querySelector('#head th:nth-child(1) button')")
@@ -356,7 +419,7 @@ class Clicks(unittest.TestCase):
         self.shows("location.hash", "#injective=yes&sort=least&down=1")
         self.shows("document.querySelector('#head th').ariaSort", "descending")
         self.browser.open(f"{address}#surjective=no&sort=surjective&down=1")
-        having = [row[3] for row in rows[1:] if row[2] == "no"]
+        having = [row["orphan"].strip("|") for row in rows if row["surjective"] == "False"]
         self.comes(lambda: self.counts()[1], f"{len(having)} of 88 classes, 226 rules")
         self.shows("document.querySelector('#body td:nth-child(3) code').textContent.length", max(map(len, having)))
         self.browser.open(f"{address}#rule=124")
@@ -364,8 +427,10 @@ class Clicks(unittest.TestCase):
         self.browser.call("Page.setDownloadBehavior", behavior="allow", downloadPath=str(self.room))
         self.browser.click("document.getElementById('down')")
         file = self.room / "classes.csv"
-        wanted = [rows[0], *(row for row in rows if row[0] == "110")]
-        self.comes(lambda: list(csv.reader(io.StringIO(file.read_text()))) if file.exists() else [], wanted)
+        # The same names and values but for those that a page hasn't.
+        wanted = [{name: value for name, value in row.items() if name not in ("weights", "inverse", "least", "flow")}
+                  for row in rows if row["number"] == "110"]
+        self.comes(lambda: list(csv.DictReader(io.StringIO(file.read_text()))) if file.exists() else [], wanted)
         self.assertEqual(self.browser.console, [])
 
 

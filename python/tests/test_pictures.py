@@ -5,6 +5,7 @@ import functools
 import itertools
 import math
 import random
+import re
 import tempfile
 import unittest
 import xml.etree.ElementTree as tree
@@ -13,7 +14,7 @@ from pathlib import Path
 
 import foursaspen as ca
 from foursaspen import node_sets
-from foursaspen.drawing import FIRST, MARK, NIGHT, PAPER, SECOND
+from foursaspen.drawing import DARK, FIRST, GREY, MARK, NIGHT, ONE, PAPER, SECOND, ZERO
 from foursaspen.graphs import Graph
 from foursaspen.layout import RADII, RADIUS, fits, ring
 from foursaspen.pictures import SHOWN, walks_of
@@ -127,6 +128,15 @@ def sets_of(rule: ca.Rule) -> set[frozenset[str]]:
     return seen
 
 
+def tables(shape: str, dice: random.Random) -> Iterator[list[str]]:
+    """Tables of a shape that have a permutation of the letters for each node: of the first m - 1 letters, or of the last."""
+    states, width = map(int, shape.split(":")[:2])
+    letters, nodes = "0123456789abcdef"[:states], states ** (width - 1)
+    for place in range(24):
+        rows = [dice.sample(letters, states) for _ in range(nodes)]
+        yield [letter for row in (rows if place % 2 else zip(*rows)) for letter in row]
+
+
 def told_in(svg: str) -> list[tuple[str, str, str]]:
     """The cases that a picture draws: the cells, a blank for each that has no letter, the letter that is marked, and the letters
     of the image below."""
@@ -146,16 +156,33 @@ def told_in(svg: str) -> list[tuple[str, str, str]]:
     return cases
 
 
+def below_in(svg: str) -> list[tuple[str, int, list[tuple[int, str]]]]:
+    """The same cases: the cells, the place of the marked one, and each letter of the image with the place of the cell above it."""
+    cases = []
+    for group in tree.fromstring(svg).iter(f"{SVG}g"):
+        if " tells " not in (group[0].text or ""):
+            continue
+        boxes = sorted((float(box.get("y", 0)), float(box.get("x", 0)), box.get("fill")) for box in group.iter(f"{SVG}rect"))
+        letters = {(round(float(text.get("x", 0)) - 9), round(float(text.get("y", 0)) - 13.3)): text.text or ""
+                   for text in group.iter(f"{SVG}text")}
+        top, columns = boxes[0][0], [round(x) for y, x, _ in boxes if y == boxes[0][0]]
+        cells = "".join(letters.get((x, round(top)), " ") for x in columns)
+        image = [(columns.index(round(x)), letters[round(x), round(y)]) for y, x, _ in boxes if y != top]
+        cases.append((cells, [fill for y, _, fill in boxes if y == top].index(MARK), image))
+    return cases
+
+
 class Pictures(unittest.TestCase):
     def test_the_pictures_of_the_docs(self) -> None:
-        """Each is what the line of docs/EVIDENCE.md makes that names its file."""
-        lines = [line.split() for line in (TOP / "docs" / "EVIDENCE.md").read_text().splitlines()
-                 if line.startswith("    PYTHONPATH=python python3 -m foursaspen picture ")]
+        """Each is what the line of docs/EVIDENCE.md or docs/DEGREE.md makes that names its file."""
+        lines = [line.split() for page in ("EVIDENCE", "DEGREE") for line in (TOP / "docs" / f"{page}.md").read_text().splitlines()
+                 if re.match("    PYTHONPATH=python python3 -m foursaspen .* > docs/", line)]
         files = sorted(f"docs/{path.name}" for path in (TOP / "docs").glob("*.svg"))
         self.assertEqual(sorted(line[-1] for line in lines), files)
         for line in lines:
             with self.subTest(line[-1]):
-                self.assertEqual((TOP / line[-1]).read_text(), ca.picture(*line[5:-2]))
+                made = ca.degree(line[5]).picture() if line[4] == "degree" else ca.picture(*line[5:-2])
+                self.assertEqual((TOP / line[-1]).read_text(), made)
 
     def test_edges_of_rule_110(self) -> None:
         """Its eight labels, as the README's report of rule 110 has the table."""
@@ -328,6 +355,43 @@ class Told(unittest.TestCase):
                     seen += 1
         self.assertGreater(seen, 60)
 
+    def test_the_image_stands_below_its_cells(self) -> None:
+        """Whatever stands in the blank cells and in the marked one: if the rule writes the drawn letters at the cells above them, the
+        marked cell has the drawn letter. No drawn letter depends on a cell that isn't drawn, and some letters give the drawn ones.
+        By the rule's table alone, for windows that hold their own cells."""
+        seen = {"right": 0, "left": 0, "window": 0}
+        shapes = ("2:2:0", "2:2:-1", "3:2:0", "3:2:-1", "2:3:-2", "2:3:-1", "2:3:0", "2:4:-2")
+        dice = random.Random(8)
+        for rule in map(ca.Rule, [*range(256), *(f"{shape}:t{''.join(table)}" for shape in shapes for table in tables(shape, dice))]):
+            report = ca.decide(rule)
+            for show, there in (("right", bool(report.right)), ("left", bool(report.left)), ("window", report.injective)):
+                if not there:
+                    continue
+                try:
+                    drawing = ca.picture(rule, show)
+                except ValueError as fault:
+                    self.assertIn("a picture has at most 256 cases", str(fault))
+                    continue
+                cases = below_in(drawing)
+                self.assertTrue(cases)
+                for case in cases:
+                    self.assert_told(rule, *case)
+                seen[show] += 1
+        self.assertGreater(min(seen.values()), 40)
+
+    def assert_told(self, rule: ca.Rule, cells: str, marked: int, image: list[tuple[int, str]]) -> None:
+        for place, _ in image:
+            self.assertLessEqual(0, place + rule.offset, (rule, cells, image))
+            self.assertLess(place + rule.offset + rule.width - 1, len(cells), (rule, cells, image))
+        told = set()
+        free = [place for place, letter in enumerate(cells) if letter == " " or place == marked]
+        for word in words(rule.states, len(free)):
+            known = dict(zip(free, word))
+            whole = "".join(known.get(place, letter) for place, letter in enumerate(cells))
+            if all(writes(rule, whole[place + rule.offset:][:rule.width]) == letter for place, letter in image):
+                told.add(whole[marked])
+        self.assertEqual(told, {cells[marked]}, (rule, cells, image))
+
     def test_the_list_of_sets(self) -> None:
         """Those of the table, each followed by listed ones. A certificate has the full set and those that contain no other one; a
         node is the bit of its value."""
@@ -395,6 +459,14 @@ class Colours(unittest.TestCase):
             self.assertGreater(contrast(first, second), 2)
             for color in (first, second):
                 self.assertGreater(contrast(color, ground), 4.5)
+
+    def test_letters_can_be_read(self) -> None:
+        """On marked cells, and on black and white ones; a 1 is darker than a 0, by day and by night."""
+        for ink, ground in ((FIRST, MARK), (SECOND, MARK), (DARK, MARK), (ZERO, ONE), (GREY, PAPER)):
+            self.assertGreater(contrast(ink, ground), 4.5)
+            self.assertGreater(contrast(NIGHT[ink], NIGHT[ground]), 4.5)
+        for zero, one in ((ZERO, ONE), (NIGHT[ZERO], NIGHT[ONE])):
+            self.assertLess(int(one[1:], 16), int(zero[1:], 16))
 
 
 def contrast(one: str, other: str) -> float:

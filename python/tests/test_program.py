@@ -198,7 +198,7 @@ class Functions(unittest.TestCase):
         (lambda: ca.preimage(110, "|1|0"), "preimage 110 |1|0"),
         (lambda: ca.preimage(110, f"0|{LONG}|0"), f"preimage 110 0|{LONG}|0"),
         (lambda: ca.preimage(110, "0|1|2"), "preimage 110 0|1|2"),
-        (lambda: ca.compose("2:5:0:w0", 110), "compose 2:5:0:w0 110"),
+        (lambda: ca.compose("2:5:0:t01010101010101011010101010101010", 90), "compose 2:5:0:t01010101010101011010101010101010 90"),
         (lambda: ca.permute(110, "11"), "permute 110 11"),
         (lambda: ca.least("7:2:0:t" + "0" * 49), "least 7:2:0:t" + "0" * 49),
         (lambda: ca.lift("2:2:1:t0110"), "lift 2:2:1:t0110"),

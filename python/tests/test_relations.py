@@ -12,6 +12,7 @@ from pathlib import Path
 import foursaspen as ca
 
 from .support import drawn
+from .test_atlas import LEAST
 
 
 def steps(rule: ca.Rule, ring: tuple[int, ...]) -> tuple[int, ...]:
@@ -42,13 +43,22 @@ class Classes(unittest.TestCase):
         """110, 124, 137 and 193 are one class (Wolfram 2002)."""
         known = ca.class_of(110)
         self.assertEqual([rule.number for rule in known.members], [110, 124, 137, 193])
-        self.assertEqual((known.least, {rule.offset for rule in known.members}), (ca.least(193), {0}))
+        self.assertEqual((known.least, {rule.offset for rule in known.members}), (ca.Rule(110), {-1}))
+        self.assertEqual(ca.class_of(ca.least(193)).least, ca.least(193))
+
+    def test_rows_of_least_rules(self) -> None:
+        """The rows whose rule is the least of its class are the 88 classes, at the offset that the rules have."""
+        for offset in (-1, 0, 3):
+            rows = [ca.as_dict(ca.Rule(f"2:3:{offset}:w{number}")) for number in range(256)]
+            least = [row["number"] for row in rows if row["rule"] == row["least"]]
+            self.assertEqual(least, list(map(int, LEAST.split())))
+            self.assertEqual({(row["rule"].split(":")[2], row["least"].offset) for row in rows}, {(str(offset), offset)})
 
     def test_classes_are_whole(self) -> None:
         seen: Counter[ca.Rule] = Counter()
         for number in range(256):
             least, members = ca.class_of(number)
-            self.assertEqual((members[0], {ca.least(rule) for rule in members}), (least, {least}))
+            self.assertEqual((members[0], {ca.least(rule) for rule in members}), (least, {ca.shift(least, 1)}))
             self.assertIn(number, [rule.number for rule in members])
             seen[least] += 1
             self.assertEqual(len({ca.class_of(rule) for rule in members}), 1)

@@ -6,6 +6,7 @@ import copy
 import json
 import pickle
 import random
+import re
 import unittest
 from itertools import product
 from typing import Any
@@ -37,6 +38,26 @@ class Making(unittest.TestCase):
                 ca.Rule.of(lambda *cells: (b := cells[1]) != (c := cells[2]) or b and c and not cells[0], states=2, width=3, offset=-1)]
         self.assertEqual(set(ways), {ca.Rule(RULE110)})
 
+    def test_a_number_of_any_shape(self) -> None:
+        """Digit v of the number is the letter of the window v; by default the cell is in the middle of its window."""
+        self.assertEqual(ca.Rule(number=110, states=2, width=3), ca.Rule(110))
+        for states, width, offset, number in ((2, 4, -1, 6000), (2, 5, -2, 2 ** 31 + 5), (3, 2, 0, 8229), (4, 3, -1, 4 ** 64 - 1), (6, 2, 0, 7)):
+            rule = ca.Rule(number=number, states=states, width=width)
+            self.assertEqual((rule.offset, rule.states, rule.width), (offset, states, width))
+            self.assertEqual(sum(letter * states ** place for place, letter in enumerate(rule.table)), number)
+            self.assertEqual(ca.Rule(number=number, states=states, width=width, offset=3), ca.Rule(f"{states}:{width}:3:w{number}"))
+        make: Any = ca.Rule
+        for operands, kind, text in (
+                ({"number": 6000}, TypeError, "^a number is handed over with states and width, as Rule"),
+                ({"number": 6000, "states": 2}, TypeError, "^a number is handed over with states and width"),
+                ({"number": 1, "states": 2, "width": 2, "table": [0]}, TypeError, "^a number is handed over with states and width"),
+                ({"number": 65536, "states": 2, "width": 4}, ca.RuleError, "from 0 to 65,535, and not 65,536$"),
+                ({"number": -1, "states": 2, "width": 4}, ca.RuleError, "from 0 to 65,535, and not -1$"),
+                ({"number": 0, "states": 7, "width": 2}, ca.RuleError, "^rule fault 1 kind"),
+                ({"number": 0, "states": 3, "width": 4}, ca.RuleError, "^rule fault 1 nodes")):
+            with self.assertRaisesRegex(kind, text):
+                make(**operands)
+
     def test_what_it_says(self) -> None:
         rule = ca.Rule("3:2:-2:t012120201")
         self.assertEqual((rule.states, rule.width, rule.offset, rule.number), (3, 2, -2, 8229))     # the number of docs/COMMANDS.md
@@ -65,6 +86,11 @@ class Making(unittest.TestCase):
         for number in range(256):
             self.assertEqual(ca.Rule.from_wolfram(f"{number:08b}"), ca.Rule(number))
         self.assertEqual(ca.Rule.from_wolfram("01101110").table, tuple(map(int, reversed("01101110"))))
+        with self.assertRaises(ca.RuleError) as caught:                         # what it advises makes the rule of the row
+            ca.decide("01101110")
+        advised = re.search(r"from_wolfram\('([01]+)'\).* as (2:3:-1:t[01]+)$", str(caught.exception))
+        assert advised
+        self.assertEqual((ca.Rule.from_wolfram(advised[1]), ca.Rule(advised[2])), (ca.Rule(110), ca.Rule(110)))
         self.assertEqual(ca.Rule.from_wolfram("201021012", 3, -1), ca.Rule("3:2:-1:t210120102"))
 
     def test_totalistic_codes(self) -> None:

@@ -50,6 +50,11 @@ class Surveys(unittest.TestCase):
                 end = last(ca.survey_over(executor, 2, 3, task=7))
                 self.assertEqual((end.rules, end.of, end.summary), (256, 256, WHOLE))
 
+    def test_the_executor_may_stand_behind_the_shape(self) -> None:
+        pool = AtOnce()
+        self.assertEqual([last(ca.survey_over(2, 3)).summary, last(ca.survey_over(2, 3, pool)).summary], [WHOLE] * 2)
+        self.assertEqual(pool.calls, 1)
+
     def test_two_states_of_width_four(self) -> None:
         self.assertEqual(last(ca.survey_over(None, 2, 4)).summary, ca.Summary(65536, 582, 16, 314, 314, 46, 22))
 

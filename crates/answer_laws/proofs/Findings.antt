@@ -5,7 +5,7 @@ use Rattle.tail_laws.proofs.Common.{IsInjective-determined}
 use Rattle.tail_preimage.proofs.laws.LeastPreimages.{IsLeastPreimage-unique}
 use Rattle.image_minimal.proofs.laws.ClassLists.{IsLeastAutomaton-unique}
 use Rattle.rule_classes.proofs.laws.Classes.{IsLeastOfClass-unique}
-use Rattle.ca_questions.proofs.Common.{Question, AreRules, Finding, Unfit, IsFinding, IsUnfitFor}
+use Rattle.ca_questions.proofs.Common.{Question, AreRules, Finding, Cause, IsFinding, IsCauseFor}
 use Rattle.answer_laws.proofs.Least.{IsLeastTwins-unique, IsLeastDetermined-unique}
 use Rattle.answer_laws.proofs.Evidence.{IsOrphanPart-unique, IsLeastEvidence-unique}
 use Rattle.answer_laws.proofs.Certificates.{IsWritten-unique}
@@ -43,19 +43,19 @@ IsFinding-unique rules (IsFinding.Classes _ leasts t counts least) (IsFinding.Cl
     ap₂ Finding.Classes (AreCounts-unique counts also) (length-AreLeastRules rules least other)
 
 -- a question of accepted rules that nothing fits has one cause
-pub IsUnfitFor-unique : {q : Question} {u v : Unfit} → AreRules q → IsUnfitFor q u → IsUnfitFor q v → u ≡ v
-IsUnfitFor-unique rule (IsUnfitFor.Report r weights other) (IsUnfitFor.Report _ _ _) = refl
-IsUnfitFor-unique rule (IsUnfitFor.Written v r weights other) (IsUnfitFor.Written _ _ _ _) = refl
-IsUnfitFor-unique rule (IsUnfitFor.Shift r by f unfits) (IsUnfitFor.Shift _ _ g also) = ap Unfit.Algebra (one_some unfits also)
-IsUnfitFor-unique rule (IsUnfitFor.Widen r width f unfits) (IsUnfitFor.Widen _ _ g also) = ap Unfit.Algebra (one_some unfits also)
-IsUnfitFor-unique rule (IsUnfitFor.Permute r letters unfits) (IsUnfitFor.Permute _ _ _) = refl
-IsUnfitFor-unique rules (IsUnfitFor.Compose r s f unfits) (IsUnfitFor.Compose _ _ g also) = ap Unfit.Algebra (one_some unfits also)
-IsUnfitFor-unique rule (IsUnfitFor.Least r many) (IsUnfitFor.Least _ _) = refl
-IsUnfitFor-unique rule (IsUnfitFor.Lift r f unfits) (IsUnfitFor.Lift _ g also) = ap Unfit.Lift (one_some unfits also)
-IsUnfitFor-unique rule (IsUnfitFor.Unlift r f unfits) (IsUnfitFor.Unlift _ g also) = ap Unfit.Lift (one_some unfits also)
-IsUnfitFor-unique rule (IsUnfitFor.Twins r x y none twins) (IsUnfitFor.Twins _ u v _ also) = let (first, second) = IsLeastTwins-unique twins also in ap₂ Unfit.Twins first second
-IsUnfitFor-unique rule (IsUnfitFor.Twins r x y none twins) (IsUnfitFor.Wide _ n c least wide) = absurd (none (IsInjective-determined rule least.determined))
-IsUnfitFor-unique rule (IsUnfitFor.Wide r n c least wide) (IsUnfitFor.Twins _ x y none twins) = absurd (none (IsInjective-determined rule least.determined))
-IsUnfitFor-unique rule (IsUnfitFor.Wide r n c least wide) (IsUnfitFor.Wide _ m d also _) = ap Unfit.Wide (IsLeastDetermined-unique least also).0
-IsUnfitFor-unique rule (IsUnfitFor.Tail r t f unfits) (IsUnfitFor.Tail _ _ g also) = ap Unfit.Tail (one_some unfits also)
-IsUnfitFor-unique rules (IsUnfitFor.States r s differ) (IsUnfitFor.States _ _ _) = refl
+pub IsCauseFor-unique : {q : Question} {u v : Cause} → AreRules q → IsCauseFor q u → IsCauseFor q v → u ≡ v
+IsCauseFor-unique rule (IsCauseFor.Report r weights other) (IsCauseFor.Report _ _ _) = refl
+IsCauseFor-unique rule (IsCauseFor.Written v r weights other) (IsCauseFor.Written _ _ _ _) = refl
+IsCauseFor-unique rule (IsCauseFor.Shift r by f unfits) (IsCauseFor.Shift _ _ g also) = ap Cause.Algebra (one_some unfits also)
+IsCauseFor-unique rule (IsCauseFor.Widen r width f unfits) (IsCauseFor.Widen _ _ g also) = ap Cause.Algebra (one_some unfits also)
+IsCauseFor-unique rule (IsCauseFor.Permute r letters unfits) (IsCauseFor.Permute _ _ _) = refl
+IsCauseFor-unique rules (IsCauseFor.Compose r s f unfits) (IsCauseFor.Compose _ _ g also) = ap Cause.Algebra (one_some unfits also)
+IsCauseFor-unique rule (IsCauseFor.Least r many) (IsCauseFor.Least _ _) = refl
+IsCauseFor-unique rule (IsCauseFor.Lift r f unfits) (IsCauseFor.Lift _ g also) = ap Cause.Lift (one_some unfits also)
+IsCauseFor-unique rule (IsCauseFor.Unlift r f unfits) (IsCauseFor.Unlift _ g also) = ap Cause.Lift (one_some unfits also)
+IsCauseFor-unique rule (IsCauseFor.Twins r x y none twins) (IsCauseFor.Twins _ u v _ also) = let (first, second) = IsLeastTwins-unique twins also in ap₂ Cause.Twins first second
+IsCauseFor-unique rule (IsCauseFor.Twins r x y none twins) (IsCauseFor.Wide _ n c least wide) = absurd (none (IsInjective-determined rule least.determined))
+IsCauseFor-unique rule (IsCauseFor.Wide r n c least wide) (IsCauseFor.Twins _ x y none twins) = absurd (none (IsInjective-determined rule least.determined))
+IsCauseFor-unique rule (IsCauseFor.Wide r n c least wide) (IsCauseFor.Wide _ m d also _) = ap Cause.Wide (IsLeastDetermined-unique least also).0
+IsCauseFor-unique rule (IsCauseFor.Tail r t f unfits) (IsCauseFor.Tail _ _ g also) = ap Cause.Tail (one_some unfits also)
+IsCauseFor-unique rules (IsCauseFor.States r s differ) (IsCauseFor.States _ _ _) = refl

@@ -1,7 +1,10 @@
 -- The inverse map of a rule over its least determined window is one.
-use Rattle.std.proofs.Common.{◌≡◌, ℕ, ◌^◌, ◌<◌, List, get_or, slice_index, refl, sym, ap, ◌∙◌, subst, arith, Option, None, Some}
-use Rattle.word_image.proofs.Common.{same_number_lists, LocalRule, word_of, IsPreimage, length-word_of, IsWord-word_of, value-word_of}
-use Rattle.tail_config.proofs.Common.{WindowMap, IsInverseMap}
+use Rattle.std.proofs.Common.{◌≡◌, ℕ, ◌^◌, ◌<◌, List, take, get_or, slice_index, refl, sym, ap, ◌∙◌, subst, arith, Option, None, Some}
+use Rattle.word_image.proofs.Common.{same_number_lists, LocalRule, IsRule, IsWord, word_of, IsPreimage, length-word_of, IsWord-word_of, value-word_of}
+use Rattle.tail_config.proofs.Common.{WindowMap, IsInverseMap, map_letter}
+use Rattle.config_laws.specs.Composed.{IsUndoneBy}
+use Rattle.config_laws.proofs.Composed.{IsUndoneBy-map}
+use Rattle.inverse_table.proofs.MapRules.{local_map-map_rule}
 use Rattle.inverse_table.specs.InverseMaps.{GivesBack}
 use Rattle.ca_questions.proofs.Common.{Finding, IsMapRule, IsInverseFound}
 use Rattle.answer_laws.proofs.Least.{IsLeastDetermined-unique}
@@ -23,6 +26,15 @@ IsInverseMap-unique {r} {n} {c} {f} {g} gives here there =
     let onto = gives.onto (word_of r.states n v) (IsWord-word_of r.states n v below) (length-word_of r.states n v) in
     map-letter here v below onto.0 onto.1 ∙ sym (map-letter there v below onto.0 onto.1)) in
     λ i. record { states = states i; width = width i; offset = offset i; table = table i }
+
+-- the rule that is found undoes the rule
+pub IsUndoneBy-found : {r s : LocalRule} {n c : ℕ} {g : WindowMap} → IsRule r → IsInverseFound r n c g (Some s) → IsUndoneBy r s
+IsUndoneBy-found {r} {s} {n} {c} {g} rule found =
+    let window = found.least.determined in
+    subst (IsUndoneBy r) (sym found.as_rule.1)
+    (IsUndoneBy-map rule window found.map found.map.states refl (omega (arith, found.map.width)) (λ w word long.
+    let same = local_map-map_rule g w (omega (arith, window.some, found.map.width)) (subst (λ k. IsWord k w) (sym found.map.states) word) long in
+    same ∙ ap (λ n. map_letter g (take n w)) found.map.width))
 
 -- a map is one rule, or none
 IsMapRule-unique : (g : WindowMap) (rule other : Option LocalRule) → IsMapRule g rule → IsMapRule g other → rule ≡ other

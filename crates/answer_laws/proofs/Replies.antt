@@ -4,7 +4,7 @@ use Rattle.cert_conditions.proofs.Common.{IsAccepted, IsRefusal}
 use Rattle.cert_conditions.proofs.laws.OneAnswer.{IsAccepted-unique, IsRefusal-unique, accepted_not_refused}
 use Rattle.ca_commands.specs.declared.names.Name.TheVariants as name
 use Rattle.ca_commands.specs.Commands.{Command, IsCommand}
-use Rattle.ca_questions.proofs.Common.{IsFinding, IsUnfitFor, Reply}
+use Rattle.ca_questions.proofs.Common.{IsFinding, IsCauseFor, Reply}
 use Rattle.ca_questions.proofs.Fits.{IsFinding-fit}
 use Rattle.ca_cli.specs.declared.status.Status.{Status}
 use Rattle.ca_cli.specs.Inputs.{IsLongInput, IsWholeInput}
@@ -12,10 +12,10 @@ use Rattle.ca_cli.specs.Readings.{ReadsNothing}
 use Rattle.ca_text.specs.Replies.{reply_text}
 use Rattle.ca_cli.specs.Statuses.{reply_status}
 use Rattle.ca_cli.specs.RightAnswers.{IsReply, IsReplyOf, IsReplyTo, IsAnswer}
-use Rattle.ca_cli.specs.RightAnswers.IsReply.{Found, NoFit, RuleFault, Accepted, Refused, TooLong}
+use Rattle.ca_cli.specs.RightAnswers.IsReply.{Found, NotFit, RuleFault, Accepted, Refused, TooLong}
 use Rattle.ca_commands.proofs.laws.Asked.{IsAsked-unique, IsAsked-no_fault}
 use Rattle.answer_laws.proofs.RightAnswers.{says_of, to_command, right_exactly}
-use Rattle.answer_laws.proofs.Findings.{IsFinding-unique, IsUnfitFor-unique}
+use Rattle.answer_laws.proofs.Findings.{IsFinding-unique, IsCauseFor-unique}
 use Rattle.answer_laws.proofs.Asked.{IsAsked-rules, IsOperandFault-unique}
 
 -- `check` reads at most one whole input, and no input that is too long beside it
@@ -32,14 +32,14 @@ pub IsReply-unique : {words : List (List ℕ)} {input : Option (List ℕ)} {c : 
     → (c.name ≡ name.Check → ReadsOne input) → IsReply input c a → IsReply input c b → a ≡ b
 IsReply-unique is reads (Found c q f asked right) (Found _ p g also other) =
     ap Reply.Found (IsFinding-unique (IsAsked-rules asked) right (subst (λ p. IsFinding p g) (IsAsked-unique also asked) other))
-IsReply-unique is reads (Found c q f asked right) (NoFit _ p u also unfits) = absurd (IsFinding-fit right (subst (λ p. IsUnfitFor p u) (IsAsked-unique also asked) unfits))
+IsReply-unique is reads (Found c q f asked right) (NotFit _ p u also unfits) = absurd (IsFinding-fit right (subst (λ p. IsCauseFor p u) (IsAsked-unique also asked) unfits))
 IsReply-unique is reads (Found c q f asked right) (RuleFault _ i g fault) = absurd (IsAsked-no_fault asked fault)
-IsReply-unique is reads (NoFit c q u asked unfits) (Found _ p f also right) = absurd (IsFinding-fit right (subst (λ p. IsUnfitFor p u) (IsAsked-unique asked also) unfits))
-IsReply-unique is reads (NoFit c q u asked unfits) (NoFit _ p v also other) =
-    ap Reply.NoFit (IsUnfitFor-unique (IsAsked-rules asked) unfits (subst (λ p. IsUnfitFor p v) (IsAsked-unique also asked) other))
-IsReply-unique is reads (NoFit c q u asked unfits) (RuleFault _ i g fault) = absurd (IsAsked-no_fault asked fault)
+IsReply-unique is reads (NotFit c q u asked unfits) (Found _ p f also right) = absurd (IsFinding-fit right (subst (λ p. IsCauseFor p u) (IsAsked-unique asked also) unfits))
+IsReply-unique is reads (NotFit c q u asked unfits) (NotFit _ p v also other) =
+    ap Reply.NotFit (IsCauseFor-unique (IsAsked-rules asked) unfits (subst (λ p. IsCauseFor p v) (IsAsked-unique also asked) other))
+IsReply-unique is reads (NotFit c q u asked unfits) (RuleFault _ i g fault) = absurd (IsAsked-no_fault asked fault)
 IsReply-unique is reads (RuleFault c i f fault) (Found _ q g asked right) = absurd (IsAsked-no_fault asked fault)
-IsReply-unique is reads (RuleFault c i f fault) (NoFit _ q u asked unfits) = absurd (IsAsked-no_fault asked fault)
+IsReply-unique is reads (RuleFault c i f fault) (NotFit _ q u asked unfits) = absurd (IsAsked-no_fault asked fault)
 IsReply-unique is reads (RuleFault c i f fault) (RuleFault _ j g also) = let (one, first) = IsOperandFault-unique is fault also in ap₂ Reply.RuleFault one first
 IsReply-unique is reads (Accepted c bytes v check whole accepted are_true) (Accepted _ others w _ also accepted' _) =
     ap Reply.Accepted (IsAccepted-unique accepted (subst (λ b. IsAccepted b w) ((reads check).one also whole) accepted'))

@@ -5,7 +5,7 @@ use Rattle.ca_commands.specs.declared.names.Name.{Name}
 use Rattle.ca_commands.specs.declared.names.Name.TheVariants as name
 use Rattle.ca_commands.specs.Commands.{Command, IsCommand}
 use Rattle.ca_commands.proofs.laws.Names.{IsCommand-unique}
-use Rattle.ca_questions.proofs.Common.{Question, Unfit, IsUnfitFor, Reply}
+use Rattle.ca_questions.proofs.Common.{Question, Cause, IsCauseFor, Reply}
 use Rattle.ca_text.specs.Replies.{reply_text}
 use Rattle.ca_text.specs.StatusLines.{usage_line, operand_fault_line}
 use Rattle.ca_cli.specs.declared.status.Status.{Status}
@@ -14,7 +14,7 @@ use Rattle.ca_cli.specs.Statuses.{reply_status}
 use Rattle.ca_commands.specs.Asked.{IsAsked, IsOperandFault}
 use Rattle.ca_cli.specs.Readings.{ReadsNothing}
 use Rattle.ca_cli.specs.RightAnswers.{IsReply, IsReplyOf, IsReplyTo, IsAnswer}
-use Rattle.ca_cli.specs.RightAnswers.IsReply.{Found, NoFit, RuleFault, Accepted, Refused, TooLong}
+use Rattle.ca_cli.specs.RightAnswers.IsReply.{Found, NotFit, RuleFault, Accepted, Refused, TooLong}
 use Rattle.ca_commands.proofs.laws.Asked.{IsAsked-reads_nothing, IsOperandFault-reads_nothing}
 
 -- what a reply to words that are a command is
@@ -42,7 +42,7 @@ SaysOf _ n = n ≢ name.Check
 pub says_of : {words : List (List ℕ)} {input : Option (List ℕ)} {c : Command} {reply : Reply} → IsCommand words c → IsReply input c reply
     → SaysOf reply c.name
 says_of is (Found c q f asked right) = IsAsked-reads_nothing asked
-says_of is (NoFit c q u asked unfits) = IsAsked-reads_nothing asked
+says_of is (NotFit c q u asked unfits) = IsAsked-reads_nothing asked
 says_of is (RuleFault c i f fault) = IsOperandFault-reads_nothing is fault
 says_of is (Accepted c bytes v check whole accepted are_true) = check
 says_of is (Refused c bytes f check whole refused) = check
@@ -80,8 +80,8 @@ rule_fault_says answer = let (c, i, f, is, fault, line) = fault_to answer.right 
 -- of a command that reads nothing, none of whose operands is refused and for which something fits, the status is Done
 pub done_says : {words : List (List ℕ)} {input : Option (List ℕ)} {c : Command} {reply : Reply} → IsCommand words c → ReadsNothing c
     → ((i : ℕ) (f : TextFault) → ¬ IsOperandFault c i f)
-    → ((q : Question) (u : Unfit) → IsAsked c q → ¬ IsUnfitFor q u) → IsReply input c reply → reply_status reply ≡ status.Done
+    → ((q : Question) (u : Cause) → IsAsked c q → ¬ IsCauseFor q u) → IsReply input c reply → reply_status reply ≡ status.Done
 done_says is reads accepted fits (Found c q f asked right) = refl
-done_says is reads accepted fits (NoFit c q u asked unfits) = absurd (fits q u asked unfits)
+done_says is reads accepted fits (NotFit c q u asked unfits) = absurd (fits q u asked unfits)
 done_says is reads accepted fits (RuleFault c i f fault) = absurd (accepted i f fault)
 done_says is reads accepted fits judged = absurd (reads (says_of is judged))

@@ -5,6 +5,8 @@
 //!   commands which status and output are right.
 //! - [`check_exactly`] says it for the command `check`.
 //! - [`certified_is_accepted`] says that `check` accepts what `certify` writes.
+//! - [`faults_are_seen`] says that a count of faults tells whether a read or a write failed.
+//! - [`found_inverse_undoes`] says that the rule which `inverse` finds undoes the given rule.
 //! - [`one_reply`] and [`one_output`] say that the words have at most one right reply. The words and the bytes that the
 //!   source has left determine the reply as a value. So they also determine the status, and each byte of the text and of
 //!   the JSON of the reply.
@@ -25,9 +27,14 @@
 
 mod statuses;
 
-ghost use Rattle.std.specs.Prelude.{◌≡◌, ℕ, List, Option, Some};
+ghost use Rattle.std.specs.Prelude.{◌≡◌, ℕ, ◌-◌, ◌^◌, List, Option, Some};
+ghost use Rattle.word_image.specs.LocalRules.{LocalRule, IsRule};
+ghost use Rattle.tail_config.specs.InverseMaps.{WindowMap};
+ghost use Rattle.config_laws.specs.Composed.{IsUndoneBy};
+ghost use Rattle.ca_io.specs.Faults.{Rose};
 ghost use Rattle.ca_cli.specs.declared.status.Status.{Status};
 ghost use Rattle.ca_commands.specs.Commands.{Command, IsCommand};
+ghost use Rattle.ca_questions.specs.Findings.{IsInverseFound};
 ghost use Rattle.ca_questions.specs.Replies.{Reply};
 ghost use Rattle.ca_cli.specs.Readings.{ReadsNothing};
 ghost use Rattle.ca_cli.specs.RightAnswers.{IsAnswer, IsReplyTo};
@@ -55,4 +62,16 @@ pub fn one_output()
         → IsAnswer words input s out → IsAnswer words input s other → out ≡ other }
     ensures told { (words : List (List ℕ)) (left : List ℕ) (s : Status) (out other : List ℕ)
         → IsAnswer words (Some left) s out → IsAnswer words (Some left) s other → out ≡ other }
+{}
+
+/// Law: a count of faults that rose isn't the same as before, unless it was at its greatest value. So if a count below
+/// this value doesn't change while [`ca_cli::run`] runs, no call that it counts failed.
+pub fn faults_are_seen()
+    ensures { (before now : ℕ) → Rose before now → now ≡ before → before ≡ 2 ^ 64 - 1 }
+{}
+
+/// Law: if `inverse` finds a rule s, then s undoes the given rule r. By the law `undone_everywhere` of config_laws, r then
+/// undoes s too, r is injective, and both conserve the same sums.
+pub fn found_inverse_undoes()
+    ensures { (r s : LocalRule) (n c : ℕ) (g : WindowMap) → IsRule r → IsInverseFound r n c g (Some s) → IsUndoneBy r s }
 {}

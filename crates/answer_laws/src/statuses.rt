@@ -10,7 +10,7 @@ ghost use Rattle.cert_values.specs.declared.cert_version.CertVersion.{CertVersio
 ghost use Rattle.rule_text.specs.declared.text_fault.TextFault.{TextFault};
 ghost use Rattle.ca_commands.specs.Commands.{Command, IsCommand, check_command};
 ghost use Rattle.ca_questions.specs.Questions.{Question};
-ghost use Rattle.ca_questions.specs.Findings.{Unfit, IsUnfitFor, weights_by};
+ghost use Rattle.ca_questions.specs.Findings.{Cause, IsCauseFor, weights_by};
 ghost use Rattle.ca_commands.specs.Asked.{IsAsked, IsOperandFault};
 ghost use Rattle.ca_cli.specs.Inputs.{most_input};
 ghost use Rattle.ca_cli.specs.Readings.{ReadsNothing};
@@ -18,7 +18,7 @@ ghost use Rattle.ca_text.specs.StatusLines.{accepted_lines, operand_fault_line, 
 ghost use Rattle.ca_cli.specs.RightAnswers.{IsAnswer, IsReplyOf};
 
 use ca_cli::Status;
-use ca_questions::found_or_unfit;
+use ca_questions::finding_or_cause;
 
 /// Law: the same words and the same input have at most one right status. If the words are no command, or a command that
 /// reads nothing, this holds for any source. For other words it holds if the source tells its bytes.
@@ -29,7 +29,7 @@ pub fn one_status()
     ensures told { (words : List (List ℕ)) (left : List ℕ) (s t : Status) (out other : List ℕ)
         → IsAnswer words (Some left) s out → IsAnswer words (Some left) t other → s ≡ t }
 {
-    found_or_unfit();
+    finding_or_cause();
 }
 
 /// Law: the status Usage is right if and only if the words are no command. Its output is the line `usage error`.
@@ -61,12 +61,12 @@ pub fn right_exactly()
 pub fn done_or_not_fit()
     ensures done { (words : List (List ℕ)) (input : Option (List ℕ)) (c : Command) (s : Status) (out : List ℕ)
         → IsCommand words c → ReadsNothing c → ((operand : ℕ) (f : TextFault) → ¬ IsOperandFault c operand f)
-        → ((q : Question) (cause : Unfit) → IsAsked c q → ¬ IsUnfitFor q cause)
+        → ((q : Question) (cause : Cause) → IsAsked c q → ¬ IsCauseFor q cause)
         → IsAnswer words input s out → s ≡ Status.Done }
-    ensures not_fit { (words : List (List ℕ)) (input : Option (List ℕ)) (c : Command) (q : Question) (cause : Unfit) (s : Status) (out : List ℕ)
-        → IsCommand words c → IsAsked c q → IsUnfitFor q cause → IsAnswer words input s out → s ≡ Status.NotFit }
+    ensures not_fit { (words : List (List ℕ)) (input : Option (List ℕ)) (c : Command) (q : Question) (cause : Cause) (s : Status) (out : List ℕ)
+        → IsCommand words c → IsAsked c q → IsCauseFor q cause → IsAnswer words input s out → s ≡ Status.NotFit }
 {
-    found_or_unfit();
+    finding_or_cause();
 }
 
 /// Law: if the source tells its bytes, `check` has exactly one right answer. It is Done with the verdicts if the judge

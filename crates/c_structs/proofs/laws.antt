@@ -2,3 +2,4 @@ pub mod NextRules
 pub mod LetterRows
 pub mod Reports
 pub mod Filled
+pub mod Degrees

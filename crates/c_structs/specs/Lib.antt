@@ -1,9 +1,12 @@
 pub mod Verdicts
 pub mod NumberedVerdicts
+pub mod RuleParts
 pub mod NextRules
 pub mod RuleSums
+pub mod MovedConfigs
 pub mod LetterRooms
 pub mod LetterRows
 pub mod ReportParts
 pub mod Reports
 pub mod Images
+pub mod Degrees

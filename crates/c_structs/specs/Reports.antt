@@ -5,8 +5,8 @@ use Rattle.word_image.specs.LocalRules.{LocalRule, IsRule}
 use Rattle.word_image.specs.RuleFaults.{rule_fault}
 use Rattle.word_image.specs.declared.local_rule.RuleFault.{RuleFault}
 use Rattle.certificate_laws.specs.LeastEvidence.{Evidence}
-use Rattle.ca_questions.specs.Questions.{Question}
-use Rattle.ca_questions.specs.Findings.{Finding, AreFor, IsFinding}
+use Rattle.ca_questions.specs.Questions.{AreFor, Question}
+use Rattle.ca_questions.specs.Findings.{Finding, IsFinding}
 use Rattle.c_structs.specs.declared.rule_reports.RuleReport.{RuleReport}
 use Rattle.c_structs.specs.Verdicts.{fault_code}
 use Rattle.c_structs.specs.LetterRows.{no_row, no_twins, no_split}

@@ -5,7 +5,7 @@ ghost use Rattle.rule_lists.specs.Ranks.{IsOrder};
 ghost use Rattle.rule_lists.specs.Listed.{IsFirst, NoneIs};
 ghost use Rattle.c_structs.specs.NextRules.{IsNoProperty, IsToCome, fixed_letters, property_number};
 
-use rule_lists::{Asked, Letters, Property, Search};
+use rule_lists::{Asked, FixedLetters, ListedRules, Property};
 use word_image::{MOST_ENTRIES, Rule};
 
 /// Returns the property that this number stands for: 1, 2, 4, 8, 16 or 32. A byte of verdicts is the sum of these
@@ -36,7 +36,7 @@ pub fn shape_rule(states: u8, width: u8) -> Rule
 }
 
 /// Returns the fixed letters of a search for tables that begin with these letters. The letters after them aren't fixed.
-pub fn letters_of(begin: &[u8]) -> Letters
+pub fn letters_of(begin: &[u8]) -> FixedLetters
     requires { length begin.now ≤ 256 }
     ensures { result ≡ fixed_letters begin.now }
 {
@@ -50,7 +50,7 @@ pub fn letters_of(begin: &[u8]) -> Letters
 /// digits are its letters in this order of windows. Returns None if there is no such rule.
 pub fn next_rule(
     property: Property,
-    letters: &Letters,
+    letters: &FixedLetters,
     order: &[u8],
     after: bool,
     rule: &Rule,
@@ -63,13 +63,13 @@ pub fn next_rule(
     let asked = Asked {
         property,
         shape: rule,
-        begin: letters,
+        fixed: letters,
         order,
     };
     let mut search = if after {
-        Search::resume_after(asked, rule)
+        ListedRules::resume_after(asked, rule)
     } else {
-        Search::new(asked)
+        ListedRules::new(asked)
     };
     search.next()
 }

@@ -83,7 +83,7 @@ impl RowRoom {
         requires empty { self.old ≡ [] }
         ensures { IsReported rule.now (named_weights weights.now) result self.new }
     {
-        match weights_for(rule, named(weights)) {
+        match weights_for(rule, named_weights(weights)) {
             Some(weights) => {
                 let found = least_report(&mut self.reports, rule, &weights);
                 written(&mut self.letters, &found)
@@ -94,7 +94,7 @@ impl RowRoom {
 }
 
 /// Returns the weights, or None if the list is empty.
-fn named(weights: &[u8]) -> Option<&[u8]>
+fn named_weights(weights: &[u8]) -> Option<&[u8]>
     ensures { option_copied result ≡ named_weights weights.now }
 {
     if weights.is_empty() {

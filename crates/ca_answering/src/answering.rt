@@ -10,23 +10,33 @@ use crate::inverses::inverse;
 use crate::languages::{erase, language, same};
 use crate::preimages::preimage;
 use crate::reports::{certificate, number, orphan, report};
-use crate::room::Room;
+use crate::room::AnswerRoom;
 use crate::summaries::{classes, sample, survey};
-use ca_questions::{Cause, Found, Question, ShortList, Stop};
+use ca_questions::{Cause, Finding, Question, ShortList, Stop};
 use std::alloc::Global;
 
 /// Returns the answer to a question, or the reason why there is none: a cause, or lack of memory. The answer lends its
 /// long lists from the room. Only a certificate and the number of classes need other memory.
-pub fn answer<'r>(alloc: Global, room: &'r mut Room, question: &Question) -> Result<Found<'r>, Stop>
+pub fn answer<'r>(
+    alloc: Global,
+    room: &'r mut AnswerRoom,
+    question: &Question,
+) -> Result<Finding<'r>, Stop>
     requires { IsWhole question.now }
     ensures { Answers (question_of question.now) result }
 {
     match question {
         Question::Report(rule, weights) => {
-            settled(report(&mut room.reports, rule, named(weights)))
+            settled(report(&mut room.reports, rule, named_weights(weights)))
         }
         Question::Certify(version, rule, weights) => {
-            certificate(alloc, &mut room.reports, *version, rule, named(weights))
+            certificate(
+                alloc,
+                &mut room.reports,
+                *version,
+                rule,
+                named_weights(weights),
+            )
         }
         Question::Orphan(rule) => Ok(orphan(&mut room.reports, rule)),
         Question::Number(rule) => Ok(number(rule)),
@@ -54,17 +64,17 @@ pub fn answer<'r>(alloc: Global, room: &'r mut Room, question: &Question) -> Res
 ///
 /// The function isn't inlined, since otherwise LLVM takes 40 seconds more to compile `answer`.
 #[inline(never)]
-fn settled(found: Result<Found<'_>, Cause>) -> Result<Found<'_>, Stop>
+fn settled(found: Result<Finding<'_>, Cause>) -> Result<Finding<'_>, Stop>
     ensures { (q : questions.Question) → Settles q found.entry → Answers q result }
 {
     match found {
         Ok(found) => Ok(found),
-        Err(cause) => Err(Stop::Unfit(cause)),
+        Err(cause) => Err(Stop::NotFit(cause)),
     }
 }
 
 /// Returns the named weights as a slice, or None if no weights are named.
-fn named(weights: &Option<ShortList>) -> Option<&[u8]>
+fn named_weights(weights: &Option<ShortList>) -> Option<&[u8]>
     ensures { option_copied result ≡ weights.now }
 {
     match weights {

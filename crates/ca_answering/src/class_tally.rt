@@ -11,7 +11,7 @@ ghost use Rattle.ca_questions.specs.Values.{finding_of};
 ghost use Rattle.ca_answering.specs.ClassTallies.{IsRuleAdded, IsClassTally, IsDecided, rules_in};
 
 use crate::tally;
-use ca_questions::{Counts, Found};
+use ca_questions::{Counts, Finding};
 use indexmap::IndexMap;
 use rule_classes::class_of;
 use rule_text::number;
@@ -48,7 +48,7 @@ impl ClassTally {
             OnOk result (IsClassTally rule.now.states rule.now.width (rules ++ rule.now ∷ []) self.new) }
     {
         let place = class_of(rule).unwrap();
-        let least = decided(&mut self.leasts, &place.least)?;
+        let least = verdicts_of_least(&mut self.leasts, &place.least)?;
         tally::add(
             &mut self.counts,
             &member_truths(rule, place.mirrored, &least),
@@ -57,16 +57,16 @@ impl ClassTally {
     }
 
     /// Returns the finding with the counts and the number of classes.
-    pub fn found(&self) -> Found<'static>
+    pub fn finding(&self) -> Finding<'static>
         ensures { (k m : ℕ) (rules : List LocalRule) → IsClassTally k m rules self.now → IsFinding (Question.Classes rules) (finding_of result) }
     {
-        Found::Classes(self.counts, self.leasts.len())
+        Finding::Classes(self.counts, self.leasts.len())
     }
 }
 
 /// Returns the verdicts on this rule, which is the least rule of a class. If `known` has no verdicts for the Wolfram
 /// number of the rule, decides them and stores them in `known` under this number.
-fn decided(known: &mut IndexMap<u128, Truths>, rule: &Rule) -> Result<Truths, AllocError>
+fn verdicts_of_least(known: &mut IndexMap<u128, Truths>, rule: &Rule) -> Result<Truths, AllocError>
     requires states { rule.now.states ≤ 6 }
     requires offset { rule.now.offset ≡ pos 0 }
     requires known { All (IsDecided rule.now.states rule.now.width) known.old.entries }

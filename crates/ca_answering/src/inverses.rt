@@ -2,12 +2,13 @@
 ghost use Rattle.std.specs.Prelude.{◌≤◌};
 ghost use Rattle.word_image.specs.Windows.{IsLeastDetermined};
 ghost use Rattle.tail_config.specs.Tails.{IsInjective};
+ghost use Rattle.inverse_table.specs.MapLimits.{longest_window};
 ghost use Rattle.ca_questions.specs.Questions.{Question};
 ghost use Rattle.ca_questions.specs.Findings.{IsMapRule};
 ghost use Rattle.ca_questions.specs.Values.{Settles};
 
-use crate::room::{Numbers, Room};
-use ca_questions::{Cause, Found, Inverse};
+use crate::room::{AnswerRoom, Numbers};
+use ca_questions::{Cause, Finding, Inverse};
 use inverse_table::{LentMap, NoMap, TableRoom};
 use inverse_window::WindowAt;
 use rule_verdicts::window_or_twins;
@@ -15,7 +16,7 @@ use word_image::Rule;
 
 /// Returns the inverse map of a rule, which reads as few letters of an image as possible. Returns the cause if the rule
 /// isn't injective, or if its inverse reads too many letters.
-pub fn inverse<'r>(room: &'r mut Room, rule: &Rule) -> Result<Found<'r>, Cause>
+pub fn inverse<'r>(room: &'r mut AnswerRoom, rule: &Rule) -> Result<Finding<'r>, Cause>
     ensures { Settles (Question.Inverse rule.now) result }
 {
     match window_or_twins(&mut room.reports, rule) {
@@ -31,16 +32,16 @@ fn inverse_over<'r>(
     numbers: &mut Numbers,
     rule: &Rule,
     at: WindowAt,
-) -> Result<Found<'r>, Cause>
+) -> Result<Finding<'r>, Cause>
     requires injective { IsInjective rule.now }
     requires least { IsLeastDetermined rule.now at.n at.c }
-    requires most { at.n ≤ 480 }
+    requires most { at.n ≤ longest_window }
     ensures { Settles (Question.Inverse rule.now) result }
 {
     match room.table(&mut numbers.list, rule, at) {
         Ok(map) => {
             let rule = map_rule(&map);
-            Ok(Found::Inverse(Inverse {
+            Ok(Finding::Inverse(Inverse {
                 n: at.n,
                 c: at.c,
                 map,

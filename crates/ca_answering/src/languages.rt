@@ -6,8 +6,8 @@ ghost use Rattle.ca_questions.specs.Findings.{IsFinding};
 ghost use Rattle.ca_questions.specs.Values.{Settles, automaton_of, finding_of};
 ghost use Rattle.ca_answering.specs.OneClass as one;
 
-use crate::room::{Numbers, Room};
-use ca_questions::{Automaton, Cause, Found};
+use crate::room::{AnswerRoom, Numbers};
+use ca_questions::{Automaton, Cause, Finding};
 use debruijn::Graph;
 use eden_law::{is_surjective, least_erasable};
 use image_minimal::{Minimal, SeparationRoom};
@@ -16,14 +16,14 @@ use short_words::LentWord;
 use word_image::Rule;
 
 /// Returns the answer with the least automaton of the words that have a preimage.
-pub fn language<'r>(room: &'r mut Room, rule: &Rule) -> Found<'r>
+pub fn language<'r>(room: &'r mut AnswerRoom, rule: &Rule) -> Finding<'r>
     ensures { IsFinding (Question.Language rule.now) (finding_of result) }
 {
     if is_surjective(&Graph::of(rule)) {
-        return Found::Language(one_class(&mut room.numbers, rule.k()));
+        return Finding::Language(one_class(&mut room.numbers, rule.k()));
     }
     room.minimal.set_rule(rule);
-    Found::Language(automaton(&room.minimal, &mut room.numbers))
+    Finding::Language(automaton(&room.minimal, &mut room.numbers))
 }
 
 /// Returns the automaton of a surjective rule of k states. It has one class, since each word has a preimage.
@@ -63,22 +63,22 @@ pub fn same<'r>(
     room: &'r mut SeparationRoom,
     first: &Rule,
     second: &Rule,
-) -> Result<Found<'r>, Cause>
+) -> Result<Finding<'r>, Cause>
     ensures { Settles (Question.Same first.now second.now) result }
 {
     if first.k() != second.k() {
         return Err(Cause::States);
     }
     match room.separate(first, second) {
-        Some(word) => Ok(Found::Same(Some(LentWord::of(word)))),
-        None => Ok(Found::Same(None)),
+        Some(word) => Ok(Finding::Same(Some(LentWord::of(word)))),
+        None => Ok(Finding::Same(None)),
     }
 }
 
 /// Returns the least erasable pair: two words that can replace each other in any configuration without a change of the
 /// image. The answer has no pair if the rule is surjective. `queue` has memory for the search.
-pub fn erase(queue: &mut Queue, rule: &Rule) -> Found<'static>
+pub fn erase(queue: &mut Queue, rule: &Rule) -> Finding<'static>
     ensures { IsFinding (Question.Erase rule.now) (finding_of result) }
 {
-    Found::Erased(least_erasable(queue, rule))
+    Finding::Erased(least_erasable(queue, rule))
 }

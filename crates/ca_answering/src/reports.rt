@@ -1,11 +1,11 @@
 //! Answers to questions about the verdicts on a rule.
 ghost use Rattle.std.specs.Prelude.{◌≡◌, length, true, option_copied, IfNone, IfOk, IfSome};
 ghost use Rattle.cert_values.specs.Versions.{names_weights};
-ghost use Rattle.ca_questions.specs.Questions.{Question};
-ghost use Rattle.ca_questions.specs.Findings.{AreFor, IsFinding, weights_by};
+ghost use Rattle.ca_questions.specs.Questions.{AreFor, Question};
+ghost use Rattle.ca_questions.specs.Findings.{IsFinding, weights_by};
 ghost use Rattle.ca_questions.specs.Values.{Answers, Settles, finding_of};
 
-use ca_questions::{Cause, Found, Stop};
+use ca_questions::{Cause, Finding, Stop};
 use cert_values::CertVersion;
 use rule_verdicts::{ReportRoom, least_orphan, least_report};
 use std::alloc::Global;
@@ -17,12 +17,12 @@ pub fn report<'r>(
     room: &'r mut ReportRoom,
     rule: &Rule,
     weights: Option<&[u8]>,
-) -> Result<Found<'r>, Cause>
+) -> Result<Finding<'r>, Cause>
     ensures { Settles (Question.Report rule.now (option_copied weights.entry)) result }
 {
     rule.keeps_limits();
     match weights_for(rule, weights) {
-        Some(weights) => Ok(Found::Report(least_report(room, rule, &weights))),
+        Some(weights) => Ok(Finding::Report(least_report(room, rule, &weights))),
         None => Err(Cause::Weights),
     }
 }
@@ -52,29 +52,29 @@ pub fn certificate(
     version: CertVersion,
     rule: &Rule,
     weights: Option<&[u8]>,
-) -> Result<Found<'static>, Stop>
+) -> Result<Finding<'static>, Stop>
     requires { names_weights version ≡ true }
     ensures { Answers (Question.Certify version rule.now (option_copied weights.entry)) result }
 {
     match weights_for(rule, weights) {
         Some(weights) => {
             let cert = rule_verdicts::certificate(alloc, room, version, rule, &weights)?;
-            Ok(Found::Written(cert))
+            Ok(Finding::Written(cert))
         }
-        None => Err(Stop::Unfit(Cause::Weights)),
+        None => Err(Stop::NotFit(Cause::Weights)),
     }
 }
 
 /// Returns the answer with the least orphan, or without an orphan if the rule is surjective.
-pub fn orphan<'r>(room: &'r mut ReportRoom, rule: &Rule) -> Found<'r>
+pub fn orphan<'r>(room: &'r mut ReportRoom, rule: &Rule) -> Finding<'r>
     ensures { IsFinding (Question.Orphan rule.now) (finding_of result) }
 {
-    Found::Orphan(least_orphan(room, rule))
+    Finding::Orphan(least_orphan(room, rule))
 }
 
 /// Returns the answer with the Wolfram number of a rule, or without a number if the rule has 7 states or more.
-pub fn number(rule: &Rule) -> Found<'static>
+pub fn number(rule: &Rule) -> Finding<'static>
     ensures { IsFinding (Question.Number rule.now) (finding_of result) }
 {
-    Found::Number(rule_text::number(rule))
+    Finding::Number(rule_text::number(rule))
 }

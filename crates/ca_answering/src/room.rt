@@ -1,4 +1,4 @@
-//! The type `Room`: the memory in which answers to questions find their long lists.
+//! The type `AnswerRoom`: the memory in which answers to questions find their long lists.
 
 use image_minimal::{Minimal, SeparationRoom};
 use inverse_table::{MOST_IMAGES, TableRoom};
@@ -11,7 +11,7 @@ use tail_preimage::PreimageRoom;
 /// The memory in which answers find their long lists, some 9 MB. It is allocated once, and serves one answer after
 /// another. No answer depends on an earlier one.
 #[derive(Drop)]
-pub struct Room {
+pub struct AnswerRoom {
     /// For the verdicts of a rule with their evidence.
     pub(crate) reports: ReportRoom,
     /// For the least word that is an orphan of only one of two rules.
@@ -45,12 +45,12 @@ impl Model for Numbers {
     ghost invariant = { λ n. MOST_IMAGES ≤ vec_capacity n.list };
 }
 
-impl Room {
+impl AnswerRoom {
     /// Allocates the memory of a room. The only error is lack of memory.
-    pub fn new(alloc: Global) -> Result<Room, AllocError> {
+    pub fn new(alloc: Global) -> Result<AnswerRoom, AllocError> {
         // The largest parts come last: if there is no memory for a part, those before it are dropped, and the prover takes
         // minutes if these are large.
-        Ok(Room {
+        Ok(AnswerRoom {
             numbers: Numbers {
                 list: Vec::with_capacity(alloc, MOST_IMAGES)?,
             },

@@ -14,7 +14,7 @@ ghost use Rattle.ca_questions.specs.QuestionValues.{AreNumbered, AreDrawn};
 use crate::class_tally::ClassTally;
 use crate::generator::Generator;
 use crate::tally;
-use ca_questions::{Counts, Drawn, Found, Numbered};
+use ca_questions::{Counts, Drawn, Finding, Numbered};
 use flux_conserve::letter_sum;
 use rule_text::numbered;
 use rule_verdicts::{Truths, next_table, rule_of_table, verdict_bytes};
@@ -25,7 +25,7 @@ use word_image::{MOST_ENTRIES, Rule};
 const MOST_RULES: usize = 4096;
 
 /// Counts for each property how many of the rules with these numbers have it. It needs no memory.
-pub fn survey(rules: Numbered) -> Found<'static>
+pub fn survey(rules: Numbered) -> Finding<'static>
     requires { AreNumbered rules }
     ensures { IsFinding (Question.Summary (survey_rules rules.states rules.width rules.first rules.count)) (finding_of result) }
 {
@@ -33,7 +33,7 @@ pub fn survey(rules: Numbered) -> Found<'static>
 }
 
 /// Counts for each property how many of the rules that a generator draws from a seed have it. It needs no memory.
-pub fn sample(rules: Drawn) -> Found<'static>
+pub fn sample(rules: Drawn) -> Finding<'static>
     requires { AreDrawn rules }
     ensures { IsFinding (Question.Summary (sample_rules rules.states rules.width rules.seed rules.count)) (finding_of result) }
 {
@@ -41,20 +41,20 @@ pub fn sample(rules: Drawn) -> Found<'static>
 }
 
 /// Makes the answer that has these counts.
-fn summary(counts: Counts) -> Found<'static>
+fn summary(counts: Counts) -> Finding<'static>
     ensures { (rules : List LocalRule) → AreCounts rules (counts_of counts) → IsFinding (Question.Summary rules) (finding_of result) }
 {
-    Found::Summary(counts)
+    Finding::Summary(counts)
 }
 
 /// Counts for each property how many of the rules with these numbers have it, and counts the classes of these rules.
 /// It decides each class only once.
-pub fn classes(alloc: Global, rules: Numbered) -> Result<Found<'static>, AllocError>
+pub fn classes(alloc: Global, rules: Numbered) -> Result<Finding<'static>, AllocError>
     requires { AreNumbered rules }
     ensures { IfOk result (λ found. IsFinding (Question.Classes (survey_rules rules.states rules.width rules.first rules.count)) (finding_of found)) }
 {
     let tally = classes_of_numbers(alloc, rules.states, rules.width, rules.first, rules.count)?;
-    Ok(tally.found())
+    Ok(tally.finding())
 }
 
 /// Returns the counts for the rules with `count` consecutive numbers, starting at `first`.

@@ -6,7 +6,7 @@ ghost use Rattle.ca_c.specs.Calls.{IsAnswerBy, IsHandedBack, MayLackMemory, byte
 
 use crate::blocks::FirstWords;
 use crate::sources::SliceSource;
-use ca_cli::{Room, Status, answer_to, reply, right_replies_are_writable};
+use ca_cli::{CommandRoom, Status, answer_to, reply, right_replies_are_writable};
 use ca_io::InputFault;
 use ca_json::reply_json;
 use std::alloc::{AllocError, Global};
@@ -30,7 +30,7 @@ pub enum Form {
 /// of the reply to `output_length`. If the buffer `output` has room for the reply, writes the reply to its beginning.
 pub fn hand_back(
     form: Form,
-    room: &mut Room,
+    room: &mut CommandRoom,
     words: &[u8],
     input: &[u8],
     output: &mut [u8],
@@ -68,7 +68,7 @@ pub fn hand_back_once(
     ensures handed_back { IsHandedBack (bytes_in form) words.now input.now output.old result output_length.new output.new }
     ensures no_fault { (result ≢ 6) × (result ≢ 7) }
 {
-    let Ok(mut room) = Room::new(alloc) else {
+    let Ok(mut room) = CommandRoom::new(alloc) else {
         *output_length = 0;
         return Status::Memory.code();
     };
@@ -79,7 +79,7 @@ pub fn hand_back_once(
 /// printed lines, only `check` and the questions whose answers need other memory can lack it.
 fn answer_in(
     form: Form,
-    room: &mut Room,
+    room: &mut CommandRoom,
     words: &[&str],
     input: &[u8],
 ) -> Result<Status, AllocError>
@@ -99,7 +99,7 @@ fn answer_in(
 
 /// Answers these words in JSON, writes the answer to the room's output, and returns its status.
 fn json_answer(
-    room: &mut Room,
+    room: &mut CommandRoom,
     words: &[&str],
     source: &mut SliceSource,
 ) -> Result<Status, AllocError>

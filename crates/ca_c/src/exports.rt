@@ -7,6 +7,7 @@ ghost use Rattle.ca_c.specs.Calls.{IsHandedBack};
 ghost use Rattle.ca_c.specs.Weights.{first_weights};
 ghost use Rattle.rule_verdicts.specs.Numbers.{numbers_fault, AreVerdictBytes};
 ghost use Rattle.c_structs.specs.NumberedVerdicts.{number_code};
+ghost use Rattle.c_structs.specs.RuleParts.{IsRuleCall};
 ghost use Rattle.kept_sums.specs.Stages.{AreKeptSums};
 ghost use Rattle.c_structs.specs.RuleSums.{sums_code, IsFluxCall};
 ghost use Rattle.rule_text.specs.RuleTexts.{rule_of_table};
@@ -18,10 +19,11 @@ ghost use Rattle.c_structs.specs.Reports.{IsReportCall, named_weights, rule_with
 ghost use Rattle.tail_config.specs.TailValues.{config_of};
 
 use crate::calls::{Form, SHORT, hand_back_once, put};
-use crate::room_exports::report_over;
+use crate::room_exports::report_in_room;
 use c_structs::{
-    RowRoom, RuleReport, RuleVerdicts, TailParts, fault_number, joined, letters_of, next_rule,
-    number_of, property_of, range_number, shape_rule, write_image, write_table,
+    RowRoom, RuleParts, RuleReport, RuleVerdicts, TailParts, fault_number, joined, letters_of,
+    next_rule, number_of, property_of, range_number, read_rule, shape_rule, write_image,
+    write_table,
 };
 use kept_sums::{Flux, KeptSums, Row, are_small, check_range, flux, kept_sums};
 use rule_lists::{is_order, write_order};
@@ -103,6 +105,15 @@ pub extern "C" fn ca_run_json(
     hand_back_once(alloc, Form::Json, words, input, output, output_length)
 }
 
+/// Reads the text of a rule, as all commands read it, into `rule`. Returns 0, or the number of the text's first fault. After a
+/// fault `rule` stays as it was. Needs no memory.
+#[unsafe(no_mangle)]
+pub extern "C" fn ca_rule_of(text: &[u8], rule: &mut RuleParts) -> u8
+    ensures { IsRuleCall text.now rule.old result rule.new }
+{
+    read_rule(text, rule)
+}
+
 /// Returns the verdicts on the rule with these states, this width, offset 0 and this table. If there is no such rule,
 /// the result has the number of the first fault and no verdicts. Needs no memory.
 #[unsafe(no_mangle)]
@@ -144,7 +155,7 @@ pub extern "C" fn ca_report(
     ensures { IsReportCall (rule_with states width offset table.now) (named_weights weights.now) report.old letters.old result length.new report.new letters.new }
 {
     match RowRoom::new(alloc) {
-        Ok(mut room) => report_over(
+        Ok(mut room) => report_in_room(
             &mut room, states, width, offset, table, weights, report, letters, length,
         ),
         Err(_) => {
@@ -215,8 +226,8 @@ pub extern "C" fn ca_verdict_bytes(
     }
 }
 
-/// Writes an order of the windows of a shape, in which a search soon finds the rules with a property. The number of a
-/// property is what it adds to a byte of [`ca_verdict_bytes`]. Returns 0, or the number of the first fault. After a
+/// Writes the order of the windows in which [`ca_next_rule`] finds the rules with a property fast. The property is given
+/// by its bit in the bytes of [`ca_verdict_bytes`]. Returns 0, or the number of the first fault. After a
 /// fault the bytes stay as they were. Needs no memory.
 #[unsafe(no_mangle)]
 pub extern "C" fn ca_window_order(property: u8, states: u8, width: u8, order: &mut [u8]) -> u8

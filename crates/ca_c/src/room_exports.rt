@@ -11,9 +11,9 @@ use room_handles::{CallRoom, RoomHandle};
 use std::alloc::Global;
 
 /// The code if the handle of a call has no room.
-const NO_ROOM: u8 = 22;
+pub const NO_ROOM: u8 = 22;
 
-/// Takes the memory of a room, some 16 MB, and puts the room into the handle. Returns 0, or 8 if memory runs out. If the
+/// Takes the memory of a room, some 17 MB, and puts the room into the handle. Returns 0, or 8 if memory runs out. If the
 /// handle had a room, that room's memory is given back once the new room is there. With 8 the handle stays as it was.
 #[unsafe(no_mangle)]
 pub extern "C" fn ca_room_open(alloc: Global, handle: &mut RoomHandle) -> u8
@@ -99,7 +99,7 @@ pub extern "C" fn ca_report_in(
         *length = 0;
         return NO_ROOM;
     };
-    let code = report_over(
+    let code = report_in_room(
         &mut room.reports,
         states,
         width,
@@ -116,7 +116,7 @@ pub extern "C" fn ca_report_in(
 
 /// Writes a report with the memory of a room, and returns 0. If the buffer is too short for the letters, returns 10, and
 /// the report and the buffer stay as they were.
-pub fn report_over(
+pub fn report_in_room(
     room: &mut RowRoom,
     states: u8,
     width: u8,

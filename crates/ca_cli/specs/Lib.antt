@@ -2,4 +2,3 @@ pub mod Statuses
 pub mod Inputs
 pub mod Readings
 pub mod RightAnswers
-pub mod Outcomes

@@ -9,7 +9,7 @@ use Rattle.cert_conditions.specs.declared.verdicts.Verdicts.{Verdicts}
 use Rattle.ca_commands.specs.declared.names.Name.TheVariants as name
 use Rattle.ca_commands.specs.Commands.{Command, IsCommand}
 use Rattle.ca_questions.specs.Questions.{Question}
-use Rattle.ca_questions.specs.Findings.{Finding, Unfit, IsFinding, IsUnfitFor}
+use Rattle.ca_questions.specs.Findings.{Finding, Cause, IsFinding, IsCauseFor}
 use Rattle.ca_questions.specs.Replies.{Reply}
 use Rattle.ca_text.specs.Replies.{reply_text}
 use Rattle.ca_cli.specs.declared.status.Status.{Status}
@@ -20,7 +20,7 @@ use Rattle.ca_cli.specs.Inputs.{IsWholeInput, IsLongInput}
 -- the reply is right for the command: a right answer or cause for its question, the fault of an operand, or the result of judging the input
 pub data IsReply (input : Option (List ℕ)) : Command → Reply → Type 0 where
   Found : (c : Command) (q : Question) (f : Finding) → IsAsked c q → IsFinding q f → IsReply input c (Reply.Found f)
-  NoFit : (c : Command) (q : Question) (u : Unfit) → IsAsked c q → IsUnfitFor q u → IsReply input c (Reply.NoFit u)
+  NotFit : (c : Command) (q : Question) (u : Cause) → IsAsked c q → IsCauseFor q u → IsReply input c (Reply.NotFit u)
   RuleFault : (c : Command) (i : ℕ) (f : TextFault) → IsOperandFault c i f → IsReply input c (Reply.RuleFault i f)
   Accepted : (c : Command) (bytes : List ℕ) (v : Verdicts) → c.name ≡ name.Check → IsWholeInput input bytes → IsAccepted bytes v → AreTrue v → IsReply input c (Reply.Accepted v)
   Refused : (c : Command) (bytes : List ℕ) (f : Refusal) → c.name ≡ name.Check → IsWholeInput input bytes → IsRefusal bytes f → IsReply input c (Reply.Refused f)

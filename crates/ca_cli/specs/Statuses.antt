@@ -31,7 +31,7 @@ IsAnswered Memory = ⊥
 -- the status with which the program ends after it prints a reply
 abbrev pub reply_status : Reply → Status
 reply_status (Reply.Found f) = Done
-reply_status (Reply.NoFit u) = NotFit
+reply_status (Reply.NotFit u) = NotFit
 reply_status (Reply.RuleFault i f) = RuleFault
 reply_status (Reply.Accepted v) = Done
 reply_status (Reply.Refused f) = Refused

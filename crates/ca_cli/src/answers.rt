@@ -7,7 +7,7 @@ ghost use Rattle.ca_cli.specs.Readings.{IsReadFor, Reading};
 ghost use Rattle.ca_cli.specs.RightAnswers.{IsAnswer};
 
 use crate::replies::reply;
-use crate::room::Room;
+use crate::room::CommandRoom;
 use crate::status::Status;
 use crate::theorems::{right_replies_are_writable, right_replies_fit};
 use ca_io::{InputFault, Source};
@@ -19,7 +19,7 @@ use std::convert::AsStr;
 /// reads, and returns its status. Returns an error if a read fails, or if there is no memory. What the output had
 /// before is gone. The room serves one answer after another.
 pub fn answer_to<W: AsStr, S: Source>(
-    room: &mut Room,
+    room: &mut CommandRoom,
     words: &[W],
     source: &mut S,
 ) -> Result<Status, InputFault>

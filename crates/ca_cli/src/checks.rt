@@ -20,7 +20,7 @@ const LONGEST_INPUT: usize = 4_194_304;
 /// Returns the reply of the command `check`: the verdicts of the certificate in the input, the reason why the judge
 /// refuses the input, or that the input is too long. If the input is too long, it reads only one byte more than the
 /// judge accepts. Returns an error if a read fails, or if there is no memory.
-pub fn check<S: Source>(alloc: Global, source: &mut S) -> Result<Reply<'static>, InputFault>
+pub fn judge_input<S: Source>(alloc: Global, source: &mut S) -> Result<Reply<'static>, InputFault>
     ensures reply { IfOk result (λ reply. (c : Command) → c.name ≡ name.Check → IsReply (S.left source.old) c (reply_of reply)) }
     ensures read { IfOk result (λ reply. IsReadFor (reply_status (reply_of reply)) (S.left source.old) (S.left source.new)) }
     ensures reading { Reading (result ≡ Err InputFault.Failed)
@@ -40,7 +40,7 @@ pub fn check<S: Source>(alloc: Global, source: &mut S) -> Result<Reply<'static>,
 fn refused(refusal: Refusal) -> Result<Reply<'static>, InputFault>
     ensures { MatchResult result
         (λ reply. (reply ≡ said.Refused refusal) × (refusal ≢ Refusal.Memory alloc_error))
-        (λ fault. fault ≡ InputFault.Memory alloc_error) }
+        (λ fault. (fault ≡ InputFault.Memory alloc_error) × (refusal ≡ Refusal.Memory alloc_error)) }
 {
     match refusal {
         Refusal::Memory(fault) => Err(InputFault::Memory(fault)),

@@ -13,7 +13,7 @@
 //!   no question: it reads the whole input from the source, or one byte more than the judge accepts, and passes it to
 //!   the judge. No other command reads the source.
 //! 3. [`reply`] returns the result as a value, for callers who want another form than the text.
-//! 4. [`answer_to`] writes the text of the reply into the memory of a [`Room`] as a whole.
+//! 4. [`answer_to`] writes the text of the reply into the memory of a [`CommandRoom`] as a whole.
 //! 5. The text goes to the sink. If a write fails, a sink that tells its bytes (crate ca_io) has taken a part of the
 //!   text, but not all of it.
 //!
@@ -70,7 +70,7 @@ mod top_call;
 
 pub use answers::answer_to;
 pub use replies::reply;
-pub use room::Room;
+pub use room::CommandRoom;
 pub use status::Status;
 pub use theorems::{right_replies_are_writable, right_replies_fit};
 pub use top_call::{run, run_in};

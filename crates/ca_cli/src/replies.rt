@@ -1,18 +1,18 @@
 //! The function `reply`, which returns the reply to the words of a command line, as a value and not as text.
 ghost use Rattle.std.specs.Prelude.{◌≡◌, ℕ, List, Option, IfOk, MatchResult, map};
-ghost use Rattle.ca_commands.specs.Asking.{NeedMemory};
+ghost use Rattle.ca_commands.specs.Asking.{Ask, IsWordFault, NeedMemory};
 ghost use Rattle.ca_commands.specs.Commands.{IsCommand, check_command};
-ghost use Rattle.ca_questions.specs.Values.{reply_of};
-ghost use Rattle.ca_cli.specs.Outcomes.{IsOutcome};
+ghost use Rattle.ca_questions.specs.Questions.{Question};
+ghost use Rattle.ca_questions.specs.Values.{Answers, reply_of};
 ghost use Rattle.ca_cli.specs.Readings.{IsReadFor, Reading};
 ghost use Rattle.ca_cli.specs.RightAnswers.{IsReplyTo};
 ghost use Rattle.ca_cli.specs.Statuses.{reply_status};
 
-use crate::checks::check;
-use ca_answering::{Room, answer};
-use ca_commands::{is_check, question};
+use crate::checks::judge_input;
+use ca_answering::{AnswerRoom, answer};
+use ca_commands::{WordFault, is_check, question};
 use ca_io::{InputFault, Source};
-use ca_questions::{Found, Reply, Stop};
+use ca_questions::{Cause, Finding, Reply, Stop};
 use std::alloc::{AllocError, Global};
 use std::convert::AsStr;
 use tail_config::TailRoom;
@@ -23,7 +23,7 @@ use tail_config::TailRoom;
 pub fn reply<'r, W: AsStr, S: Source>(
     alloc: Global,
     tails: &mut TailRoom,
-    room: &'r mut Room,
+    room: &'r mut AnswerRoom,
     words: &[W],
     source: &mut S,
 ) -> Result<Reply<'r>, InputFault>
@@ -39,26 +39,34 @@ pub fn reply<'r, W: AsStr, S: Source>(
         (S.left source.old) (S.left source.new) (S.faults source.old) (S.faults source.new) }
 {
     if is_check(words) {
-        return check(alloc, source);
+        return judge_input(alloc, source);
     }
-    let found = match question(tails, words) {
-        Ok(question) => answer(alloc, room, &question),
-        Err(stop) => Err(stop),
-    };
-    Ok(said(found)?)
+    match question(tails, words) {
+        Ok(question) => Ok(reply_for(answer(alloc, room, &question))?),
+        Err(fault) => Ok(given_up(fault)),
+    }
 }
 
-/// Returns the reply for an answer to a question, or for the reason why there is none. If this reason is lack of
-/// memory, returns it as the error.
-fn said(found: Result<Found<'_>, Stop>) -> Result<Reply<'_>, AllocError>
-    ensures { (words : List (List ℕ)) (input : Option (List ℕ)) → IsOutcome words found.entry →
+/// Returns the reply for an answer to a question, or for the cause why the question has none. If there is no memory,
+/// returns this as the error.
+fn reply_for(found: Result<Finding<'_>, Stop>) -> Result<Reply<'_>, AllocError>
+    ensures { (words : List (List ℕ)) (input : Option (List ℕ)) (q : Question) → Ask words q → Answers q found.entry →
         MatchResult result (λ reply. IsReplyTo words input (reply_of reply)) (λ _. NeedMemory words) }
 {
     match found {
         Ok(found) => Ok(Reply::Found(found)),
-        Err(Stop::Usage) => Ok(Reply::Usage),
-        Err(Stop::RuleFault(operand, fault)) => Ok(Reply::RuleFault(operand, fault)),
-        Err(Stop::Unfit(cause)) => Ok(Reply::NoFit(cause)),
+        Err(Stop::NotFit(cause)) => Ok(Reply::NotFit(cause)),
         Err(Stop::Memory(fault)) => Err(fault),
+    }
+}
+
+/// Returns the reply to words of which no question is made, because of this fault.
+fn given_up(fault: WordFault) -> Reply<'static>
+    ensures { (words : List (List ℕ)) (input : Option (List ℕ)) → IsWordFault words fault → IsReplyTo words input (reply_of result) }
+{
+    match fault {
+        WordFault::Usage => Reply::Usage,
+        WordFault::RuleFault(operand, fault) => Reply::RuleFault(operand, fault),
+        WordFault::Tail(fault) => Reply::NotFit(Cause::Tail(fault)),
     }
 }

@@ -35,7 +35,7 @@ impl Status {
     {
         match reply {
             Reply::Found(_) | Reply::Accepted(_) => Status::Done,
-            Reply::NoFit(_) => Status::NotFit,
+            Reply::NotFit(_) => Status::NotFit,
             Reply::RuleFault(..) => Status::RuleFault,
             Reply::Refused(_) => Status::Refused,
             Reply::TooLong => Status::TooLong,

@@ -9,15 +9,15 @@ ghost use Rattle.ca_cli.specs.RightAnswers.{IsReplyTo};
 use ca_questions::right_findings_are_writable;
 use image_minimal::few_classes;
 
-/// Law: each right reply to words can be written: its letters are below 16, so they have hexadecimal digits, and an
-/// automaton has all its rows.
+/// Law: each right reply to the words of a command line can be written. Its letters are below 16, so each letter is one
+/// hexadecimal digit, and an automaton has a row for each class.
 pub fn right_replies_are_writable()
     ensures { (words : List (List ℕ)) (input : Option (List ℕ)) (reply : Reply) → IsReplyTo words input reply → IsWritableReply reply }
 {
     right_findings_are_writable();
 }
 
-/// Law: each right reply to words has a text for which an output has room, or the words are `check` or ask a question
+/// Law: each right reply to the words of a command line has a text for which an output has room, or the words are `check` or ask a question
 /// whose answer may need memory.
 pub fn right_replies_fit()
     ensures { (words : List (List ℕ)) (input : Option (List ℕ)) (reply : Reply) → IsReplyTo words input reply

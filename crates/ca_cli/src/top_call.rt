@@ -1,5 +1,5 @@
 //! The functions `run` and `run_in`, which carry out a command from its words to its output.
-ghost use Rattle.std.specs.Prelude.{◌≡◌, ◌≢◌, ℕ, ◌+◌, ◌-◌, ◌^◌, ◌<◌, List, length, take, map, is_some, string_bytes};
+ghost use Rattle.std.specs.Prelude.{◌≡◌, ◌≢◌, ℕ, ◌+◌, ◌<◌, List, length, take, map, is_some, string_bytes};
 ghost use Rattle.std.specs.Io.KnownBytes.{Appends};
 ghost use Rattle.ca_io.specs.Faults.{Rose};
 ghost use Rattle.ca_commands.specs.Asking.{NeedMemory};
@@ -10,7 +10,7 @@ ghost use Rattle.ca_cli.specs.RightAnswers.{IsAnswer};
 ghost use Rattle.ca_cli.specs.Statuses.{IsAnswered};
 
 use crate::answers::answer_to;
-use crate::room::Room;
+use crate::room::CommandRoom;
 use crate::status::Status;
 use ca_io::{Failed, InputFault, Sink, Source, write_all};
 use std::alloc::Global;
@@ -57,7 +57,8 @@ pub fn run<S: Source, T: Sink>(
         IsReadFor result (S.left source.old) (S.left source.new) }
     ensures most { TakesAtMost (most_input + 1) (S.left source.old) (S.left source.new) }
 
-    // Only ReadFault changes the source's count of faults, and only WriteFault changes the sink's count of faults.
+    // Only ReadFault changes the source's count of faults, and only WriteFault changes the sink's count of faults. So if
+    // no count changes and none is at its greatest value, the answer is right, or there was no memory.
     ensures source_faults { result ≢ Status.ReadFault → S.faults source.new ≡ S.faults source.old }
     ensures sink_faults { result ≢ Status.WriteFault → T.faults sink.new ≡ T.faults sink.old }
 
@@ -65,25 +66,18 @@ pub fn run<S: Source, T: Sink>(
     // doesn't.
     ensures source_telling { is_some (S.left source.new) ≡ is_some (S.left source.old) }
     ensures sink_telling { is_some (T.taken sink.new) ≡ is_some (T.taken sink.old) }
-
-    // If a count didn't rise and wasn't at its greatest value, none of the calls that it counts failed. If this is
-    // true of the counts of the source and of the sink, the answer is right, or there was no memory.
-    ensures complete_write { T.faults sink.new ≡ T.faults sink.old → T.faults sink.old ≢ 2 ^ 64 - 1 →
-        result ≢ Status.WriteFault }
-    ensures complete_read { S.faults source.new ≡ S.faults source.old → S.faults source.old ≢ 2 ^ 64 - 1 →
-        result ≢ Status.ReadFault }
 {
-    let Ok(mut room) = Room::new(alloc) else {
+    let Ok(mut room) = CommandRoom::new(alloc) else {
         return Status::Memory;
     };
     run_in(&mut room, words, source, sink)
 }
 
 /// Does what [`run`] does, but over a room, which may have served other calls before. Returns `Memory` only for the
-/// commands `certify`, `brief`, `classes` and `check`, if there is no memory for what they find. If an
-/// operand is refused, it never returns `Memory`.
+/// commands `certify`, `brief`, `classes` and `check`, and only if no operand is refused and WEIGHTS, if it is given, has
+/// one weight for each letter.
 pub fn run_in<S: Source, T: Sink>(
-    room: &mut Room,
+    room: &mut CommandRoom,
     words: &[String],
     source: &mut S,
     sink: &mut T,
@@ -113,10 +107,6 @@ pub fn run_in<S: Source, T: Sink>(
     ensures sink_faults { result ≢ Status.WriteFault → T.faults sink.new ≡ T.faults sink.old }
     ensures source_telling { is_some (S.left source.new) ≡ is_some (S.left source.old) }
     ensures sink_telling { is_some (T.taken sink.new) ≡ is_some (T.taken sink.old) }
-    ensures complete_write { T.faults sink.new ≡ T.faults sink.old → T.faults sink.old ≢ 2 ^ 64 - 1 →
-        result ≢ Status.WriteFault }
-    ensures complete_read { S.faults source.new ≡ S.faults source.old → S.faults source.old ≢ 2 ^ 64 - 1 →
-        result ≢ Status.ReadFault }
 {
     match answer_to(room, words, source) {
         Ok(status) => match write_all(sink, room.output.as_slice()) {

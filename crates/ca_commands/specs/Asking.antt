@@ -7,16 +7,15 @@ use Rattle.rule_text.specs.RuleTexts.{IsTextFault, decimal_value}
 use Rattle.ca_commands.specs.declared.names.Name.{Name}
 use Rattle.ca_commands.specs.declared.names.Name.TheVariants as name
 use Rattle.ca_commands.specs.Commands.{Command, IsCommand, word_of}
-use Rattle.ca_questions.specs.declared.found.Stop.{Stop}
-use Rattle.ca_questions.specs.declared.found.Stop.TheVariants as stop
+use Rattle.ca_commands.specs.declared.word_fault.WordFault.{WordFault}
+use Rattle.ca_commands.specs.declared.word_fault.WordFault.TheVariants as word
 use Rattle.ca_questions.specs.declared.question.Numbered.{Numbered}
 use Rattle.ca_questions.specs.declared.question.Drawn.{Drawn}
 use Rattle.ca_questions.specs.declared.question.Question as code
 use Rattle.ca_questions.specs.QuestionValues.{AreNumbered, AreDrawn, IsWhole, question_of}
 use Rattle.ca_questions.specs.Questions.{AnswerNeedsMemory, Question}
 use Rattle.ca_questions.specs.Samples.{sample_fault}
-use Rattle.ca_questions.specs.Findings.{IsUnfitFor}
-use Rattle.ca_questions.specs.Values.{unfit_of}
+use Rattle.ca_questions.specs.Findings.{IsCauseFor, Cause}
 use Rattle.ca_commands.specs.Asked.{AreRuleTexts, IsAsked, IsOperandFault}
 
 -- the command of this name, with the texts of its rules and its operands
@@ -43,12 +42,11 @@ IsAskedBy words q = Ask words (question_of q) × IsWhole q
 abbrev pub NeedMemory : List (List ℕ) → Type 0
 NeedMemory words = ((c : Command) × IsCommand words c × (c.name ≡ name.Check)) ⊎ ((q : Question) × Ask words q × AnswerNeedsMemory q)
 
--- why nothing is found for the words: they are no command, or an operand has a fault, or the question has no finding, or there is no memory, which the answer may need
-abbrev pub IsStop : List (List ℕ) → Stop → Type 0
-IsStop words stop.Usage = (c : Command) → ¬ IsCommand words c
-IsStop words (stop.RuleFault operand f) = (c : Command) × IsCommand words c × IsOperandFault c operand f
-IsStop words (stop.Unfit u) = (q : Question) × Ask words q × IsUnfitFor q (unfit_of u)
-IsStop words (stop.Memory _) = NeedMemory words
+-- the fault is why no question is made of the words: they are no command, or an operand has a fault, or the parts of an operand form no configuration for its question
+abbrev pub IsWordFault : List (List ℕ) → WordFault → Type 0
+IsWordFault words word.Usage = (c : Command) → ¬ IsCommand words c
+IsWordFault words (word.RuleFault operand f) = (c : Command) × IsCommand words c × IsOperandFault c operand f
+IsWordFault words (word.Tail f) = (q : Question) × Ask words q × IsCauseFor q (Cause.Tail f)
 
 -- the operands of the command n give the shape, the first number and the count of these rules
 pub record AreNumberedBy (n : Name) (operands : List (List ℕ)) (rules : Numbered) : Type 0 where
@@ -71,8 +69,8 @@ pub record AreDrawnBy (operands : List (List ℕ)) (rules : Drawn) : Type 0 wher
   pub accepted : sample_fault (decimal_value k) (decimal_value m) ≡ None
   pub rules_are : rules ≡ record { states = decimal_value k; width = decimal_value m; seed = decimal_value seed; count = decimal_value count }
 
--- the operand with this number isn't the text of a rule; the reason s names the first fault of the text
-pub record IsRuleFault (operand : ℕ) (text : List ℕ) (s : Stop) : Type 0 where
+-- the operand with this number isn't the text of a rule; `why` names the first fault of the text
+pub record IsRuleFault (operand : ℕ) (text : List ℕ) (why : WordFault) : Type 0 where
   pub fault : TextFault
-  pub is : s ≡ stop.RuleFault operand fault
+  pub is : why ≡ word.RuleFault operand fault
   pub first : IsTextFault text fault

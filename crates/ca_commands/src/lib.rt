@@ -17,16 +17,12 @@
 //!
 //! The words `110`, `orphan`, `orphan 110 90` and `shift 110 x` are no commands. No list of words is two commands.
 //!
-//! An *erasable pair* is two different words of the same length with the same image, the same first m - 1 letters and
-//! the same last m - 1 letters. So each of them can replace the other in any configuration without a change of the
-//! image. The *class* of a rule has all rules at offset 0 that you get from the table of the rule, or from the table
-//! of the mirrored rule, by new names for the letters. The *second-order lift* of a rule is a reversible rule whose
-//! letters are pairs of its letters (crate rule_classes).
+//! The page of the crate ca_questions explains erasable pairs, classes of rules and second-order lifts.
 //!
 //! [`question`] reads each operand once, into a value. It first tests the forms of all operands. If the words are no
 //! command, it returns `Usage`. Then it reads the rules, from left to right. For example, `compose 90 x` gives
 //! `RuleFault` with the number of the operand `x`, which is 2, and with the fault of its text. If the parts of a
-//! configuration don't fit the rule, it returns `Unfit`. A call takes **O(n)** time for n bytes of words, and no memory:
+//! configuration don't fit the rule, it returns `Tail`. A call takes **O(n)** time for n bytes of words, and no memory:
 //! the configuration of `preimage` is read into a room.
 #![tactic(auto)]
 
@@ -34,6 +30,8 @@ mod asking;
 mod names;
 mod operands;
 mod short_lists;
+mod word_fault;
 
 pub use asking::{is_check, question};
 pub use names::Name;
+pub use word_fault::WordFault;

@@ -57,7 +57,7 @@ pub enum Name {
 
 impl Name {
     /// Returns the name whose word this is, or None if no command has this word.
-    pub fn named(word: &str) -> Option<Name>
+    pub fn of_word(word: &str) -> Option<Name>
         ensures { MatchOption result
             ((n : Name) → ¬ (word_of n ≡ word.now))
             (λ n. word_of n ≡ word.now) }

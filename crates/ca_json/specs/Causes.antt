@@ -4,7 +4,7 @@ use Rattle.std.specs.Prelude.{ℕ, List, [], ◌∷◌, ◌++◌, codes, Option,
 use Rattle.serde_json.specs.Data.{Data, null, string, Members, put}
 use Rattle.tail_config.specs.TailFaults.{tail_fault_text}
 use Rattle.cert_values.specs.WrittenTexts.{whole_value, word_value}
-use Rattle.ca_questions.specs.Findings.{Unfit}
+use Rattle.ca_questions.specs.Findings.{Cause}
 use Rattle.rule_algebra.specs.FaultTexts.{algebra_text}
 use Rattle.rule_classes.specs.FaultTexts.{lift_text}
 use Rattle.cert_conditions.specs.declared.refusal_parts.RefusalNumbers.{RefusalNumbers}
@@ -13,15 +13,15 @@ use Rattle.cert_conditions.specs.RefusalParts.{SaidParts}
 use Rattle.ca_json.specs.Values.{object_of, tagged, status, numbers_json, two}
 
 -- the JSON of a cause why a question has no answer, under a key for the kind of the cause
-abbrev pub unfit_json : Unfit → Data
-unfit_json (Unfit.Twins x y) = tagged (codes "twins") (two (word_value x) (word_value y))
-unfit_json (Unfit.Wide n) = tagged (codes "wide") (whole_value n)
-unfit_json Unfit.Colours = tagged (codes "colours") null
-unfit_json (Unfit.Lift f) = tagged (codes "lift") (string (lift_text f))
-unfit_json (Unfit.Algebra f) = tagged (codes "algebra") (string (algebra_text f))
-unfit_json (Unfit.Tail f) = tagged (codes "tail") (string (tail_fault_text f))
-unfit_json Unfit.Weights = tagged (codes "weights") null
-unfit_json Unfit.States = tagged (codes "states") null
+abbrev pub cause_json : Cause → Data
+cause_json (Cause.Twins x y) = tagged (codes "twins") (two (word_value x) (word_value y))
+cause_json (Cause.Wide n) = tagged (codes "wide") (whole_value n)
+cause_json Cause.Colours = tagged (codes "colours") null
+cause_json (Cause.Lift f) = tagged (codes "lift") (string (lift_text f))
+cause_json (Cause.Algebra f) = tagged (codes "algebra") (string (algebra_text f))
+cause_json (Cause.Tail f) = tagged (codes "tail") (string (tail_fault_text f))
+cause_json Cause.Weights = tagged (codes "weights") null
+cause_json Cause.States = tagged (codes "states") null
 
 -- the JSON of an operand with a fault of this kind, with the place of the fault if it has one
 abbrev pub operand_json : ℕ → List ℕ → Option ℕ → Data

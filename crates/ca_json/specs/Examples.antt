@@ -7,7 +7,7 @@ use Rattle.rule_text.specs.declared.text_fault.TextFault.TheVariants.{Form}
 use Rattle.cert_values.specs.declared.shape_fault.Key.TheVariants.{Left}
 use Rattle.cert_values.specs.declared.shape_fault.ShapeFault.TheVariants.{Shape}
 use Rattle.cert_conditions.specs.declared.refusal.Refusal.TheVariants.{Format, Rank}
-use Rattle.ca_questions.specs.Findings.{Finding, Unfit}
+use Rattle.ca_questions.specs.Findings.{Finding, Cause}
 use Rattle.ca_questions.specs.Replies.{Reply}
 use Rattle.ca_json.specs.Replies.{json_text}
 
@@ -15,7 +15,7 @@ json_text-orphan : json_text (Reply.Found (Finding.Orphan (Some (0 ∷ 1 ∷ 0 �
 unfolding digits serde_json_on_literals
 json_text-orphan = refl
 
-json_text-twins : json_text (Reply.NoFit (Unfit.Twins (0 ∷ []) (1 ∷ []))) ≡ codes "{\"cause\":{\"twins\":[\"0\",\"1\"]},\"status\":\"notfit\"}"
+json_text-twins : json_text (Reply.NotFit (Cause.Twins (0 ∷ []) (1 ∷ []))) ≡ codes "{\"cause\":{\"twins\":[\"0\",\"1\"]},\"status\":\"notfit\"}"
 unfolding digits serde_json_on_literals
 json_text-twins = refl
 

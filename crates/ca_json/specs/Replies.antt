@@ -10,7 +10,7 @@ use Rattle.cert_conditions.specs.Accepted.{is_open}
 use Rattle.ca_questions.specs.Replies.{Reply}
 use Rattle.ca_json.specs.Values.{object_of, status, numbers_json}
 use Rattle.ca_json.specs.Findings.{finding_json}
-use Rattle.ca_json.specs.Causes.{unfit_json, operand_json, parts_json}
+use Rattle.ca_json.specs.Causes.{cause_json, operand_json, parts_json}
 
 -- the JSON of the verdicts of an accepted certificate
 abbrev pub verdicts_json : Verdicts → Data
@@ -21,7 +21,7 @@ verdicts_json v = object_of (
 -- the JSON object of a reply, which has a key for the status of the reply
 abbrev pub json_of : Reply → Data
 json_of (Reply.Found f) = object_of ((codes "finding", finding_json f) ∷ status (codes "done") ∷ [])
-json_of (Reply.NoFit u) = object_of ((codes "cause", unfit_json u) ∷ status (codes "notfit") ∷ [])
+json_of (Reply.NotFit u) = object_of ((codes "cause", cause_json u) ∷ status (codes "notfit") ∷ [])
 json_of (Reply.RuleFault operand f) = operand_json operand (fault_name f) (fault_place f)
 json_of (Reply.Accepted v) = object_of (status (codes "done") ∷ (codes "verdicts", verdicts_json v) ∷ [])
 json_of (Reply.Refused f) = parts_json (parts_of f)

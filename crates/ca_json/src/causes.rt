@@ -1,8 +1,8 @@
 //! The JSON of a cause why a question has no answer, and of the fault of an operand.
 ghost use Rattle.std.specs.Prelude.{◌≡◌, IfOk};
 ghost use Rattle.serde_json.specs.View.{view};
-ghost use Rattle.ca_questions.specs.Values.{unfit_of};
-ghost use Rattle.ca_questions.specs.Writable.{IsWritableUnfit};
+ghost use Rattle.ca_questions.specs.Values.{cause_of};
+ghost use Rattle.ca_questions.specs.Writable.{IsWritableCause};
 ghost use Rattle.rule_text.specs.FaultTexts as texts;
 ghost use Rattle.ca_json.specs.Causes as causes;
 
@@ -17,9 +17,9 @@ use tail_config::tail_name;
 
 /// Returns an object for a cause why a question has no answer. Its only key names the kind of the cause, for example
 /// `{"twins":["0","1"]}`.
-pub fn unfit_value(alloc: Global, cause: &Cause) -> Result<Value, AllocError>
-    requires { IsWritableUnfit (unfit_of cause.now) }
-    ensures { IfOk result (λ v. view v ≡ causes.unfit_json (unfit_of cause.now)) }
+pub fn cause_value(alloc: Global, cause: &Cause) -> Result<Value, AllocError>
+    requires { IsWritableCause (cause_of cause.now) }
+    ensures { IfOk result (λ v. view v ≡ causes.cause_json (cause_of cause.now)) }
 {
     match cause {
         Cause::Twins(pair) => {

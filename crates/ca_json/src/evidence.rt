@@ -9,7 +9,7 @@ ghost use Rattle.ca_json.specs.Findings.{report_json};
 ghost use Rattle.ca_json.specs.Values.{conserving_json, injective_json, number_or_null, side_json, surjective_json, tail_json};
 
 use crate::values::{number_or_null, pair_value, tail_value};
-use cert_format::{flux_value, rule_value, weights_value, word_value};
+use cert_writing::{flux_value, rule_value, weights_value, word_value};
 use closing_test::LentClosing;
 use flux_conserve::Keeping;
 use rule_text::number;

@@ -9,8 +9,8 @@ ghost use Rattle.ca_json.specs.Findings.{counts_json, finding_json, inverse_json
 use crate::evidence::report_value;
 use crate::languages::automaton_value;
 use crate::values::{number_or_null, pair_value, tagged, tail_value, word_or_null};
-use ca_questions::{Counts, Found, Inverse};
-use cert_format::{certificate_value, rule_value, word_value};
+use ca_questions::{Counts, Finding, Inverse};
+use cert_writing::{certificate_value, rule_value, word_value};
 use serde_json::{Value, json};
 use short_words::ShortPair;
 use std::alloc::{AllocError, Global};
@@ -19,25 +19,25 @@ use word_image::Rule;
 
 /// Returns an object for a finding. For most findings its only key names the kind of the finding, for example
 /// `{"orphan":"01010"}`.
-pub fn finding_value(alloc: Global, found: &Found) -> Result<Value, AllocError>
+pub fn finding_value(alloc: Global, found: &Finding) -> Result<Value, AllocError>
     requires { IsWritable (finding_of found.now) }
     ensures { IfOk result (λ v. view v ≡ finding_json (finding_of found.now)) }
 {
     match found {
-        Found::Report(report) => tagged(alloc, "report", report_value(alloc, report)?),
-        Found::Written(cert) => tagged(alloc, "certificate", certificate_value(alloc, cert)?),
-        Found::Orphan(orphan) => tagged(alloc, "orphan", word_or_null(alloc, orphan)?),
-        Found::Number(number) => tagged(alloc, "number", number_or_null(alloc, *number)?),
-        Found::Rule(rule) => tagged(alloc, "rule", rule_value(alloc, rule)?),
-        Found::Inverse(inverse) => tagged(alloc, "inverse", inverse_value(alloc, inverse)?),
-        Found::Language(automaton) => {
+        Finding::Report(report) => tagged(alloc, "report", report_value(alloc, report)?),
+        Finding::Written(cert) => tagged(alloc, "certificate", certificate_value(alloc, cert)?),
+        Finding::Orphan(orphan) => tagged(alloc, "orphan", word_or_null(alloc, orphan)?),
+        Finding::Number(number) => tagged(alloc, "number", number_or_null(alloc, *number)?),
+        Finding::Rule(rule) => tagged(alloc, "rule", rule_value(alloc, rule)?),
+        Finding::Inverse(inverse) => tagged(alloc, "inverse", inverse_value(alloc, inverse)?),
+        Finding::Language(automaton) => {
             tagged(alloc, "automaton", automaton_value(alloc, automaton)?)
         }
-        Found::Same(word) => tagged(alloc, "same", word_or_null(alloc, word)?),
-        Found::Erased(pair) => tagged(alloc, "erased", pair_or_null(alloc, pair)?),
-        Found::Preimage(answer) => preimage_value(alloc, answer),
-        Found::Summary(counts) => tagged(alloc, "summary", counts_value(alloc, counts)?),
-        Found::Classes(counts, classes) => {
+        Finding::Same(word) => tagged(alloc, "same", word_or_null(alloc, word)?),
+        Finding::Erased(pair) => tagged(alloc, "erased", pair_or_null(alloc, pair)?),
+        Finding::Preimage(answer) => preimage_value(alloc, answer),
+        Finding::Summary(counts) => tagged(alloc, "summary", counts_value(alloc, counts)?),
+        Finding::Classes(counts, classes) => {
             let summary = counts_value(alloc, counts)?;
             json!(in alloc; {"classes": *classes, "summary": summary})
         }

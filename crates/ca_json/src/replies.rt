@@ -5,12 +5,12 @@ ghost use Rattle.ca_questions.specs.Values.{reply_of};
 ghost use Rattle.ca_questions.specs.Writable.{IsWritableReply};
 ghost use Rattle.ca_json.specs.Replies.{json_of, json_text, verdicts_json};
 
-use crate::causes::{operand_value, unfit_value};
+use crate::causes::{cause_value, operand_value};
 use crate::findings::finding_value;
 use crate::refusals::refusal_value;
 use ca_questions::Reply;
 use cert_conditions::Verdicts;
-use cert_format::{rule_value, weights_value};
+use cert_writing::{rule_value, weights_value};
 use serde_json::{Value, json};
 use std::alloc::{AllocError, Global};
 
@@ -33,8 +33,8 @@ fn reply_value(alloc: Global, reply: &Reply) -> Result<Value, AllocError>
             let finding = finding_value(alloc, found)?;
             json!(in alloc; {"finding": finding, "status": "done"})
         }
-        Reply::NoFit(cause) => {
-            let cause = unfit_value(alloc, cause)?;
+        Reply::NotFit(cause) => {
+            let cause = cause_value(alloc, cause)?;
             json!(in alloc; {"cause": cause, "status": "notfit"})
         }
         Reply::RuleFault(operand, fault) => operand_value(alloc, *operand, *fault),

@@ -7,7 +7,7 @@ ghost use Rattle.cert_values.specs.WrittenTexts as written;
 ghost use Rattle.ca_questions.specs.Writable.{HasDigits};
 ghost use Rattle.ca_json.specs.Values as values;
 
-use cert_format::word_value;
+use cert_writing::word_value;
 use serde_json::{Value, json};
 use short_words::LentWord;
 use std::alloc::{AllocError, Global};

@@ -4,8 +4,8 @@ use Rattle.word_image.proofs.Common.{All-weaker, LocalRule, IsRule, IsWord}
 use Rattle.cert_values.proofs.Common.{InjectiveEvidence, SumEvidence, Window, Twins, Flux, Ring}
 use Rattle.certificate_laws.specs.LeastEvidence.{IsOrphanPart, IsInjectivePart, IsConservingPart}
 use Rattle.ca_questions.specs.Questions.{Question, AreRules}
-use Rattle.ca_questions.specs.Findings.{Finding, Unfit, IsFinding, IsUnfitFor}
-use Rattle.ca_questions.specs.Writable.{HasDigits, HasTwinDigits, HasRingDigits, IsWritable, IsWritableUnfit}
+use Rattle.ca_questions.specs.Findings.{Finding, Cause, IsFinding, IsCauseFor}
+use Rattle.ca_questions.specs.Writable.{HasDigits, HasTwinDigits, HasRingDigits, IsWritable, IsWritableCause}
 
 -- a word over the letters of an accepted rule
 IsWord-16 : {r : LocalRule} (w : List ℕ) → IsRule r → IsWord r.states w → IsWord 16 w
@@ -43,6 +43,6 @@ IsWritable-right rule (IsFinding.Gap r t before after w short gap) = IsWord-16 w
 IsWritable-right rule found = tt
 
 -- a right cause can be written
-pub IsWritableUnfit-right : {q : Question} {u : Unfit} → AreRules q → IsUnfitFor q u → IsWritableUnfit u
-IsWritableUnfit-right rule (IsUnfitFor.Twins r x y none least) = (IsWord-16 x rule least.twins.first.word, IsWord-16 y rule least.twins.second.word)
-IsWritableUnfit-right rule unfits = tt
+pub IsWritableCause-right : {q : Question} {u : Cause} → AreRules q → IsCauseFor q u → IsWritableCause u
+IsWritableCause-right rule (IsCauseFor.Twins r x y none least) = (IsWord-16 x rule least.twins.first.word, IsWord-16 y rule least.twins.second.word)
+IsWritableCause-right rule unfits = tt

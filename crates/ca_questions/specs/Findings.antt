@@ -26,7 +26,7 @@ use Rattle.cert_values.specs.declared.cert_version.CertVersion.{CertVersion}
 use Rattle.cert_values.specs.Certificates.{Certificate}
 use Rattle.certificate_laws.specs.LeastEvidence.{Evidence, IsOrphanPart, IsLeastEvidence}
 use Rattle.certificate_laws.specs.WrittenCertificates.{IsWritten}
-use Rattle.ca_questions.specs.Questions.{Question}
+use Rattle.ca_questions.specs.Questions.{AreFor, Question}
 use Rattle.rule_text.specs.PrintedRules.{number_found}
 use Rattle.ca_questions.specs.Counts.{Counts, AreCounts, AreLeastRules}
 
@@ -47,15 +47,15 @@ pub data Finding : Type 0 where
   Classes : (counts : Counts) (classes : ℕ) → Finding
 
 -- a cause, which is the reason why a question has no finding
-pub data Unfit : Type 0 where
-  Twins : (x y : List ℕ) → Unfit
-  Wide : (n : ℕ) → Unfit
-  Colours : Unfit
-  Lift : (fault : LiftFault) → Unfit
-  Algebra : (fault : AlgebraFault) → Unfit
-  Tail : (fault : TailFault) → Unfit
-  Weights : Unfit
-  States : Unfit
+pub data Cause : Type 0 where
+  Twins : (x y : List ℕ) → Cause
+  Wide : (n : ℕ) → Cause
+  Colours : Cause
+  Lift : (fault : LiftFault) → Cause
+  Algebra : (fault : AlgebraFault) → Cause
+  Tail : (fault : TailFault) → Cause
+  Weights : Cause
+  States : Cause
 
 -- The weights of a question
 
@@ -68,11 +68,6 @@ weight_by (Some weights) = slice_index weights
 abbrev pub weights_by : Option (List ℕ) → LocalRule → List ℕ
 weights_by None r = own_weights r.states
 weights_by (Some weights) r = weights
-
--- if weights are named, there is one for each letter of the rule
-abbrev pub AreFor : Option (List ℕ) → LocalRule → Type 0
-AreFor None r = ⊤
-AreFor (Some weights) r = length weights ≡ r.states
 
 -- Which findings and causes are right
 
@@ -132,17 +127,17 @@ pub data IsFinding : Question → Finding → Type 0 where
       → IsFinding (Question.Classes rules) (Finding.Classes counts (length leasts))
 
 -- the cause is right: it is why the question has no finding
-pub data IsUnfitFor : Question → Unfit → Type 0 where
-  Report : (r : LocalRule) (weights : List ℕ) → length weights ≢ r.states → IsUnfitFor (Question.Report r (Some weights)) Unfit.Weights
-  Written : (v : CertVersion) (r : LocalRule) (weights : List ℕ) → length weights ≢ r.states → IsUnfitFor (Question.Certify v r (Some weights)) Unfit.Weights
-  Shift : (r : LocalRule) (by : ℤ) (f : AlgebraFault) → shift_fault r by ≡ Some f → IsUnfitFor (Question.Shift r by) (Unfit.Algebra f)
-  Widen : (r : LocalRule) (width : ℕ) (f : AlgebraFault) → widen_fault r width ≡ Some f → IsUnfitFor (Question.Widen r width) (Unfit.Algebra f)
-  Permute : (r : LocalRule) (letters : List ℕ) → ¬ IsRecolouring r.states letters → IsUnfitFor (Question.Permute r letters) (Unfit.Algebra algebra.NotPermutation)
-  Compose : (r s : LocalRule) (f : AlgebraFault) → compose_fault r s ≡ Some f → IsUnfitFor (Question.Compose r s) (Unfit.Algebra f)
-  Least : (r : LocalRule) → 7 ≤ r.states → IsUnfitFor (Question.Least r) Unfit.Colours
-  Lift : (r : LocalRule) (f : LiftFault) → lift_fault r ≡ Some f → IsUnfitFor (Question.Lift r) (Unfit.Lift f)
-  Unlift : (r : LocalRule) (f : LiftFault) → lift_fault r ≡ Some f → IsUnfitFor (Question.Unlift r) (Unfit.Lift f)
-  Twins : (r : LocalRule) (x y : List ℕ) → ¬ IsInjective r → IsLeastTwins r x y → IsUnfitFor (Question.Inverse r) (Unfit.Twins x y)
-  Wide : (r : LocalRule) (n c : ℕ) → IsLeastDetermined r n c → 65536 < r.states ^ n → IsUnfitFor (Question.Inverse r) (Unfit.Wide n)
-  Tail : (r : LocalRule) (t : TailConfig) (f : TailFault) → tail_fault r.states t ≡ Some f → IsUnfitFor (Question.Preimage r t) (Unfit.Tail f)
-  States : (r s : LocalRule) → r.states ≢ s.states → IsUnfitFor (Question.Same r s) Unfit.States
+pub data IsCauseFor : Question → Cause → Type 0 where
+  Report : (r : LocalRule) (weights : List ℕ) → length weights ≢ r.states → IsCauseFor (Question.Report r (Some weights)) Cause.Weights
+  Written : (v : CertVersion) (r : LocalRule) (weights : List ℕ) → length weights ≢ r.states → IsCauseFor (Question.Certify v r (Some weights)) Cause.Weights
+  Shift : (r : LocalRule) (by : ℤ) (f : AlgebraFault) → shift_fault r by ≡ Some f → IsCauseFor (Question.Shift r by) (Cause.Algebra f)
+  Widen : (r : LocalRule) (width : ℕ) (f : AlgebraFault) → widen_fault r width ≡ Some f → IsCauseFor (Question.Widen r width) (Cause.Algebra f)
+  Permute : (r : LocalRule) (letters : List ℕ) → ¬ IsRecolouring r.states letters → IsCauseFor (Question.Permute r letters) (Cause.Algebra algebra.NotPermutation)
+  Compose : (r s : LocalRule) (f : AlgebraFault) → compose_fault r s ≡ Some f → IsCauseFor (Question.Compose r s) (Cause.Algebra f)
+  Least : (r : LocalRule) → 7 ≤ r.states → IsCauseFor (Question.Least r) Cause.Colours
+  Lift : (r : LocalRule) (f : LiftFault) → lift_fault r ≡ Some f → IsCauseFor (Question.Lift r) (Cause.Lift f)
+  Unlift : (r : LocalRule) (f : LiftFault) → lift_fault r ≡ Some f → IsCauseFor (Question.Unlift r) (Cause.Lift f)
+  Twins : (r : LocalRule) (x y : List ℕ) → ¬ IsInjective r → IsLeastTwins r x y → IsCauseFor (Question.Inverse r) (Cause.Twins x y)
+  Wide : (r : LocalRule) (n c : ℕ) → IsLeastDetermined r n c → 65536 < r.states ^ n → IsCauseFor (Question.Inverse r) (Cause.Wide n)
+  Tail : (r : LocalRule) (t : TailConfig) (f : TailFault) → tail_fault r.states t ≡ Some f → IsCauseFor (Question.Preimage r t) (Cause.Tail f)
+  States : (r s : LocalRule) → r.states ≢ s.states → IsCauseFor (Question.Same r s) Cause.States

@@ -1,5 +1,5 @@
 -- The questions that commands ask. A question has rules, weights, numbers and configurations as values, not as texts.
-use Rattle.std.specs.Prelude.{ℕ, List, Option, ℤ, All, ⊤}
+use Rattle.std.specs.Prelude.{◌≡◌, ℕ, List, length, Option, None, Some, ℤ, All, ⊤}
 use Rattle.word_image.specs.LocalRules.{LocalRule, IsRule}
 use Rattle.tail_config.specs.Tails.{TailConfig}
 use Rattle.cert_values.specs.declared.cert_version.CertVersion.{CertVersion}
@@ -27,9 +27,14 @@ pub data Question : Type 0 where
   Summary : (rules : List LocalRule) → Question
   Classes : (rules : List LocalRule) → Question
 
+-- if weights are named, there is one for each letter of the rule
+abbrev pub AreFor : Option (List ℕ) → LocalRule → Type 0
+AreFor None r = ⊤
+AreFor (Some weights) r = length weights ≡ r.states
+
 -- the answer to the question may need memory besides a room: it has a certificate or a number of classes
 abbrev pub AnswerNeedsMemory : Question → Type 0
-AnswerNeedsMemory (Certify version r weights) = ⊤
+AnswerNeedsMemory (Certify version r weights) = AreFor weights r
 AnswerNeedsMemory (Classes rules) = ⊤
 AnswerNeedsMemory _ = ⊥
 

@@ -5,7 +5,7 @@ use Rattle.word_image.specs.LocalRules.{IsWord}
 use Rattle.tail_config.specs.Tails.{TailConfig}
 use Rattle.image_minimal.specs.ImageLanguages.{Automaton}
 use Rattle.cert_values.specs.Evidence.{InjectiveEvidence, SumEvidence, Window, Twins, Flux, Ring}
-use Rattle.ca_questions.specs.Findings.{Finding, Unfit}
+use Rattle.ca_questions.specs.Findings.{Finding, Cause}
 use Rattle.ca_questions.specs.Replies.{Reply}
 
 -- if there is a word, its letters are below 16
@@ -48,12 +48,12 @@ IsWritable (Finding.Gap before after w) = IsWord 16 w
 IsWritable _ = ⊤
 
 -- the cause can be written: if it is twins, their letters are below 16
-abbrev pub IsWritableUnfit : Unfit → Type 0
-IsWritableUnfit (Unfit.Twins x y) = IsWord 16 x × IsWord 16 y
-IsWritableUnfit _ = ⊤
+abbrev pub IsWritableCause : Cause → Type 0
+IsWritableCause (Cause.Twins x y) = IsWord 16 x × IsWord 16 y
+IsWritableCause _ = ⊤
 
 -- the reply can be written: its finding or its cause can be written, if it has one
 abbrev pub IsWritableReply : Reply → Type 0
 IsWritableReply (Reply.Found f) = IsWritable f
-IsWritableReply (Reply.NoFit u) = IsWritableUnfit u
+IsWritableReply (Reply.NotFit u) = IsWritableCause u
 IsWritableReply _ = ⊤

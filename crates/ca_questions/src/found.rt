@@ -3,7 +3,6 @@ use cert_values::Cert;
 use inverse_table::LentMap;
 use rule_algebra::AlgebraFault;
 use rule_classes::LiftFault;
-use rule_text::TextFault;
 use rule_verdicts::Report;
 use short_words::{LentWord, ShortPair};
 use std::alloc::AllocError;
@@ -14,7 +13,7 @@ use word_image::Rule;
 /// A finding: the right answer to a question, as a value. It lends its long lists from the room in which they were
 /// found.
 #[derive(Drop)]
-pub enum Found<'r> {
+pub enum Finding<'r> {
     /// The verdicts of a rule, each with the least evidence.
     Report(Report<'r>),
     /// The certificate of a rule, for the judge of certificates.
@@ -96,15 +95,11 @@ pub enum Cause {
     States,
 }
 
-/// Why nothing was found for words or for a question.
+/// Why nothing was found for a question.
 #[derive(Drop)]
 pub enum Stop {
-    /// The words are no command.
-    Usage,
-    /// The operand with this number, starting at 1, is refused because of this fault.
-    RuleFault(u8, TextFault),
-    /// The question of the words has no finding, because of this cause.
-    Unfit(Cause),
+    /// The question has no finding, because of this cause.
+    NotFit(Cause),
     /// There is not enough memory.
     Memory(AllocError),
 }

@@ -1,5 +1,5 @@
 //! The type `Reply`: replies to the words of a command line, as values and not as texts.
-use crate::found::{Cause, Found};
+use crate::found::{Cause, Finding};
 use cert_conditions::{Refusal, Verdicts};
 use rule_text::TextFault;
 
@@ -7,9 +7,9 @@ use rule_text::TextFault;
 #[derive(Drop)]
 pub enum Reply<'r> {
     /// The words ask a question, and this is its right answer.
-    Found(Found<'r>),
+    Found(Finding<'r>),
     /// The words ask a question that has no answer, because of this cause.
-    NoFit(Cause),
+    NotFit(Cause),
     /// The operand with this number, starting at 1, isn't the text of a rule. If the words ask about many rules, a
     /// fault of their shape counts as a fault of operand 1.
     RuleFault(u8, TextFault),

@@ -33,7 +33,7 @@ abbrev pub dead_line : Option ℕ → List ℕ
 dead_line None = line (codes "dead none")
 dead_line (Some i) = line (codes "dead " ++ decimal i)
 
--- the class that follows class i of an automaton on the letter a
+-- the class (a state of the automaton) to which the letter a leads from class i
 abbrev pub after_class : Automaton → ℕ → ℕ → ℕ
 after_class m i a = slice_index m.next (i * m.states + a)
 

@@ -1,16 +1,17 @@
 -- An output has room for a text from the start. This file says how long this text may be, and what it means that a text is
 -- appended to an output.
-use Rattle.std.specs.Prelude.{ℕ, ◌≡◌, ◌+◌, ◌≤◌, List, ◌++◌, length, Result, OnOk, IsOk, ⊤}
+use Rattle.std.specs.Prelude.{ℕ, ◌≡◌, ◌≢◌, alloc_error, ◌+◌, ◌≤◌, List, ◌++◌, length, Result, OnOk, IsOk, ⊤}
 use Rattle.word_image.specs.LocalRules.{most_sets}
 use Rattle.tail_preimage.specs.Lengths.{most_stretch}
-use Rattle.ca_questions.specs.Findings.{Finding, Unfit}
+use Rattle.cert_conditions.specs.declared.refusal.Refusal.{Refusal}
+use Rattle.ca_questions.specs.Findings.{Finding, Cause}
 use Rattle.ca_questions.specs.Replies.{Reply}
 
 -- the number of bytes for which an output has room when it is made
 abbrev pub most_text : ℕ
 most_text = 6291600
 
--- the text is appended to an output, and there is no error if both together fit its room
+-- if there is no error, the text has been appended to the output; and there is no error if the old output and the text together fit the room
 abbrev pub IsAppended : {A E : Type 0} → Result A E → List ℕ → List ℕ → List ℕ → Type 0
 IsAppended result old new text = OnOk result (new ≡ old ++ text) × (length old + length text ≤ most_text → IsOk result)
 
@@ -36,17 +37,16 @@ IsSmallReply (Reply.Found (Finding.Number n)) = ⊤
 IsSmallReply (Reply.Found (Finding.Rule r)) = ⊤
 IsSmallReply (Reply.Found (Finding.Summary t)) = ⊤
 IsSmallReply (Reply.Found _) = ⊥
-IsSmallReply (Reply.NoFit (Unfit.Twins x y)) = ⊥
+IsSmallReply (Reply.NotFit (Cause.Twins x y)) = ⊥
 IsSmallReply (Reply.Accepted v) = ⊥
 IsSmallReply (Reply.Refused f) = ⊥
 IsSmallReply _ = ⊤
 
--- an output has room for the text of the reply: it isn't about a certificate, an automaton has at most 65,536 classes, and a preimage or a gap has at most 33,792 letters
+-- an output has room for the text of the reply: it isn't a certificate or lack of memory, an automaton has at most 65,536 classes, and a preimage or a gap has at most 33,792 letters
 abbrev pub FitsRoom : Reply → Type 0
 FitsRoom (Reply.Found (Finding.Preimage p)) = length p.config.left + length p.config.middle + length p.config.right ≤ most_stretch
 FitsRoom (Reply.Found (Finding.Gap before after w)) = length w ≤ most_stretch
 FitsRoom (Reply.Found (Finding.Written c)) = ⊥
 FitsRoom (Reply.Found (Finding.Language m)) = m.classes ≤ most_sets
-FitsRoom (Reply.Accepted v) = ⊥
-FitsRoom (Reply.Refused f) = ⊥
+FitsRoom (Reply.Refused f) = f ≢ Refusal.Memory alloc_error
 FitsRoom _ = ⊤

@@ -1,6 +1,6 @@
 -- The lines of replies other than findings: about words that are no command, operands with faults, causes why a
 -- question has no answer, inputs that are too long, and certificates.
-use Rattle.std.specs.Prelude.{ℕ, Bool, List, [], ◌++◌, length, codes, bytes_eq, if◌then◌else◌, Option, Some, None}
+use Rattle.std.specs.Prelude.{ℕ, ◌+◌, Bool, List, [], ◌++◌, length, codes, bytes_eq, if◌then◌else◌, Option, Some, None}
 use Rattle.std.specs.List.{join_by}
 use Rattle.std.specs.Fmt.{decimal}
 use Rattle.word_image.specs.Weights.{own_weights}
@@ -28,8 +28,8 @@ abbrev pub too_long_line : List ℕ
 too_long_line = line (codes "too long")
 
 -- the line that says why a question has no answer: the word `notfit` and the words of the cause
-abbrev pub unfit_line : List ℕ → List ℕ
-unfit_line text = line (codes "notfit " ++ text)
+abbrev pub not_fit_line : List ℕ → List ℕ
+not_fit_line text = line (codes "notfit " ++ text)
 
 -- The lines of an accepted certificate
 
@@ -65,6 +65,10 @@ number_parts (numbers.Three a b c) = codes " " ++ decimal a ++ codes " " ++ deci
 -- the text of a refusal: its parts, in this order
 abbrev pub refusal_text : SaidParts → List ℕ
 refusal_text p = p.cause ++ word_part p.side ++ word_part p.because ++ word_part p.key ++ word_part p.fault ++ number_parts p.numbers
+
+-- the number of bytes of the words of a refusal, with the blanks between them
+abbrev pub words_length : SaidParts → ℕ
+words_length p = length p.cause + length (word_part p.side) + length (word_part p.because) + length (word_part p.key) + length (word_part p.fault)
 
 -- the line of a refused certificate
 abbrev pub refused_line : Refusal → List ℕ

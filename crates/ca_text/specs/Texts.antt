@@ -8,7 +8,7 @@ use Rattle.rule_algebra.specs.FaultTexts.{algebra_text}
 use Rattle.rule_classes.specs.FaultTexts.{lift_text}
 use Rattle.tail_config.specs.TailFaults.{tail_fault_text}
 use Rattle.cert_values.specs.WrittenTexts.{certificate_text}
-use Rattle.ca_questions.specs.Findings.{Finding, Unfit}
+use Rattle.ca_questions.specs.Findings.{Finding, Cause}
 use Rattle.ca_text.specs.Reports.{line, number_line, surjective_line, report_lines}
 use Rattle.ca_text.specs.Lines.{map_lines, automaton_lines, placed_text, gap_text, counts_lines, count_line}
 
@@ -38,12 +38,12 @@ text_of (Finding.Summary t) = counts_lines t
 text_of (Finding.Classes t n) = counts_lines t ++ count_line (codes "classes") n
 
 -- the words for a cause why a question has no finding
-abbrev pub unfit_text : Unfit → List ℕ
-unfit_text (Unfit.Twins x y) = codes "twins " ++ word_text x ++ codes " " ++ word_text y
-unfit_text (Unfit.Wide n) = codes "wide " ++ decimal n
-unfit_text Unfit.Colours = codes "colours"
-unfit_text (Unfit.Lift f) = lift_text f
-unfit_text (Unfit.Algebra f) = algebra_text f
-unfit_text (Unfit.Tail f) = codes "tail " ++ tail_fault_text f
-unfit_text Unfit.Weights = codes "weights"
-unfit_text Unfit.States = codes "states"
+abbrev pub cause_text : Cause → List ℕ
+cause_text (Cause.Twins x y) = codes "twins " ++ word_text x ++ codes " " ++ word_text y
+cause_text (Cause.Wide n) = codes "wide " ++ decimal n
+cause_text Cause.Colours = codes "colours"
+cause_text (Cause.Lift f) = lift_text f
+cause_text (Cause.Algebra f) = algebra_text f
+cause_text (Cause.Tail f) = codes "tail " ++ tail_fault_text f
+cause_text Cause.Weights = codes "weights"
+cause_text Cause.States = codes "states"

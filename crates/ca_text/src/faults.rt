@@ -2,11 +2,11 @@
 ghost use Rattle.std.specs.Prelude.{◌+◌, ◌++◌, codes, length};
 ghost use Rattle.rule_text.specs.FaultTexts.{fault_text};
 ghost use Rattle.ca_questions.specs.Replies.{Reply};
-ghost use Rattle.ca_questions.specs.Values.{unfit_of};
+ghost use Rattle.ca_questions.specs.Values.{cause_of};
 ghost use Rattle.ca_text.specs.Rooms.{AppendsAtMost, IsAppended, IsSmallReply};
-ghost use Rattle.ca_text.specs.StatusLines.{operand_fault_line, unfit_line};
-ghost use Rattle.ca_text.specs.Texts.{unfit_text};
-ghost use Rattle.ca_questions.specs.Writable.{IsWritableUnfit};
+ghost use Rattle.ca_text.specs.StatusLines.{operand_fault_line, not_fit_line};
+ghost use Rattle.ca_text.specs.Texts.{cause_text};
+ghost use Rattle.ca_questions.specs.Writable.{IsWritableCause};
 
 use crate::output::Output;
 use ca_questions::Cause;
@@ -17,11 +17,11 @@ use std::alloc::AllocError;
 use tail_config::tail_name;
 
 /// Appends the line for a cause why a question has no answer, for example `notfit twins 0 1`.
-pub fn write_unfit(output: &mut Output, cause: &Cause) -> Result<(), AllocError>
-    requires { IsWritableUnfit (unfit_of cause.now) }
-    ensures appended { IsAppended result output.old output.new (unfit_line (unfit_text (unfit_of cause.now))) }
+pub fn write_cause(output: &mut Output, cause: &Cause) -> Result<(), AllocError>
+    requires { IsWritableCause (cause_of cause.now) }
+    ensures appended { IsAppended result output.old output.new (not_fit_line (cause_text (cause_of cause.now))) }
     ensures few { AppendsAtMost 2200 result output.old output.new }
-    ensures small { IsSmallReply (Reply.NoFit (unfit_of cause.now)) → AppendsAtMost 100 result output.old output.new }
+    ensures small { IsSmallReply (Reply.NotFit (cause_of cause.now)) → AppendsAtMost 100 result output.old output.new }
 {
     match cause {
         Cause::Twins(pair) => output.push_line_with_words(

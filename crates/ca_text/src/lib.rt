@@ -17,14 +17,8 @@
 //! replies have one line: a cause why a question has no answer, an operand with a fault, a refused certificate, an
 //! input that is too long, and words that are no command.
 //!
-//! The evidence for a verdict has these kinds. An *orphan* is a word without a preimage. A *window* (n, c) says that
-//! n letters of an image determine the letter at place c of each preimage. *Twins* are two different words of the
-//! same length whose rings have the same image. Let the rule have width m. A number n is a right *look-ahead* if the
-//! first m - 1 letters of a word and the first n letters of its image determine the next letter of the word. A left
-//! look-ahead is a right look-ahead of the mirrored rule. A *split* of a side is two different configurations that
-//! share an image and agree on the other side. A *flux* has a number for each node, which is a word of m - 1 letters,
-//! and shows that each ring keeps its sum of weights. A *ring* is a word whose last letter is followed by its first
-//! letter.
+//! The page of the crate cert_conditions explains the kinds of evidence for a verdict: orphans, windows, twins,
+//! look-aheads, splits, fluxes and rings.
 //!
 //! A word is written with a hexadecimal digit for each letter, so letters must be below 16. The law
 //! `right_findings_are_writable` of ca_questions says that they are, in each right finding about accepted rules.

@@ -5,9 +5,9 @@ ghost use Rattle.ca_questions.specs.Writable.{IsWritableReply};
 ghost use Rattle.ca_text.specs.Replies as texts;
 ghost use Rattle.ca_text.specs.Rooms.{AppendsAtMost, FitsRoom, IsShortReply, IsSmallReply, most_text};
 
-use crate::faults::{write_operand_fault, write_unfit};
+use crate::faults::{write_cause, write_operand_fault};
 use crate::output::Output;
-use crate::texts::write_found;
+use crate::texts::write_finding;
 use crate::verdicts::{write_accepted, write_refused};
 use ca_questions::Reply;
 use std::alloc::{AllocError, Global};
@@ -23,8 +23,8 @@ pub fn write_reply(alloc: Global, output: &mut Output, reply: &Reply) -> Result<
     ensures small { IsSmallReply (reply_of reply.now) → AppendsAtMost 500 result output.old output.new }
 {
     match reply {
-        Reply::Found(found) => write_found(alloc, output, found),
-        Reply::NoFit(cause) => write_unfit(output, cause),
+        Reply::Found(found) => write_finding(alloc, output, found),
+        Reply::NotFit(cause) => write_cause(output, cause),
         Reply::RuleFault(operand, fault) => write_operand_fault(output, *operand, *fault),
         Reply::Accepted(verdicts) => write_accepted(output, verdicts),
         Reply::Refused(refusal) => write_refused(output, *refusal),

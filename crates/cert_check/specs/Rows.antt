@@ -17,6 +17,6 @@ IsMarked rows s = IsBitSet (slice_index rows (s / 16)) (s % 16)
 abbrev pub AreMarked : List ℕ → List ℕ → Type 0
 AreMarked rows sets = (s : ℕ) → IsMarked rows s ↔ Contains sets s
 
--- of the sets up to `full`, the set of all nodes, the rows mark exactly the listed sets in version 1, and exactly those that contain a listed set in versions 2 and 3
+-- the rows mark a set of nodes, that is, a number of at most `full`, exactly if it is listed (version 1) or contains a listed set (versions 2 and 3)
 abbrev pub AreKept : CertVersion → ℕ → List ℕ → List ℕ → Type 0
 AreKept version full sets rows = (s : ℕ) → s ≤ full → (IsMarked rows s ↔ IsKept version sets s)

@@ -45,13 +45,13 @@ pub fn check_all(cert: &Cert) -> Result<(), Refusal>
     ensures { MatchResult result (λ _. MeetsConditions cert.now) (IsFirstUnmet cert.now) }
 {
     for condition in &CONDITIONS {
-        check(*condition, cert)?;
+        check_condition(*condition, cert)?;
     }
     Ok(())
 }
 
 /// Checks that a certificate meets this condition. Otherwise returns the refusal that belongs to it.
-fn check(condition: Condition, cert: &Cert) -> Result<(), Refusal>
+fn check_condition(condition: Condition, cert: &Cert) -> Result<(), Refusal>
     ensures { IsChecked cert.now condition result }
 {
     match condition {

@@ -1,8 +1,9 @@
 //! The judge of certificates.
 //!
-//! The judge accepts bytes if and only if they are the text of a certificate that meets seventeen conditions. Then
-//! each verdict of the certificate is true of its rule. Otherwise the judge returns a *refusal*: the first fault of
-//! the text, or the first condition that isn't met. For example, it refuses the empty input, since it isn't JSON.
+//! The judge accepts bytes if and only if they are the text of a certificate that meets seventeen conditions. Then each
+//! verdict of the certificate is true of its rule. Otherwise the judge returns a *refusal*: the first fault of the
+//! text, or the first condition that isn't met. For example, it refuses the empty input, since it isn't JSON. It
+//! accepts what `ca certify 110` prints.
 //!
 //! The judge doesn't use any code that decides questions about rules. So you needn't trust the program that found the
 //! evidence. The crate `cert_conditions` has the conditions, the terms that the comments use (claim, first pair,

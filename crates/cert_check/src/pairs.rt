@@ -76,13 +76,10 @@ fn first_diagonal(rule: &Rule, pairs: &[u16]) -> Option<usize>
     ensures { FirstBreach (length pairs.now)
         (λ i. first_of rule.now (slice_index pairs.now i) ≢ second_of rule.now (slice_index pairs.now i)) result }
 {
-    for (place, pair) in pairs.iter().enumerate() {
+    pairs.iter().position(|pair| {
         let (u, v) = rule.nodes_of(*pair);
-        if u == v {
-            return Some(place);
-        }
-    }
-    None
+        u == v
+    })
 }
 
 /// Returns the place of the first listed pair from which a step leads to an unlisted pair, and the two letters of the

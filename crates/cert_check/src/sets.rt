@@ -49,8 +49,8 @@ pub fn none_empty(cert: &Cert) -> Result<(), Refusal>
 }
 
 /// Checks that each step from a listed set leads to a set that the version allows: a listed set, or in versions 2 and 3
-/// a set that contains a listed set. Otherwise returns a refusal with the place of the first listed set with another
-/// step, and with the first letter of such a step.
+/// a set that contains a listed set. Otherwise returns a refusal: the place of the first listed set that has a step to any
+/// other set, and the first letter of such a step.
 pub fn closed(cert: &Cert) -> Result<(), Refusal>
     ensures { IsChecked cert.now Condition.Closed result }
 {
@@ -70,12 +70,7 @@ pub fn closed(cert: &Cert) -> Result<(), Refusal>
 fn first_empty(sets: &[u16]) -> Option<usize>
     ensures { FirstBreach (length sets.now) (λ i. slice_index sets.now i ≢ 0) result }
 {
-    for (place, set) in sets.iter().enumerate() {
-        if *set == 0 {
-            return Some(place);
-        }
-    }
-    None
+    sets.iter().position(|set| *set == 0)
 }
 
 /// Returns the place of the first listed set with a step to a set that the version doesn't allow, and the first letter
@@ -179,10 +174,5 @@ fn is_kept(version: CertVersion, sets: &[u16], set: u16) -> bool
 fn has_part(sets: &[u16], set: u16) -> bool
     ensures { IsTrue result ↔ HasPart sets.now set }
 {
-    for part in sets {
-        if *part & set == *part {
-            return true;
-        }
-    }
-    false
+    sets.iter().any(|part| *part & set == *part)
 }

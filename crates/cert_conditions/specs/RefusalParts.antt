@@ -76,7 +76,7 @@ abbrev pub place_number : Option ℕ → RefusalNumbers
 place_number None = numbers.None
 place_number (Some place) = numbers.One place
 
--- the parts of a refusal because the bytes aren't the text of a certificate: their first fault
+-- the parts of a refusal with the cause `format`, by the first fault of the text
 abbrev pub shape_parts : ShapeFault → SaidParts
 shape_parts shape.NotJson = add_reason (codes "notjson") (bare_parts (codes "format") numbers.None)
 shape_parts (shape.Version v) = add_reason (codes "version") (bare_parts (codes "format") (numbers.One v))
@@ -102,7 +102,7 @@ parts_of (refusal.Flux w) = bare_parts (codes "flux") (numbers.One w)
 parts_of refusal.Ring = bare_parts (codes "ring") numbers.None
 parts_of (refusal.Memory _) = bare_parts [] numbers.None
 
--- the parts of a refusal that a value of the code represents
+-- the parts of a refusal for which a value of the type RefusalParts of the code stands
 abbrev pub said_in : RefusalParts → SaidParts
 said_in p = record {
   cause = p.cause.now;

@@ -39,7 +39,8 @@ pub struct RefusalParts {
 impl RefusalParts {
     /// Returns the parts of a refusal. If the refusal is lack of memory, returns this as the error.
     pub fn of(refusal: Refusal) -> Result<RefusalParts, AllocError>
-        ensures { IfOk result (λ made. said_in made ≡ parts_of refusal) }
+        ensures parts { IfOk result (λ made. said_in made ≡ parts_of refusal) }
+        ensures memory { (e : AllocError) → result ≡ Err e → refusal ≡ Refusal.Memory e }
     {
         let parts = match refusal {
             Refusal::Format(fault) => shape_parts(fault),

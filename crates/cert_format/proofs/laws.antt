@@ -4,4 +4,3 @@ pub mod Spellings
 pub mod Evidence
 pub mod Answers
 pub mod Steps
-pub mod PlainValues

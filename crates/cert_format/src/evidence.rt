@@ -68,12 +68,7 @@ fn numbers(alloc: Global, most: u16, value: &Value) -> Result<SetList, Misread>
 fn are_within(most: u16, numbers: &[u16]) -> bool
     ensures { IsTrue result ↔ All (λ n. n ≤ most) numbers.now }
 {
-    for number in numbers {
-        if *number > most {
-            return false;
-        }
-    }
-    true
+    numbers.iter().all(|number| *number <= most)
 }
 
 /// Reads the evidence about injectivity: `{"c":C,"n":N}` or `{"twins":["..",".."]}`. Returns the error `Shape` for any

@@ -30,7 +30,7 @@ says_surjective (Sets sets) = true
 says_surjective (Pairs pairs) = true
 says_surjective (Orphan w) = false
 
--- whether the evidence says that the rule is injective: it has a window
+-- whether the evidence says that the rule is injective: it is a determined window, not twins
 abbrev pub says_injective : InjectiveEvidence → Bool
 says_injective (Window n c) = true
 says_injective (Twins x y) = false

@@ -18,18 +18,8 @@
 //! - A number of a flux is from -1,000,000 to 1,000,000.
 //! - A WORD is a string of hexadecimal digits, and a TAIL is the text of a configuration over the rule's letters.
 //!
-//! The evidence for the verdicts has these kinds:
-//!
-//! - An *orphan* is a word without a preimage.
-//! - A *window* (n, c) is determined if n letters of an image determine the letter at place c of each preimage,
-//!   counted from 0. *Twins* are two different words of the same length whose rings have the same image.
-//! - A number n is a right *look-ahead* if the first m - 1 letters of a word and the first n letters of its image
-//!   determine the next letter of the word. A left look-ahead is a right look-ahead of the mirrored rule. A *split*
-//!   of a side is two different configurations that share an image and agree on the other side.
-//! - A *flux* has a number for each node, which is a word of m - 1 letters. At each window, the weight of the letter
-//!   that the rule gives minus the weight of the window's first letter is the number of its first node minus the
-//!   number of its last node. If there is a flux, each ring keeps its sum. A *ring* is a word whose last letter is
-//!   followed by its first letter.
+//! The page of the crate cert_conditions explains the kinds of evidence: orphans, windows, twins, look-aheads, splits,
+//! fluxes and rings.
 //!
 //! A certificate has three other keys. `version` is 1, 2 or 3, and `rule` is a text of the rule. `ranks` is
 //! `{"backward":[..],"forward":[..]}`. Each of the two arrays has a number or `null` for each pair of nodes. The

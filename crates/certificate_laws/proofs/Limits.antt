@@ -53,12 +53,6 @@ IsLeastRightAhead-le {r} {n} rule least =
 pub IsSideShape-ahead : {r : LocalRule} {n : ℕ} → IsRule r → IsLeastRightAhead r n → IsSideShape r (Ahead n)
 IsSideShape-ahead rule least = (least.ahead.some, omega (arith, IsLeastRightAhead-le rule least, pair_count-le rule))
 
--- a rank is a claim within its limits
-IsClaim-rank : {r : LocalRule} (P : ℕ → Type 0) → IsRule r → ((n : ℕ) → IsRank P n → n < pair_count r) → (o : Option ℕ)
-    → MatchOption o (IsEndless P) (IsRank P) → IsClaim o
-IsClaim-rank P rule few None endless = tt
-IsClaim-rank P rule few (Some n) rank = omega (arith, few n rank, pair_count-le rule)
-
 -- exact ranks, which are below the number of pairs, are within their limits
 pub IsRankShape-exact : {r : LocalRule} {row : List (Option ℕ)} (Together : ℕ → ℕ → ℕ → Type 0) → IsRule r
     → ((u v n : ℕ) → IsRank (Together u v) n → n < pair_count r) → IsRankRow r Together row → IsRankShape r row

@@ -124,8 +124,3 @@ MeetsConditions-own {c} rule parts (SideAhead side.Left) = (left-met rule c.left
 MeetsConditions-own {c} rule parts (SideSplit side.Left) = (left-met rule c.left c.backward parts.backward parts.least.left).1
 MeetsConditions-own {c} rule parts FluxFlows = (conserving-met (slice_index c.weights) rule c.conserving parts.least.conserving).0
 MeetsConditions-own {c} rule parts RingLossy = (conserving-met (slice_index c.weights) rule c.conserving parts.least.conserving).1
-
--- what is written for a version, a rule and weights has its parts for its own
-pub own_parts : {version : CertVersion} {r : LocalRule} {weights : List ℕ} {c : Certificate} → HasWrittenParts version r weights c
-    → HasWrittenParts c.version c.rule c.weights c
-own_parts parts = grind arith

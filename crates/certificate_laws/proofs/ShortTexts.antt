@@ -99,11 +99,6 @@ length-weights_members {r} rule weights are =
     (λ (other, named). rw named (simp length-append (omega (arith, length-escape_byte, length-comma_if, length-values whole_value 5 weights small, are.each_letter))))
     (weights_members-cases r weights)
 
--- the number of a version is small
-number_of-le : (v : CertVersion) → number_of v ≤ 65535
-number_of-le One = omega arith
-number_of-le _ = omega arith
-
 -- what is written for its own rule has a short text
 pub short-own : {c : Certificate} → IsShaped c → HasWrittenParts c.version c.rule c.weights c → length (certificate_text c) < 450000
 short-own shaped parts =

@@ -9,11 +9,6 @@ use Rattle.tail_config.proofs.Common.{TailConfig}
 use Rattle.tail_config.specs.TailTexts as tail
 use Rattle.cert_values.proofs.Common.{array_from}
 
--- one of two texts of at most six bytes has at most six
-length-either : (b : Bool) (s t : List ℕ) → length s ≤ 6 → length t ≤ 6 → length (cond b s t) ≤ 6
-length-either true s t first second = first
-length-either false s t first second = second
-
 -- what stands in a string for a byte has at most six bytes
 pub length-escape_byte : (x : ℕ) → length (escape_byte x) ≤ 6
 unfolding escape_byte

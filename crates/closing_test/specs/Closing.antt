@@ -55,11 +55,3 @@ closing_of (lent.Split x y) = Split x y
 -- the configuration over the letters of the rule
 abbrev pub tail_over : LocalRule → TailConfig → TailOver
 tail_over r t = record { states = r.states; config = t }
-
--- the first letter of each step: a step on the letters a and b is the number a * 16 + b
-abbrev pub first_word : List ℕ → List ℕ
-first_word steps = map (λ step. step / most_states) steps
-
--- the second letter of each step
-abbrev pub second_word : List ℕ → List ℕ
-second_word steps = map (λ step. step % most_states) steps

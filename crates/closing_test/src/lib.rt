@@ -13,10 +13,10 @@
 //! if no first pair has a forward rank of n - 1 or more, or is endless. The least right look-ahead is 2 more than the
 //! greatest rank of a first pair. It is 1 if there is no first pair, and there is none if some first pair is endless.
 //!
-//! Rule 60 gives the sum of the two left cells of its window modulo 2. From the node 00 both letters have the label
-//! 0. They lead to the first pair 00 and 01, whose next labels are 0 and 1. The other nodes are similar, and the
-//! least right look-ahead is 2. Two windows that differ only in their first letter have different labels, so the
-//! least left look-ahead is 1.
+//! Rule 60 gives the sum of the two left cells of its window modulo 2. From the node 00 both letters have the label 0.
+//! They lead to the first pair 00 and 01, whose next labels are 0 and 1. The other nodes are similar, and the least
+//! right look-ahead is 2. Two windows that differ only in their first letter have different labels, so the least left
+//! look-ahead is 1. `ca decide 60` prints both look-aheads.
 //!
 //! A split is stored as two Tails (crate tail_config). The Tail `L|M|R` has the left period L, the middle M, which
 //! begins at place 0, and the right period R. The marked graph has each of the N² pairs of nodes twice, without a mark
@@ -31,7 +31,7 @@
 //!
 //! Under rule 110 the pairs of letters (1, 1), (0, 1), (0, 1) lead from the pair of 00 with itself to the pair of 00
 //! and 11, with the mark, and (0, 1) leads from there back to it. The image of `0|100|0`, and of `0|111|1`, is 1
-//! exactly at the places -1 and 0.
+//! exactly at the places -1 and 0. `ca decide 110` prints these two configurations.
 //!
 //! If there are N = k^(m - 1) nodes, a look-ahead takes time **O(k·k^m)** and no memory. So does the test whether a
 //! rule closes. A split takes one search for all middles and one search for the period of each state. The search for
@@ -47,7 +47,10 @@ mod split;
 mod split_room;
 mod walks;
 
+// The programs of this repository use these.
 pub use closes::{is_left_closing, is_right_closing};
-pub use closing::{Closing, left, right};
 pub use look_ahead::{ahead_left, ahead_right};
 pub use split_room::{LentClosing, SplitRoom};
+
+// For other programs in Rattle. No program of this repository uses these.
+pub use closing::{Closing, left, right};

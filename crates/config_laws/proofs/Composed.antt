@@ -1,8 +1,8 @@
 -- Which verdicts one rule after another has, from those of both.
-use Rattle.std.proofs.Common.{◌≡◌, ℕ, ◌+◌, ◌-◌, ◌≤◌, ◌↔◌, List, length, ℤ, pos, ◌+ℤ◌, ◌-ℤ◌, unsigned_abs, refl, sym, ap, ◌∙◌, subst, arith}
+use Rattle.std.proofs.Common.{◌≡◌, ℕ, ◌+◌, ◌-◌, ◌<◌, ◌≤◌, ◌↔◌, List, length, take, slice_index, ℤ, pos, ◌+ℤ◌, ◌-ℤ◌, unsigned_abs, refl, sym, ap, ap₂, ◌∙◌, subst, arith}
 use Rattle.std.proofs.Math.Path.{fun_ext}
-use Rattle.word_image.proofs.Common.{ints, by_lt_z, LocalRule, IsRule, IsWord, image, IsSurjective, mirrored, IsRule-mirrored, some_letter}
-use Rattle.tail_config.proofs.Common.{Config, IsConfig, run, image_of, zeros, AgreeFarLeft, AgreeFarRight, IsInjective, IsRightClosing, IsLeftClosing, IsOpen, length-run, IsWord-run, image-run, same-run, image_of-window}
+use Rattle.word_image.proofs.Common.{ints, by_lt_z, LocalRule, IsRule, IsWord, IsDetermined, image, local_map, IsSurjective, mirrored, IsRule-mirrored, some_letter}
+use Rattle.tail_config.proofs.Common.{WindowMap, IsInverseMap, map_letter, Config, IsConfig, run, image_of, zeros, AgreeFarLeft, AgreeFarRight, IsInjective, IsRightClosing, IsLeftClosing, IsOpen, length-run, IsWord-run, get_or-run, image-run, same-run, take-run, image_of-window}
 use Rattle.tail_laws.proofs.Common.{IsLeftClosing-mirrored}
 use Rattle.config_laws.specs.Maps.{IsRightClosingMap}
 use Rattle.config_laws.specs.Composed.{IsOneAfter, IsUndoneBy}
@@ -12,7 +12,7 @@ use Rattle.config_laws.proofs.Everywhere.{IsInjective-everywhere, IsRightClosing
 use Rattle.config_laws.proofs.Flips.{flip, flip-flip, image_of-flip}
 use Rattle.config_laws.proofs.Dense.{IsSurjective-everywhere}
 use Rattle.config_laws.proofs.BothSides.{IsRightContinuingMap-closing}
-use Rattle.config_laws.proofs.Inverses.{IsOntoMap-injective}
+use Rattle.config_laws.proofs.Inverses.{IsOntoMap-injective, mapped-image_of}
 
 -- the letters are those of the other rule
 over : {k l : ℕ} {x : Config} → k ≡ l → IsConfig k x → IsConfig l x
@@ -162,4 +162,43 @@ IsOneAfter-words {r} {s} {t} first second both states others width offset images
       sym (image-run both x i j 1 refl) ∙ through ∙ ap (image s) inner ∙ image-run second (image_of r x) i k 1 refl in
       let here : i +ℤ pos 0 ≡ i = omega (arith, ints) in
       sym (ap (image_of t x) here) ∙ same-run (image_of t x) (image_of s (image_of r x)) i i 1 one 0 (omega arith) ∙ ap (image_of s (image_of r x)) here);
+}
+
+-- a rule that gives back the letters of words under their images undoes the rule that made the images
+pub IsUndoneBy-words : {r s : LocalRule} → IsRule r → IsRule s → s.states ≡ r.states
+    → ((n : ℕ) (x : List ℕ) → IsWord r.states x → length x ≡ n + (r.width - 1) + (s.width - 1)
+    → (i j : ℕ) → j < n → pos i ≡ (pos j -ℤ r.offset -ℤ s.offset) → slice_index (image s (image r x)) j ≡ slice_index x i) → IsUndoneBy r s
+IsUndoneBy-words {r} {s} first second others words = record {
+  states = others;
+  back = λ x hx. fun_ext (λ i.
+      let j : ℕ = unsigned_abs r.offset + unsigned_abs s.offset in
+      let a : ℕ = unsigned_abs (pos j -ℤ r.offset -ℤ s.offset) in
+      let n : ℕ = 1 + j + j in
+      let m : ℕ = n + (s.width - 1) in
+      let k : ℤ = i -ℤ pos j in
+      let l : ℤ = k +ℤ s.offset in
+      let h : ℤ = l +ℤ r.offset in
+      let w : List ℕ = run x h (m + (r.width - 1)) in
+      let place : pos a ≡ (pos j -ℤ r.offset -ℤ s.offset) = omega (arith, ints) in
+      let through : image s (image r w) ≡ run (image_of s (image_of r x)) k n = ap (image s) (image-run first x l h m refl) ∙ image-run second (image_of r x) k l n refl in
+      let same : slice_index (image s (image r w)) j ≡ slice_index w a =
+      words n w (IsWord-run hx h (m + (r.width - 1))) (omega (arith, length-run x h (m + (r.width - 1)))) a j (omega arith) place in
+      sym (get_or-run (image_of s (image_of r x)) k i n j (omega arith) (omega (arith, ints)))
+      ∙ ap (λ (u : List ℕ). slice_index u j) (sym through)
+      ∙ same
+      ∙ get_or-run x h i (m + (r.width - 1)) a (omega (arith, ints)) (omega (arith, ints)));
+}
+
+-- a rule that gives the letters of the inverse map undoes the rule
+pub IsUndoneBy-map : {r s : LocalRule} {n c : ℕ} {g : WindowMap} → IsRule r → IsDetermined r n c → IsInverseMap r n c g
+    → s.states ≡ r.states → s.offset ≡ g.offset → n ≤ s.width
+    → ((w : List ℕ) → IsWord r.states w → length w ≡ s.width → local_map s w ≡ map_letter g (take n w)) → IsUndoneBy r s
+IsUndoneBy-map {r} {s} {n} {c} {g} rule window h others offset wide letters = record {
+  states = others;
+  back = λ x hx. fun_ext (λ i.
+      let y : Config = image_of r x in
+      let p : ℤ = i +ℤ s.offset in
+      letters (run y p s.width) (IsWord-run (IsConfig-image rule x) p s.width) (length-run y p s.width)
+      ∙ ap (map_letter g) (take-run y p s.width n wide ∙ ap₂ (λ (o : ℤ) (m : ℕ). run y (i +ℤ o) m) offset (sym h.width))
+      ∙ ap (λ (z : Config). z i) (mapped-image_of rule window h hx));
 }

@@ -12,14 +12,6 @@ use Rattle.config_laws.specs.Examples.{parities}
 IsRule-parities : IsRule parities
 IsRule-parities = grind arith
 
--- what holds of the four letters holds of each
-each_letter : (P : ℕ → Type 0) → P 0 → P 1 → P 2 → P 3 → (a : ℕ) → a < 4 → P a
-each_letter P p q s t zero l = p
-each_letter P p q s t (suc zero) l = q
-each_letter P p q s t (suc (suc zero)) l = s
-each_letter P p q s t (suc (suc (suc zero))) l = t
-each_letter P p q s t (suc (suc (suc (suc a)))) l = absurd (omega arith)
-
 -- what the rule gives on the letters a and b
 abbrev gives : ℕ → ℕ → ℕ
 gives a b = local_map parities (a ∷ b ∷ [])

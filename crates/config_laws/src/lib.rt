@@ -54,15 +54,15 @@
 //! The functions of this crate do nothing. The contract of each function states a law.
 #![tactic(auto)]
 
-ghost use Rattle.std.specs.Prelude.{◌≡◌, ◌↔◌, ◌+◌, ◌-◌, ◌*◌, ◌≤◌, ℕ, List, length, ℤ, pos, ◌+ℤ◌, ◌-ℤ◌};
+ghost use Rattle.std.specs.Prelude.{◌≡◌, ◌↔◌, ◌+◌, ◌-◌, ◌*◌, ◌<◌, ◌≤◌, ℕ, List, length, take, slice_index, ℤ, pos, ◌+ℤ◌, ◌-ℤ◌};
 ghost use Rattle.std.specs.List.{repeat};
-ghost use Rattle.word_image.specs.LocalRules.{LocalRule, IsRule, IsWord, node_count};
+ghost use Rattle.word_image.specs.LocalRules.{LocalRule, IsRule, IsWord, local_map, node_count};
 ghost use Rattle.word_image.specs.Words.{IsSurjective, image};
 ghost use Rattle.word_image.specs.Windows.{IsDetermined, IsRightAhead};
 ghost use Rattle.word_image.specs.Sides.{IsLeftAhead};
 ghost use Rattle.word_image.specs.Rings.{IsConserving, IsFlux, IsRing, ring_image};
 ghost use Rattle.tail_config.specs.Tails.{IsInjective, IsRightClosing, IsLeftClosing, IsOpen};
-ghost use Rattle.tail_config.specs.InverseMaps.{WindowMap, IsInverseMap, mapped};
+ghost use Rattle.tail_config.specs.InverseMaps.{WindowMap, IsInverseMap, map_letter, mapped};
 ghost use Rattle.tail_config.specs.Configs.{Config, IsConfig, run, image_of};
 ghost use Rattle.config_laws.specs.Maps.{IsInjectiveMap, IsRightClosingMap, IsLeftClosingMap, IsPreinjectiveMap, IsRightContinuingMap, IsLeftContinuingMap, IsDenseMap, IsOntoMap, IsBijectiveMap, IsOpenMap, IsEvenlyOpenMap, AreMany};
 ghost use Rattle.config_laws.specs.OneOfTwo.{OneOfTwo, AllOrNot};
@@ -176,10 +176,13 @@ pub fn conserving_everywhere()
 {}
 
 /// Law: a determined window has an inverse map. If you apply the rule and then the map, or the map and then the rule,
-/// each configuration is mapped to itself.
+/// each configuration is mapped to itself. A rule undoes the given rule if it has the offset of the map, and if it gives
+/// for each window the letter that the map gives for the window's first n letters.
 pub fn inverse_everywhere()
     ensures back { (r : LocalRule) (n c : ℕ) (g : WindowMap) (x : Config) → IsRule r → IsDetermined r n c → IsInverseMap r n c g → IsConfig r.states x → mapped g (image_of r x) ≡ x }
     ensures forth { (r : LocalRule) (n c : ℕ) (g : WindowMap) (x : Config) → IsRule r → IsDetermined r n c → IsInverseMap r n c g → IsConfig r.states x → image_of r (mapped g x) ≡ x }
+    ensures rule { (r s : LocalRule) (n c : ℕ) (g : WindowMap) → IsRule r → IsDetermined r n c → IsInverseMap r n c g → s.states ≡ r.states → s.offset ≡ g.offset → n ≤ s.width
+        → ((w : List ℕ) → IsWord r.states w → length w ≡ s.width → local_map s w ≡ map_letter g (take n w)) → IsUndoneBy r s }
 {}
 
 /// Law: a rule is injective if and only if it maps the configurations one-to-one onto all configurations. An
@@ -206,12 +209,16 @@ pub fn composed_everywhere()
         → ((x : List ℕ) → IsWord r.states x → t.width ≤ length x + 1 → image t x ≡ image s (image r x)) → IsOneAfter r s t }
 {}
 
-/// Law: if a rule s undoes a rule r, then r undoes s, too. Both rules are injective, and they conserve the same sums.
+/// Law: if a rule s undoes a rule r, then r undoes s too, r is injective, and both conserve the same sums. It is enough to
+/// look at words: s undoes r if in the image under s of the image under r of a word x, letter j is always the letter of x
+/// at the place j minus both offsets.
 pub fn undone_everywhere()
     ensures rings { (r s : LocalRule) (p : List ℕ) → IsUndoneBy r s → IsRing r.states p → ring_image s (ring_image r p) ≡ p }
     ensures turned { (r s : LocalRule) → IsRule r → IsUndoneBy r s → IsUndoneBy s r }
     ensures injective { (r s : LocalRule) → IsRule r → IsUndoneBy r s → IsInjective r }
     ensures conserving { (weight : ℕ → ℕ) (r s : LocalRule) → IsRule r → IsRule s → IsUndoneBy r s → (IsConserving weight r ↔ IsConserving weight s) }
+    ensures words { (r s : LocalRule) → IsRule r → IsRule s → s.states ≡ r.states
+        → ((n : ℕ) (x : List ℕ) → IsWord r.states x → length x ≡ n + (r.width - 1) + (s.width - 1) → (i j : ℕ) → j < n → pos i ≡ (pos j -ℤ r.offset -ℤ s.offset) → slice_index (image s (image r x)) j ≡ slice_index x i) → IsUndoneBy r s }
 {}
 
 /// Law: a rule is injective if and only if it maps the rings of each length one-to-one onto all rings of this length.

@@ -11,7 +11,9 @@
 //!
 //! A set of nodes is a number: its bit u is 1 if node u is in the set. So `ends(3, 0)` is the number 8, which is the
 //! set that contains only node 3. A step of a set follows every edge with the given label from every node of the set.
-//! From all four nodes, the set 15, a step on 0 leads to the nodes 00 and 11, the set 9.
+//! From all four nodes, the set 15, a step on 0 leads to the nodes 00 and 11, the set 9. The tests
+//! `rule_110_has_this_graph` and `the_word_01010_empties_the_sets_of_rule_110` of worked_examples compare all numbers
+//! of this graph.
 //!
 //! The graph has N = k^(m - 1) nodes, at most 16, and k^m edges. `of` takes time **O(k^m)**, `step` and `after` take
 //! **O(N)**, and every other call takes **O(1)**.

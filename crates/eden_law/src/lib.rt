@@ -7,7 +7,8 @@
 //! length, and then by the dictionary order of their pairs of letters.
 //!
 //! Rule 0 gives 0 everywhere, so 00000 and 00100 can replace each other. The rule that gives 1 only for the window 11
-//! has the erasable pair 000 and 010. Rule 90, the sum of the two neighbours modulo 2, has none.
+//! has the erasable pair 000 and 010. Rule 90, the sum of the two neighbours modulo 2, has none. `ca erase 0`, `ca
+//! erase 2:2:0:t0001` and `ca erase 90` print this.
 //!
 //! Two words with the same image spell a walk of pairs of nodes in the de Bruijn graph. The marked graph has each pair
 //! of nodes twice, without a mark and with it, and a step on two different letters sets the mark. An erasable pair
@@ -47,8 +48,12 @@ mod reached_pairs;
 mod surjective;
 mod zeros;
 
-pub use erased::{Erased, erasable, least_erasable};
+// The programs of this repository use these.
+pub use erased::least_erasable;
 pub use even::is_even;
 pub use reached_pairs::reached;
 pub use surjective::is_surjective;
 pub use zeros::is_even_at_zeros;
+
+// For other programs in Rattle. No program of this repository uses these.
+pub use erased::{Erased, erasable};

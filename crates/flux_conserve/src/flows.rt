@@ -80,9 +80,9 @@ fn flows(rule: &Rule, weights: &Weights, numbers: &[i32], window: u16) -> bool
     i64::from(window_flow(rule, weights, window)) == i64::from(first) - i64::from(last)
 }
 
-/// Returns whether the gain of a window is the gain of the walk from its first node minus the gain of the walk from its
-/// last node. The first node has the first m - 1 letters of the window, and the last node its last m - 1 letters. Both
-/// walks read m - 1 letters 0.
+/// From each node a walk leads that reads m - 1 letters 0. Take the sum of the gains of its windows. Returns whether the
+/// gain of a window is this sum for the node of its first m - 1 letters, minus this sum for the node of its last m - 1
+/// letters.
 pub(crate) fn walks_flow(rule: &Rule, weights: &Weights, window: u16) -> bool
     requires letters { length weights.now ≡ rule.now.states }
     requires window { window < rule.now.states ^ rule.now.width }

@@ -16,7 +16,7 @@
 //! For the window 1 1 0 the rule gives 0, one less than the first letter, and phi(11) - phi(10) is -1. For the window 0
 //! 1 1 the rule gives 1, one more than the first letter, and phi(01) - phi(11) is 1. If 0 weighs 1 and 1 weighs 4, the
 //! flux is 0 0 0 -3. Rule 232 gives the majority of three cells. The ring 0 0 1 becomes 0 0 0, and all lesser rings
-//! keep their weights.
+//! keep their weights. `ca decide 184`, `ca decide 184 1,4` and `ca decide 232` print these fluxes and this ring.
 //!
 //! [`has_mean`] and [`keeps_ends`] only look at the table. If each letter weighs its own value, the letters of a
 //! conserving rule's table have the mean (k - 1) / 2, and the rule gives 0 for the window of zeros and k - 1 for the

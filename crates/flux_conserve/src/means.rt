@@ -22,7 +22,7 @@ pub fn is_mean(k: u8, count: u16, sum: u16) -> bool
     2 * u32::from(sum) + u32::from(count) == u32::from(k) * u32::from(count)
 }
 
-/// Returns the sum of these letters, which are at most 256.
+/// Returns the sum of at most 256 letters.
 pub fn letter_sum(letters: &[u8]) -> u16
     requires { length letters.now ≤ most_windows }
     ensures { result ≡ sum letters.now }

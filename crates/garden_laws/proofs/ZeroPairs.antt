@@ -18,12 +18,6 @@ image-two {r} rule x word long =
     ∙ ap₂ (λ (u v : List ℕ). u ++ v) (image-window rule (take m x) (length-take-le m x (omega arith))) (image-window rule (drop 1 x) (omega (arith, length-drop 1 x)))
     ∙ ap₂ (λ (a b : ℕ). slice_index r.table a ∷ slice_index r.table b ∷ []) first second
 
--- where both are true each is
-both_true : (a b : Bool) → (a && b) ≡ true → (a ≡ true) × (b ≡ true)
-both_true true true e = (e, e)
-both_true true false e = absurd (false≢true e)
-both_true false b e = absurd (false≢true e)
-
 -- two letters are tested for 0
 two_zeros : (a b : ℕ) → (((a == 0) && (b == 0)) ≡ true) ↔ ((a ∷ b ∷ []) ≡ (0 ∷ 0 ∷ []))
 two_zeros a b = grind arith

@@ -1,5 +1,5 @@
 -- What the proofs of this crate cite of the crates below, of the kit and of specs/, passed on from one place. Declares nothing.
-pub use Rattle.image_minimal.specs.Closures.{AreClosures, AreClosuresFrom, IsBack, IsClosedStep, IsClosure, IsLedInto, IsUnread, IsUnreadSet, IsWithin, StepsInto}
+pub use Rattle.image_minimal.specs.Closures.{AreClosures, ArePartClosures, IsBack, IsClosedStep, IsClosure, IsLedInto, IsPartClosure, IsUnread, IsUnreadSet, IsWithin, IsWithinFrom, StepsInto}
 pub use Rattle.image_minimal.specs.ImageLanguages.{Alike, Automaton, HaveSameOrphans, IsClassList, IsDeadClass, IsLeastAlike, IsLeastAutomaton, IsNextClass, Separates}
 pub use Rattle.image_minimal.specs.Indexes.{IsExactIndex, IsInserted, IsPlaceOf}
 pub use Rattle.image_minimal.specs.Joins.{AreColours, IsFalling, IsJoin, IsOnWay, class_count, root_mark}

@@ -1,10 +1,6 @@
 -- Lists of different sets, with an index by set.
 use Rattle.image_minimal.proofs.Common.{◌≡◌, ℕ, ◌<◌, ◌≤◌, List, [], ◌∷◌, ◌++◌, length, set, slice_index, Option, Some, None, Contains, refl, sym, ap, ◌∙◌, arith, ⊎_elim, slice_get, length-set, cases_lt, same_Some, slice_get-get_or, none-some, slice_get-append, slice_get-push, slice_get-push_cases, Contains-slice_get, slice_get-Contains, twice_below, IsPlaceOf, IsExactIndex, each-set}
 
--- a set without a place isn't in the list
-pub IsPlaceOf-none : (sets : List ℕ) (set : ℕ) (place : Option ℕ) → IsPlaceOf sets set place → place ≡ None → ¬ Contains sets set
-IsPlaceOf-none sets set place h none has = let (i, at) = slice_get-Contains sets set has in none-some i (sym none ∙ (h i).1 at)
-
 -- a set has one place
 pub IsPlaceOf-one : (sets : List ℕ) (set : ℕ) (place other : Option ℕ) → IsPlaceOf sets set place → IsPlaceOf sets set other → place ≡ other
 IsPlaceOf-one sets set None None h g = refl

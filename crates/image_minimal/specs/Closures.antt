@@ -2,7 +2,7 @@
 -- the word. For each word, the nodes from which it isn't read are an unread set. The closure of a set is the
 -- intersection of the unread sets that contain it. If a word isn't read from the nodes of a set, it isn't read from the
 -- nodes of the closure of the set either.
-use Rattle.std.specs.Prelude.{◌≡◌, ℕ, ◌^◌, ◌<◌, ◌≤◌, List, length, slice_index, IsBitSet}
+use Rattle.std.specs.Prelude.{◌≡◌, ℕ, ◌+◌, ◌^◌, ◌<◌, ◌≤◌, List, length, slice_index, IsBitSet}
 use Rattle.word_image.specs.LocalRules.{LocalRule, node_count}
 use Rattle.word_image.specs.Graphs.{IsNodeSet}
 use Rattle.word_image.specs.Edges.{IsEdge, IsStep}
@@ -43,11 +43,21 @@ pub record IsClosedStep (r : LocalRule) (set a after : ℕ) : Type 0 where
   pub step : IsStep r set a to
   pub closure : IsClosure r to after
 
--- for each set whose number is at least n, `closures` has the closure of the set, at the place of this number
-pub record AreClosuresFrom (r : LocalRule) (n : ℕ) (closures : List ℕ) : Type 0 where
-  pub long : length closures ≡ 2 ^ node_count r
-  pub closure : (set : ℕ) → n ≤ set → set < 2 ^ node_count r → IsClosure r set (slice_index closures set)
+-- every node of the set `other`, from node n on, is in the set `set`
+abbrev pub IsWithinFrom : LocalRule → ℕ → ℕ → ℕ → Type 0
+IsWithinFrom r n set other = (u : ℕ) → n ≤ u → u < node_count r → IsBitSet other u → IsBitSet set u
+
+-- `part` is the intersection of the unread sets that contain the set, and beyond it only nodes below n
+pub record IsPartClosure (r : LocalRule) (n set part : ℕ) : Type 0 where
+  pub of : IsNodeSet r (λ u. (unread : ℕ) → IsUnreadSet r unread → IsWithin r set unread → IsWithinFrom r n set unread → IsBitSet unread u) part
+
+-- for each set `parts` has the intersection of the unread sets that contain it, and beyond it only nodes below n, or, for the sets less than `done`, also node n
+pub record ArePartClosures (r : LocalRule) (n done : ℕ) (parts : List ℕ) : Type 0 where
+  pub long : length parts ≡ 2 ^ node_count r
+  pub first : (set : ℕ) → set < done → set < 2 ^ node_count r → IsPartClosure r (n + 1) set (slice_index parts set)
+  pub rest : (set : ℕ) → done ≤ set → set < 2 ^ node_count r → IsPartClosure r n set (slice_index parts set)
 
 -- `closures` has the closure of each set, at the place of the number of the set
-abbrev pub AreClosures : LocalRule → List ℕ → Type 0
-AreClosures r = AreClosuresFrom r 0
+pub record AreClosures (r : LocalRule) (closures : List ℕ) : Type 0 where
+  pub long : length closures ≡ 2 ^ node_count r
+  pub closure : (set : ℕ) → set < 2 ^ node_count r → IsClosure r set (slice_index closures set)

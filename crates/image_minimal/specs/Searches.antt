@@ -15,7 +15,7 @@ use Rattle.image_minimal.specs.Indexes.{IsPlaceOf}
 abbrev pub AreUnreadSets : LocalRule → List ℕ → Type 0
 AreUnreadSets r sets = (set : ℕ) → Contains sets set ↔ IsUnreadSet r set
 
--- a breadth-first search by closed steps from the set of all nodes: it has followed its first e edges, and the list has the sets that it has reached
+-- IsClassSearch r states e: `states` lists the sets that a breadth-first search from the set of all nodes has reached by its first e edges, if it takes the closure after each step
 abbrev pub IsClassSearch : LocalRule → List ℕ → ℕ → Type 0
 IsClassSearch r = IsSearch (IsClosedStep r) r.states (full_set r)
 

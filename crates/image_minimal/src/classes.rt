@@ -106,17 +106,9 @@ impl Minimal {
         self.classes.len()
     }
 
-    /// Returns the class that follows each class on each letter. The list begins with the classes that follow class 0,
-    /// one for each letter. Then come the classes that follow class 1, and so on. The list has `len` times `k` numbers.
-    pub fn rows(&self, alloc: Global) -> Result<Vec<u16>, AllocError>
-        ensures { IfOk result (λ rows. (a : Automaton) → IsLeastAutomaton self.now a → rows.items ≡ a.next) }
-    {
-        let mut rows = Vec::with_capacity(alloc, self.len() as usize * usize::from(self.k()))?;
-        self.write_rows(&mut rows);
-        Ok(rows)
-    }
-
-    /// Writes the list that `rows` returns into a list that has capacity for it, in place of its numbers.
+    /// Writes the class that follows each class on each letter, in place of the numbers of `rows`, which must have
+    /// capacity for `len` times `k` numbers. The list begins with the classes that follow class 0, one for each letter.
+    /// Then come the classes that follow class 1, and so on.
     pub fn write_rows(&self, rows: &mut Vec<u16>)
         requires { (a : Automaton) → IsLeastAutomaton self.now a → a.classes * a.states ≤ vec_capacity rows.old }
         ensures rows { (a : Automaton) → IsLeastAutomaton self.now a → rows.new.items ≡ a.next }

@@ -11,11 +11,11 @@
 //! greatest set from which no other words are read. Two words are equivalent if and only if their sets of last nodes
 //! have the same closure.
 //!
-//! Steps backward from the empty set reach all unread sets. Then the closures are computed from the set of all nodes
-//! down to the empty set. An unread set is its own closure. The closure of any other set is the intersection of the
-//! closures of the sets with one node more. This is the second of Brzozowski's two reversals (1962), with a set of
-//! nodes instead of a set of sets. A breadth-first search with letters ascending finds each class by its least word
-//! first, and the classes are numbered in this order.
+//! Steps backward from the empty set reach all unread sets. Then the closures of all sets are computed together, node by
+//! node. At first an unread set has itself, and any other set has all nodes. For each node, each set that lacks it then
+//! keeps what it has in common with the set that also has this node. This is the second of Brzozowski's two reversals
+//! (1962), with a set of nodes instead of a set of sets. A breadth-first search with letters ascending finds each class
+//! by its least word first, and the classes are numbered in this order.
 //!
 //! Two rules are compared by links (Hopcroft and Karp 1971). A *link* is a pair of sets that the same word reaches
 //! under the two rules. The links are found breadth first. A pair of sets isn't made a link if earlier links already
@@ -25,8 +25,8 @@
 //!
 //! Under the rule that gives 1 only for the window 11, the orphans are the words that contain 101. The word 01 isn't
 //! read from node 1, so the set 2, which contains only this node, is unread. The sets 0, 1 and 3 are unread, too, and
-//! each is its own closure. The classes have the least words (empty), 1, 10 and 101, whose sets of last nodes are 3,
-//! 2, 1 and 0.
+//! each is its own closure. The classes have the least words (empty), 1, 10 and 101, whose sets of last nodes are 3, 2,
+//! 1 and 0. `ca language 2:2:0:t0001` prints this automaton.
 //!
 //! For N nodes, u unread sets and c classes `least` takes time **O(u k N + 2^N N + c k)**. A [`Minimal`] takes 528 KB,
 //! which serve one rule after another. It doesn't store the c k classes that follow each class on each letter:
@@ -42,5 +42,10 @@ mod listed;
 mod separation;
 mod subsets;
 
-pub use classes::{Minimal, few_classes, least, one_least_automaton};
-pub use separation::{SepFault, SeparationRoom, separate};
+// The programs of this repository use these.
+pub use classes::{Minimal, few_classes, one_least_automaton};
+pub use separation::SeparationRoom;
+
+// For other programs in Rattle. No program of this repository uses these.
+pub use classes::least;
+pub use separation::{SepFault, separate};

@@ -96,7 +96,7 @@ impl SeparationRoom {
     }
 
     /// Returns the least word that is an orphan of exactly one of the two rules, or None if the rules have the same
-    /// orphans. Both rules have the same number of states. The word has at most 131,073 letters.
+    /// orphans. Both rules must have the same number of states. The word has at most 131,073 letters.
     pub fn separate(&mut self, first: &Rule, second: &Rule) -> Option<&[u8]>
         requires { first.now.states ≡ second.now.states }
         ensures word { MatchOption result (HaveSameOrphans first.now second.now) (λ word. Separates first.now second.now word.now) }
@@ -123,7 +123,7 @@ impl SeparationRoom {
 }
 
 /// Searches for the least word that is an orphan of exactly one rule. Writes it into `word` and returns true, or
-/// returns false if the rules have the same orphans. Both rules have the same number of states. A link is a pair of
+/// returns false if the rules have the same orphans. Both rules must have the same number of states. A link is a pair of
 /// sets of last nodes that the same word has under the two rules. `parents` puts each set of both rules into a class of
 /// its own, and the tables have the steps of the sets. The search follows links breadth first, with letters ascending,
 /// until a letter leads to two sets of which exactly one is empty.

@@ -5,3 +5,4 @@ pub mod Steps
 pub mod RowMarks
 pub mod MarkSpreads
 pub mod Minimal
+pub mod SmallestSets

@@ -1,6 +1,6 @@
 -- A list of different sets with a mark on each, one set more at a time, and emptied.
 use Rattle.std.proofs.lemmas.Grind.{common_steps}
-use Rattle.std.proofs.Common.{◌≡◌, ◌≢◌, ℕ, ◌*◌, ◌/◌, ◌%◌, ◌^◌, ◌<◌, ◌≤◌, ◌↔◌, ◌⊎◌, inl, inr, List, [], ◌∷◌, ◌++◌, length, replicate, slice_index, slice_set, Contains, bit_or, refl, sym, ap, ◌∙◌, subst, arith, ⊎_elim, length-set}
+use Rattle.std.proofs.Common.{Bool, true, false, ◌≡◌, ◌≢◌, ℕ, ◌*◌, ◌/◌, ◌%◌, ◌^◌, ◌<◌, ◌≤◌, ◌↔◌, ◌⊎◌, inl, inr, List, [], ◌∷◌, ◌++◌, length, replicate, slice_index, slice_set, Contains, bit_or, refl, sym, ap, ◌∙◌, subst, arith, ⊎_elim, length-set}
 use Rattle.std.proofs.lemmas.List.Quantifiers.{all_pairs_push}
 use Rattle.std.proofs.lemmas.Map.Made.{IsDistinct-from_AllPairs}
 use Rattle.std.proofs.lemmas.Map.Steps.{length-le_from_distinct_below}
@@ -8,7 +8,7 @@ use Rattle.std.proofs.lemmas.Map.Views.{Contains-from_any}
 use Rattle.word_image.proofs.Common.{Decides-eqb, length_push, length-replicate, get_or_default, Contains-push, Contains-append_left, Contains-push_cases, All-nil, All-push, All-contains}
 use Rattle.pair_laws.proofs.Common.{HasBit-none}
 use Rattle.image_subsets.specs.Marks.{IsSetMarked}
-use Rattle.image_subsets.specs.Masks.{AreMembers}
+use Rattle.image_subsets.specs.Masks.{AreMembers, IsInserted}
 
 -- no set is marked in rows of zeros
 pub AreMembers-none : (rows : List ℕ) → rows ≡ replicate 1024 0 → AreMembers [] rows
@@ -50,3 +50,8 @@ length-masks-le {sets} h =
 -- before a new set is put in, there are fewer than all
 pub few_before_new : {sets rows : List ℕ} → AreMembers sets rows → (set : ℕ) → set < 65536 → ¬ Contains sets set → length sets < 65536
 few_before_new {sets} h set small new = omega (arith, length-masks-le (AreMembers-push h set (set / 64) (set % 64) refl refl small new), length_push sets set)
+
+-- the first set is put into an empty list
+pub first_set : (old new : List ℕ) (set : ℕ) (added : Bool) → old ≡ [] → IsInserted old new set added → new ≡ set ∷ []
+first_set old new set true none h = h.1 ∙ ap (λ l. l ++ set ∷ []) none
+first_set old new set false none (has, same) = absurd (let (i, below, at) = subst (λ l. Contains l set) none has in omega (arith, below))

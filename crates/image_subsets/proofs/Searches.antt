@@ -23,7 +23,7 @@ IsExpanded-start {r} rule =
 
 module _ {r : LocalRule} {sets : List ℕ} {parents : List (Option (ℕ × ℕ))} {e : ℕ} (h : IsTreeSearch r sets parents e) where
   -- the set that stands at a place
-  state_at : (i : ℕ) (x : Place ℕ) → slice_get h.search.tree i ≡ Some x → (i < length sets) × (slice_index sets i ≡ x.state)
+  pub state_at : (i : ℕ) (x : Place ℕ) → slice_get h.search.tree i ≡ Some x → (i < length sets) × (slice_index sets i ≡ x.state)
   state_at i x at =
       let there : slice_get sets i ≡ Some x.state = subst (λ l. slice_get l i ≡ Some x.state) h.search.lists (mapped_at (λ y. y.state) h.search.tree i x at) in
       (slice_get_within sets i x.state there, get_or_from_slice_get sets i x.state 0 there)
@@ -53,7 +53,7 @@ module _ {r : LocalRule} {sets : List ℕ} {parents : List (Option (ℕ × ℕ))
       })
 
   -- each parent stands before its set
-  earlier_of : (i : ℕ) (way : Option (ℕ × ℕ)) → slice_get parents i ≡ Some way → MatchOption way (i ≡ 0) (λ (p, a). p < i)
+  pub earlier_of : (i : ℕ) (way : Option (ℕ × ℕ)) → slice_get parents i ≡ Some way → MatchOption way (i ≡ 0) (λ (p, a). p < i)
   earlier_of i None at = h.ways i None at
   earlier_of i (Some (p, a)) at = (IsLeastParent-search i p a at).earlier
 

@@ -3,3 +3,4 @@ pub mod Masks
 pub mod Searches
 pub mod StepTables
 pub mod Marks
+pub mod SmallestSets

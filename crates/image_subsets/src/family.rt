@@ -4,11 +4,11 @@
 //! image it is. A step on the letter a leads from the set of a word to the set of this word followed by a.
 
 ghost use Rattle.std.specs.Prelude.{◌≡◌, ◌≢◌, ◌+◌, ◌*◌, ◌≤◌, ◌<◌, AllPairs, Contains, [], length, slice_index, slice_get, vec_capacity, Some, MatchOption, false, IfOk};
-ghost use Rattle.word_image.specs.LocalRules.{most_sets};
+ghost use Rattle.word_image.specs.LocalRules.{LocalRule, most_sets};
 ghost use Rattle.image_subsets.specs.FamilyTrees.{IsFamilyTree};
 ghost use Rattle.image_subsets.specs.Searches.{IsExpanded};
 ghost use Rattle.image_subsets.specs.StepTables.{AreTables};
-ghost use Rattle.word_image.specs.Families.{is_minimal};
+ghost use Rattle.word_image.specs.Families.{IsLeastWordOf, is_minimal};
 
 use crate::marks::Marks;
 use crate::masks::{MOST_SETS, Masks};
@@ -135,6 +135,24 @@ impl Family {
             Some((place, letter)) => Some((u32::from(place), letter)),
             None => None,
         }
+    }
+
+    /// Writes the least word whose set is at place `i` into an empty list. Its letters are those of the steps by which the
+    /// search came from the first set to this set.
+    pub fn write_word(&self, i: u32, word: &mut Vec<u8>)
+        requires set { i < length self.now.sets }
+        requires empty { word.old.items ≡ [] }
+        requires room { i ≤ vec_capacity word.old }
+        ensures least { (r : LocalRule) → IsFamilyTree r self.now → IsLeastWordOf r (slice_index self.now.sets i) word.new.items }
+        ensures short { length word.new.items ≤ i }
+        ensures capacity { vec_capacity word.new ≡ vec_capacity word.old }
+    {
+        let mut place = i;
+        while let Some((parent, letter)) = self.parent(place) {
+            word.push_reserved(letter);
+            place = parent;
+        }
+        word.reverse();
     }
 }
 

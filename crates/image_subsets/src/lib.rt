@@ -17,7 +17,10 @@
 //! Under rule 106 the family is 15, 13, 14, 9, 6, 5, 10, 1, 2, 12, 4, 8. No set is empty, so the rule is surjective.
 //! The sets 1, 2, 4 and 8 contain no other set. To find such sets quickly, a family has a mark on each set that
 //! contains another set of the family. The marks are bits in a list of numbers, which are called rows: the mark on set
-//! s is bit s % 64 of the row s / 64.
+//! s is bit s % 64 of the row s / 64. The test `rule_106_has_twelve_sets` of worked_examples explores this family.
+//!
+//! [`Smallest`] goes through the sets in the same order, to the least word whose set has the fewest nodes. It keeps no marks,
+//! and it ends at a set that has few enough nodes. Under rule 106 one node is enough, so it ends at the set 1 of the word 0100.
 //!
 //! If there are N = k^(m - 1) nodes, a family has at most 2^N sets. To explore s sets takes time **O(s k)**, and
 //! **O(2^8 k)** for the tables of steps. If no set is empty, the marks take **O(N 2^N)** more, for 64 sets at a time.
@@ -29,9 +32,14 @@ mod graph_steps;
 mod marks;
 mod masks;
 mod rows;
+mod smallest;
 mod step_tables;
 
+// The programs of this repository use these.
 pub use family::Family;
-pub use graph_steps::{full, step};
 pub use masks::MOST_SETS;
+pub use smallest::Smallest;
 pub use step_tables::StepTables;
+
+// For other programs in Rattle. No program of this repository uses these.
+pub use graph_steps::{full, step};

@@ -1,7 +1,7 @@
 -- An inverse map as a rule: its shape, its table, and the first limit that it breaks.
-use Rattle.std.proofs.Common.{◌≡◌, ℕ, subst, ◌*◌, ◌/◌, ◌^◌, ◌<◌, length, map, slice_index, sym, ap, ◌∙◌, ⊎_elim, arith, pow-suc, one-mul, ◌==◌, eq-eqb, ne_eqb}
-use Rattle.word_image.proofs.Common.{range_with_len, pow-zero, cases_eq, cases_lt, cond-true, cond-false, nat_tests, get_or_past, div_below, length-map-range_with_len, get_or-map-range_with_len, All-map, IsRule, IsShape, IsWord, shape_fault}
-use Rattle.tail_config.proofs.Common.{WindowMap}
+use Rattle.std.proofs.Common.{◌≡◌, ℕ, subst, ◌*◌, ◌/◌, ◌^◌, ◌<◌, ◌≤◌, List, length, take, map, slice_index, sym, ap, ◌∙◌, ⊎_elim, arith, pow-suc, one-mul, ◌==◌, eq-eqb, ne_eqb}
+use Rattle.word_image.proofs.Common.{range_with_len, pow-zero, cases_eq, cases_lt, cond-true, cond-false, nat_tests, get_or_past, div_below, length-map-range_with_len, get_or-map-range_with_len, All-map, IsRule, IsShape, IsWord, local_map, shape_fault, value, value-below, value-take, take-length}
+use Rattle.tail_config.proofs.Common.{WindowMap, map_letter}
 use Rattle.inverse_table.specs.InverseMaps.{map_rule}
 use Rattle.inverse_table.specs.MapLimits.{IsWindowMap, rule_limit_fault}
 
@@ -41,3 +41,13 @@ IsRule-map_rule {g} h shape =
 -- for states and a width that a map has, the first fault of a shape is the first limit that is broken
 pub shape_fault-limit : {g : WindowMap} → IsWindowMap g → shape_fault g.states (map_rule g).width g.offset ≡ rule_limit_fault (map_rule g)
 shape_fault-limit {g} h = grind (arith, nat_tests)
+
+-- the rule of a map gives, for a window, the letter that the map gives for the first cells of the window
+pub local_map-map_rule : (g : WindowMap) (w : List ℕ) → 1 ≤ g.width → IsWord g.states w → length w ≡ (map_rule g).width
+    → local_map (map_rule g) w ≡ map_letter g (take g.width w)
+local_map-map_rule g w some word long =
+    let k : ℕ = g.states in
+    ⊎_elim
+    (λ one. grind (arith, table_one, get_or-map-range_with_len, value-take, value-below, pow-suc, pow-zero, one-mul))
+    (λ more. grind (arith, cond-false, ne_eqb, take-length))
+    (cases_eq g.width 1)

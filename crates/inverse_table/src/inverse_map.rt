@@ -49,7 +49,7 @@ impl InverseMap {
     }
 
     /// Lends the map with its letters.
-    pub fn lent(&self) -> LentMap<'_>
+    pub fn as_lent(&self) -> LentMap<'_>
         ensures { result ≡ self.now }
     {
         LentMap::of(self.k, self.n, self.offset, &self.letters)
@@ -99,5 +99,5 @@ pub fn as_rule(map: &InverseMap) -> Result<Rule, RuleFault>
     ensures fault { result_err result ≡ rule_limit_fault (map_rule map.now) }
     ensures accepted { IsOk result ↔ IsRule (map_rule map.now) }
 {
-    map.lent().as_rule()
+    map.as_lent().as_rule()
 }

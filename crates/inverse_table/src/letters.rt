@@ -6,7 +6,7 @@ ghost use Rattle.inverse_table.specs.ImageValues.{AreUndetermined, AreReadBack, 
 
 use crate::cycles::next_number;
 
-/// The entry for an image whose letter hasn't been read yet.
+/// The entry for an image that none of the words read so far has.
 pub(crate) const UNREAD: u8 = 16;
 
 /// A place in words of the same length, which are given by their values.

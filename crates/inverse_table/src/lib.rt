@@ -10,7 +10,8 @@
 //!
 //! Rule 170 copies the right cell, so the window (1, 2) is determined: the image of abc is c. Its map is 0 1 with the
 //! offset -1: the image has each cell one place further to the left. Over the window (2, 2) the map is 0 0 1 1, which
-//! gives the first of two letters. The window (1, 0) isn't determined, since 000 and 100 have the image 0.
+//! gives the first of two letters. The window (1, 0) isn't determined, since 000 and 100 have the image 0. `ca inverse
+//! 170` prints this map.
 //!
 //! A map with n up to 5 is a rule of width n if it keeps the limits of a rule. A map with n = 1 becomes a rule of
 //! width 2 that ignores its second cell. For rule 170 this rule has the table 0 0 1 1.
@@ -30,8 +31,11 @@ mod letters;
 mod table_room;
 mod tables;
 
+// The programs of this repository use these.
 pub use image_values::MOST_IMAGES;
-pub use inverse_map::{InverseMap, as_rule};
 pub use lent_map::LentMap;
 pub use table_room::{NoMap, TableRoom};
+
+// For other programs in Rattle. No program of this repository uses these.
+pub use inverse_map::{InverseMap, as_rule};
 pub use tables::{InvFault, table};

@@ -8,7 +8,7 @@
 //!
 //! Rule 170 copies the right cell: the image of abc is c, so the window (1, 2) is determined. The windows (1, 0) and
 //! (1, 1) aren't, since 001 and 111 have the image 1. Rule 184 isn't injective: the rings 0011 and 0101 both become
-//! 1010, and no lesser words are twins.
+//! 1010, and no lesser words are twins. `ca decide 170` prints the window, and `ca decide 184` the twins.
 //!
 //! A node is a word of m - 1 letters, and there are N = k^(m - 1) nodes. The forward rank of two nodes is the greatest
 //! n for which two words with equal images of n letters begin with these nodes. The backward rank is the greatest n for
@@ -44,6 +44,10 @@ mod twin_pairs;
 mod verdicts;
 mod windows;
 
-pub use twin_pairs::{TwinPair, least_twins, twins};
+// The programs of this repository use these.
+pub use twin_pairs::least_twins;
 pub use verdicts::is_injective;
 pub use windows::{WindowAt, window};
+
+// For other programs in Rattle. No program of this repository uses these.
+pub use twin_pairs::{TwinPair, twins};

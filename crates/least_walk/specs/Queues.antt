@@ -21,7 +21,7 @@ MarkedStep r = CodeStep (marked r) r.states most_states
 abbrev pub step_count : LocalRule → ℕ
 step_count r = r.states * most_states
 
--- the greatest number of steps of a least walk, which visits no marked pair twice
+-- the greatest number of steps of a least walk, of which no two steps end at the same marked pair
 abbrev pub most_steps : ℕ
 most_steps = most_marked_pairs
 

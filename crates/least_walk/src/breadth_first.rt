@@ -4,7 +4,7 @@
 //! first node and an edge on b from the second, and the two edges have equal labels. The step sets the mark if a and b
 //! differ. The queue lists the marked pairs in the order in which the search reaches them.
 
-ghost use Rattle.std.specs.Prelude.{◌≡◌, ℕ, ◌+◌, ◌*◌, ◌<◌, length, IfSome, IfNone, IsBitSet, Some, slice_get};
+ghost use Rattle.std.specs.Prelude.{◌≡◌, ℕ, ◌+◌, ◌*◌, ◌<◌, ◌≤◌, length, IfSome, IfNone, IsBitSet, Some, slice_get};
 ghost use Rattle.word_image.specs.LocalRules.{IsRule, most_states};
 ghost use Rattle.word_image.specs.Graphs.{pair_count};
 ghost use Rattle.word_image.specs.MarkedPairs.{marked};
@@ -104,8 +104,11 @@ fn follow_steps(
         place: head,
         parts: from,
     };
+    let graph = pairs.graph();
+    let node = graph.next(from.first, 0);
+    let end = graph.next(from.second, 0);
     for a in 0..pairs.rule().k() {
-        let letters = rows.fresh(pairs, from, a);
+        let letters = rows.fresh(pairs, from, a, node + a, end);
         if letters != 0 {
             if let Some(step) = follow_letter(queue, rows, pairs, ends, at, a, letters) {
                 return Some(step);
@@ -138,8 +141,10 @@ fn follow_letter(
     ensures same { slice_get queue.new head.place ≡ slice_get queue.old head.place }
 {
     let from = queue.at(head.place);
-    for b in 0..pairs.rule().k() {
-        if let Some(q) = new_step(pairs, rows, head.parts, a, b, letters) {
+    let k = pairs.rule().k();
+    let mut b = next_letter(letters, 0);
+    while b < k {
+        if let Some(q) = new_step(pairs, rows, head.parts, a, b) {
             let step = 16 * a + b;
             if ends.goal == Some(q.pair) {
                 return Some(step);
@@ -153,34 +158,37 @@ fn follow_letter(
             };
             queue.push(reached);
         }
+        b = next_letter(letters, b + 1);
     }
     None
 }
 
+/// Returns the least letter of the set `letters` that is at least `from`, or 16 if there is no such letter.
+fn next_letter(letters: u16, from: u8) -> u8
+    requires { from ≤ most_states }
+    ensures least { from ≤ result }
+    ensures most { result ≤ most_states }
+    ensures none { (b : ℕ) → from ≤ b → b < result → ¬ IsBitSet letters b }
+{
+    let rest = u32::from(letters) >> from;
+    if rest == 0 {
+        return 16;
+    }
+    from + rest.trailing_zeros() as u8
+}
+
 /// Returns the marked pair to which the letters `a` and `b` lead from `from`, if the rows don't have it yet. Returns
-/// None if there is no such step, or if `b` isn't in the set `letters`. Letters outside this set lead to no new marked
-/// pair.
-fn new_step(
-    pairs: &Pairs,
-    rows: &Rows,
-    from: PairParts,
-    a: u8,
-    b: u8,
-    letters: u16,
-) -> Option<PairParts>
+/// None if there is no such step.
+fn new_step(pairs: &Pairs, rows: &Rows, from: PairParts, a: u8, b: u8) -> Option<PairParts>
     requires rule { IsRule pairs.now }
     requires from { IsMarkedPair pairs.now from }
     requires first { a < pairs.now.states }
     requires second { b < pairs.now.states }
-    requires old { (q : ℕ) → ¬ IsBitSet letters b → marked pairs.now from.pair a b ≡ Some q → HasPair pairs.now rows.now q }
     ensures marked { IfSome result (IsMarkedPair pairs.now) }
     ensures step { IfSome result (λ q. marked pairs.now from.pair a b ≡ Some q.pair) }
     ensures new { IfSome result (λ q. ¬ HasPair pairs.now rows.now q.pair) }
     ensures none { IfNone result ((q : ℕ) → marked pairs.now from.pair a b ≡ Some q → HasPair pairs.now rows.now q) }
 {
-    if letters >> b & 1 == 0 {
-        return None;
-    }
     let q = step_from(pairs, from, a, b)?;
     if rows.has(q) { None } else { Some(q) }
 }

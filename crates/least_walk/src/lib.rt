@@ -12,8 +12,9 @@
 //!
 //! Under rule 184 each 1 moves to the right if there is a 0. From the pair of the nodes 11 and 01 the letters (0, 0),
 //! (0, 1), (1, 0) and (1, 1) lead back to this pair, with the mark: the labels of both walks are 0, 1, 0 and 1. No
-//! lesser walk leads from this pair back to it with the mark. The walk spells the words 0011 and 0101, whose rings
-//! have the same image. On the way it visits the pair of the node 10 with itself.
+//! lesser walk leads from this pair back to it with the mark. The walk spells the words 0011 and 0101, whose rings have
+//! the same image. On the way it visits the pair of the node 10 with itself. The test `rules_have_these_least_walks` of
+//! worked_examples finds this walk.
 //!
 //! With pairs of letters in ascending order, a breadth-first search reaches each marked pair first by its least walk.
 //! So the first step that leads to the goal ends the least walk to the goal. A search without a goal finds the least

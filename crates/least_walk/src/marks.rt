@@ -6,7 +6,7 @@
 ghost use Rattle.std.specs.Prelude.{◌≡◌, ℕ, ◌+◌, ◌*◌, ◌<◌, ◌↔◌, IsTrue, IsBitSet, IfSome, Some};
 ghost use Rattle.std.specs.Option.{option_map};
 ghost use Rattle.word_image.specs.LocalRules.{LocalRule, IsRule, node_count, most_nodes};
-ghost use Rattle.word_image.specs.Graphs.{pair_count, pair_of};
+ghost use Rattle.word_image.specs.Graphs.{next, pair_count, pair_of};
 ghost use Rattle.word_image.specs.MarkedPairs.{marked};
 ghost use Rattle.least_walk.specs.Marks.{ArePartsOf, HasPair, IsAdded, IsMarkedPair};
 
@@ -60,19 +60,21 @@ impl Rows {
 
     /// Returns the second letters that can lead to a new marked pair. Bit b of the result stands for letter b. If bit b
     /// is 0, a step on `a` and b from the marked pair `from` leads only to a marked pair that is already in the rows.
-    pub fn fresh(&self, pairs: &Pairs, from: PairParts, a: u8) -> u16
+    /// The letter `a` leads from the first node of `from` to `node`, and the letter 0 from its second node to `end`.
+    pub fn fresh(&self, pairs: &Pairs, from: PairParts, a: u8, node: u8, end: u8) -> u16
         requires mark { from.mark < 2 }
         requires first { from.first < node_count pairs.now }
         requires second { from.second < node_count pairs.now }
         requires letter { a < pairs.now.states }
+        requires node { node ≡ next pairs.now from.first a }
+        requires end { end ≡ next pairs.now from.second 0 }
         requires rule { IsRule pairs.now }
         ensures { (t b q : ℕ) → ArePartsOf pairs.now from t → b < pairs.now.states → ¬ IsBitSet result b
             → marked pairs.now t a b ≡ Some q → HasPair pairs.now self.now q }
     {
         let graph = pairs.graph();
-        let node = usize::from(graph.next(from.first, a));
+        let node = usize::from(node);
         let ends = graph.ends(from.second, graph.label(from.first, a));
-        let end = graph.next(from.second, 0);
         let with_mark = (ends & !self.rows[MOST_NODES + node]) >> end;
         if from.mark == 1 {
             return with_mark;

@@ -14,7 +14,7 @@ use short_words::ShortWord;
 use std::alloc::{AllocError, Global};
 use std::marker::Model;
 
-/// The greatest number of steps of a least walk, which visits no marked pair twice.
+/// The greatest number of steps of a least walk. No two steps of it end at the same marked pair.
 pub const MOST_STEPS: usize = 512;
 
 /// Searches for least walks. Contracts say nothing about its contents, because no result depends on an earlier search.

@@ -11,14 +11,14 @@ ghost use Rattle.list_run.specs.Lists.{AreGiven, IsList, IsListSoFar};
 use crate::cut::Cut;
 use crate::lines::{first_line, last_line, set_table};
 use ca_io::{Failed, Sink, write_all};
-use rule_lists::{Asked, Letters, Property, Search, order_for};
+use rule_lists::{Asked, FixedLetters, ListedRules, Property, order_for};
 use rule_text::Beginning;
 use std::alloc::{AllocError, Global};
 use word_image::MOST_ENTRIES;
 
 /// Writes the list of all rules that have the property and the letters of the beginning: a line for each rule, and a
-/// line with the number of rules. Allocates the memory for the lines of rules before it writes anything. Only the last
-/// line needs more memory.
+/// line with the number of rules. Allocates the memory for the lines of rules before it writes anything, and allocates
+/// again only for the last line.
 pub fn write_list<T: Sink>(
     alloc: Global,
     property: Property,
@@ -36,7 +36,7 @@ pub fn write_list<T: Sink>(
     ensures kept { result ≢ Err Cut.Failed → T.faults sink.new ≡ T.faults sink.old }
     ensures telling { is_some (T.taken sink.new) ≡ is_some (T.taken sink.old) }
 {
-    let letters = given_letters(beginning);
+    let letters = fixed_letters(beginning);
     let order = order_for(alloc, property, &beginning.rule)?;
     let mut line = first_line(alloc, &beginning.rule)?;
     let count = write_rules(property, beginning, &letters, &order, &mut line, sink)?;
@@ -49,7 +49,7 @@ pub fn write_list<T: Sink>(
 fn write_rules<T: Sink>(
     property: Property,
     beginning: &Beginning,
-    letters: &Letters,
+    letters: &FixedLetters,
     order: &[u8],
     line: &mut [u8],
     sink: &mut T,
@@ -68,11 +68,11 @@ fn write_rules<T: Sink>(
     let asked = Asked {
         property,
         shape: &beginning.rule,
-        begin: letters,
+        fixed: letters,
         order,
     };
     let mut count = 0u64;
-    for rule in Search::new(asked) {
+    for rule in ListedRules::new(asked) {
         set_table(line, &beginning.rule, &rule);
         write_all(sink, line)?;
         count = count.saturating_add(1);
@@ -81,7 +81,7 @@ fn write_rules<T: Sink>(
 }
 
 /// Returns the letters of a beginning at their windows, and 255 at all other windows.
-fn given_letters(beginning: &Beginning) -> Letters
+fn fixed_letters(beginning: &Beginning) -> FixedLetters
     ensures letters { AreGiven beginning.now result }
     ensures rule { IsRule beginning.now.rule }
 {

@@ -85,13 +85,13 @@ fn asked(words: &[String]) -> Option<(Property, &[u8])>
         (λ asked. IsListing (map string_bytes words.now) asked.0 asked.1.now) }
 {
     match words {
-        [name, text] => Some((named(name)?, text.as_bytes())),
+        [name, text] => Some((property_of(name)?, text.as_bytes())),
         _ => None,
     }
 }
 
 /// Returns the property with this name, or None if no property has this name.
-fn named(name: &str) -> Option<Property>
+fn property_of(name: &str) -> Option<Property>
     ensures { MatchOption result
         ((property : Property) → ¬ (name_of property ≡ name.now))
         (λ property. name_of property ≡ name.now) }

@@ -11,16 +11,16 @@ use Rattle.orphan_search.specs.declared.search.Outcome.{Outcome}
 use Rattle.orphan_search.specs.declared.search.Outcome.TheVariants.{Closed, Orphan}
 
 -- what a search returns: a word, a list of sets and the covers of this list
-pub record Found : Type 0 where
+pub record Searched : Type 0 where
   pub word : List ℕ
   pub sets : List ℕ
   pub cover : List ℕ
 
 -- there are no results: all lists are empty
-abbrev pub IsNothing : Found → Type 0
+abbrev pub IsNothing : Searched → Type 0
 IsNothing found = (found.word ≡ []) × (found.sets ≡ []) × (found.cover ≡ [])
 
 -- the results are right. `Closed`: every word has a preimage, and the results are the family of the rule and its covers. `Orphan`: the result is the least orphan, which has at most 65,535 letters
-abbrev pub IsVerdict : LocalRule → Outcome → Found → Type 0
+abbrev pub IsVerdict : LocalRule → Outcome → Searched → Type 0
 IsVerdict r Closed found = IsSurjective r × IsFamily r found.sets × (found.word ≡ []) × (found.cover ≡ covers_of (full_set r) found.sets)
 IsVerdict r Orphan found = IsLeastOrphan r found.word × (length found.word ≤ 65535) × (found.sets ≡ []) × (found.cover ≡ [])

@@ -13,7 +13,9 @@
 //!
 //! If no set of the family is empty, a part of the family shows this too. The cover list has the set of all nodes
 //! first, and then each set of the family that contains no other set of the family. Rule 106 has a family of twelve
-//! sets and the cover list 15, 1, 2, 4, 8.
+//! sets and the cover list 15, 1, 2, 4, 8. The test `rule_106_reaches_twelve_sets_whatever_ran_before` of
+//! worked_examples runs this search, and the test `one_search_decides_rule_after_rule` of worked_examples finds the
+//! orphan 01010.
 //!
 //! If there are N = k^(m - 1) nodes, a family has at most 2^N sets. A run that finds s sets takes time **O(s k)**,
 //! and **O(N 2^N)** more for a cover list. Memory is allocated once.
@@ -21,4 +23,8 @@
 
 mod search;
 
-pub use search::{Outcome, Search};
+// The programs of this repository use these.
+pub use search::Search;
+
+// For other programs in Rattle. No program of this repository uses these.
+pub use search::Outcome;

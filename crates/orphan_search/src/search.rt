@@ -42,9 +42,9 @@ pub struct Search {
 impl Model for Search {
     ghost use Rattle.std.specs.Prelude.{◌≤◌, [], vec_capacity, if◌then◌else◌};
     ghost use Rattle.image_subsets.specs.declared.masks.TheConstants.{MOST_SETS};
-    ghost use Rattle.orphan_search.specs.Verdicts.{Found};
+    ghost use Rattle.orphan_search.specs.Verdicts.{Searched};
 
-    ghost Value = { Found };
+    ghost Value = { Searched };
 
     ghost view = { λ s. record { word = s.word.items; sets = if s.closed then s.family.sets else []; cover = s.cover.items } };
 
@@ -91,7 +91,7 @@ impl Search {
             write_cover(&self.family, &mut self.cover);
             return Outcome::Closed;
         }
-        write_word(&self.family, last, &mut self.word);
+        self.family.write_word(last, &mut self.word);
         Outcome::Orphan
     }
 
@@ -121,9 +121,7 @@ impl Search {
     }
 }
 
-ghost use Rattle.word_image.specs.LocalRules.{LocalRule};
-ghost use Rattle.word_image.specs.Families.{IsLeastWordOf, covers_of};
-ghost use Rattle.image_subsets.specs.FamilyTrees.{IsFamilyTree};
+ghost use Rattle.word_image.specs.Families.{covers_of};
 
 /// Writes the cover list of a family without an empty set. The cover list begins with the first set of the family,
 /// which has all nodes. Then come the other sets of the family that contain no other set of the family.
@@ -142,22 +140,4 @@ fn write_cover(family: &Family, cover: &mut Vec<u16>)
         }
         cover.push_reserved(family.set(place));
     }
-}
-
-/// Writes the least word whose set is at the place `at` of the family. Its letters are those of the steps by which the
-/// search came from the first set to this set.
-fn write_word(family: &Family, at: u32, word: &mut Vec<u8>)
-    requires set { at < length family.now.sets }
-    requires empty { word.old.items ≡ [] }
-    requires room { at ≤ vec_capacity word.old }
-    ensures least { (r : LocalRule) → IsFamilyTree r family.now → IsLeastWordOf r (slice_index family.now.sets at) word.new.items }
-    ensures short { length word.new.items ≤ at }
-    ensures capacity { vec_capacity word.new ≡ vec_capacity word.old }
-{
-    let mut place = at;
-    while let Some((parent, letter)) = family.parent(place) {
-        word.push_reserved(letter);
-        place = parent;
-    }
-    word.reverse();
 }

@@ -4,10 +4,10 @@
 //! u * N + v. A step follows two edges with equal labels, one from u on letter a and one from v on letter b, to the
 //! pair of the nodes where the edges end. So a walk of pairs spells two words with the same image.
 //!
-//! Under rule 110 the pair of the nodes 10 and 01 has the number 2 * 4 + 1 = 9. Its letters 1 and 0 follow the
-//! windows 101 and 010, which both give 1, to the nodes 01 and 10: `follow(9, 1, 0)` is `Some(6)`. Node 10 begins
-//! with 1 and node 01 with 0, so `back(6, 1, 0)` is `Some(9)`. The window 100 gives 0, so `follow(9, 0, 0)` is
-//! `None`.
+//! Under rule 110 the pair of the nodes 10 and 01 has the number 2 * 4 + 1 = 9. Its letters 1 and 0 follow the windows
+//! 101 and 010, which both give 1, to the nodes 01 and 10: `follow(9, 1, 0)` is `Some(6)`. Node 10 begins with 1 and
+//! node 01 with 0, so `back(6, 1, 0)` is `Some(9)`. The window 100 gives 0, so `follow(9, 0, 0)` is `None`. The tests
+//! `rule_110_has_these_steps` and `every_step_is_undone` of worked_examples take these steps.
 //!
 //! The marked graph has two copies of each of the N * N pairs, which are called marked pairs. Pair p has the number p
 //! without the mark, and p + N * N with the mark. A step sets the mark if its two letters differ, and no step removes
@@ -26,6 +26,9 @@ mod pair_set;
 mod pairs;
 mod plain;
 
+// The programs of this repository use these.
 pub use pair_set::PairSet;
 pub use pairs::Pairs;
+
+// For other programs in Rattle. No program of this repository uses these.
 pub use plain::{plain_backward, plain_forward};

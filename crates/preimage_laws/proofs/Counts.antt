@@ -11,7 +11,7 @@ use Rattle.preimage_laws.proofs.Separated.{IsOpen-separated}
 use Rattle.preimage_laws.proofs.Followed.{node_under, Through, AgreeAround, IsFollowed, IsFollowed-open, through_or_not}
 
 -- if runs differ the configurations do
-Differ-run : (x y : Config) (i : ℤ) (n : ℕ) → run x i n ≢ run y i n → Differ x y
+pub Differ-run : (x y : Config) (i : ℤ) (n : ℕ) → run x i n ≢ run y i n → Differ x y
 Differ-run x y i n other =
     let d : DifferAt (run x i n) (run y i n) = differ_at (run x i n) (run y i n) (length-run x i n ∙ sym (length-run y i n)) other in
     let within : d.place < n = omega (arith, d.within, length-run x i n) in

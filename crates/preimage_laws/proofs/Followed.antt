@@ -26,7 +26,7 @@ abbrev pub IsFollowed : LocalRule → Config → ℤ → ℕ → Type 0
 IsFollowed r y i n = (x : Config) → IsConfig r.states x → AgreeAround i n (image_of r x) y → Through r y i (node_under r x i)
 
 -- a preimage that agrees with x around place i has the node of x
-Through-between : {r : LocalRule} {x y : Config} {p q : ℤ} → Between r x y p q → (i : ℤ) → p <ℤ i → i ≤ℤ q → Through r y i (node_under r x i)
+pub Through-between : {r : LocalRule} {x y : Config} {p q : ℤ} → Between r x y p q → (i : ℤ) → p <ℤ i → i ≤ℤ q → Through r y i (node_under r x i)
 Through-between {r} {x} b i low high = (b.z, b.config, b.image, run-same b.z x _ _ (r.width - 1) (λ a l. b.inside _ (omega (arith, ints)) (omega (arith, ints))))
 
 -- under a rule that is closing on both sides as many places are enough for all configurations

@@ -4,6 +4,7 @@ use Rattle.std.specs.Prelude.{◌≡◌, ℕ, ◌-◌, ◌<◌, ℤ}
 use Rattle.word_image.specs.LocalRules.{LocalRule}
 use Rattle.tail_config.specs.Configs.{Config, IsConfig, run, image_of}
 use Rattle.config_laws.specs.Maps.{Differ}
+use Rattle.config_laws.specs.Periodic.{IsPeriodic}
 
 -- the configurations xs 0 to xs (n - 1) are the preimages of y, each listed once
 pub record ArePreimages (r : LocalRule) (y : Config) (n : ℕ) (xs : ℕ → Config) : Type 0 where
@@ -19,6 +20,10 @@ IsToOne r n = (y : Config) → IsConfig r.states y → (xs : ℕ → Config) × 
 -- the map is constant-to-one: all configurations have the same number of preimages
 abbrev pub IsConstantToOne : LocalRule → Type 0
 IsConstantToOne r = (n : ℕ) × IsToOne r n
+
+-- each periodic configuration has n preimages
+abbrev pub IsToOneOnPeriodic : LocalRule → ℕ → Type 0
+IsToOneOnPeriodic r n = (y : Config) → IsConfig r.states y → IsPeriodic y → (xs : ℕ → Config) × ArePreimages r y n xs
 
 -- different preimages of a configuration are separated: they differ within any m - 1 adjacent letters
 abbrev pub HasSeparatedPreimages : LocalRule → Type 0

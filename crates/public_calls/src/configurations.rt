@@ -121,7 +121,8 @@ pub fn tail_faults(place: usize) -> [TailFault; 6] {
     ]
 }
 
-/// Returns each kind of fault that the text of a configuration can have.
+/// Returns an example of each fault with which reading a configuration can fail: a fault of form at this place, this fault
+/// of the parts, and lack of memory.
 pub fn text_faults(place: usize, fault: TailFault) -> [TailTextFault; 3] {
     [
         TailTextFault::Form(place),

@@ -23,7 +23,7 @@ pub fn window(rule: &Rule, ranks: &Ranks) -> Option<(u16, u16)>
     }
 }
 
-/// Returns the least twins, or None if the rule is injective.
+/// Returns the least twins, two words whose rings have the same image, or None if the rule is injective.
 pub fn twins(
     alloc: Global,
     rule: &Rule,
@@ -90,8 +90,8 @@ pub fn ring(ring: &SmallRing) -> &[u8] {
     ring.letters()
 }
 
-/// Returns the least erasable pair, or None if the rule is surjective. An erasable pair is two words that can replace
-/// each other in any configuration without a change of the image.
+/// Returns the least erasable pair, or None if the rule is surjective. An erasable pair is two different words of the same
+/// length that can replace each other in any configuration without a change of the image.
 pub fn erasable(
     alloc: Global,
     rule: &Rule,

@@ -1,9 +1,10 @@
-//! Functions that call the public functions of `debruijn`, `image_subsets`, `orphan_search` and `image_minimal`.
+//! Functions that call the public functions of `debruijn`, `image_subsets`, `orphan_search`, `image_minimal` and
+//! `welch_index`.
 //!
 //! The family of a graph has the sets of nodes to which words lead from the set of all nodes. The cover list has the
 //! set of all nodes, and each set of the family that contains no other set of the family.
 
-ghost use Rattle.std.specs.Prelude.{◌<◌, ◌≡◌, Contains, length, IfOk};
+ghost use Rattle.std.specs.Prelude.{◌<◌, ◌≤◌, ◌≡◌, Contains, [], length, vec_capacity, IfOk};
 ghost use Rattle.word_image.specs.LocalRules.{node_count};
 
 use debruijn::Graph;
@@ -11,7 +12,8 @@ use image_minimal::{Minimal, SepFault};
 use image_subsets::Family;
 use orphan_search::{Outcome, Search};
 use std::alloc::{AllocError, Global};
-use word_image::{Rule, Word};
+use welch_index::{Degree, Fewest, degree_from_counts};
+use word_image::{Rule, Side, Word};
 
 /// Returns the de Bruijn graph of a rule twice, which shows that graphs can be copied.
 pub fn graph(rule: &Rule) -> (Graph, Graph) {
@@ -64,6 +66,15 @@ pub fn minimal(family: &Family, i: u32) -> bool
     family.minimal(i)
 }
 
+/// Writes the least word whose set is at place `i` of a family into an empty list.
+pub fn least_word(family: &Family, i: u32, word: &mut Vec<u8>)
+    requires set { i < length family.now.sets }
+    requires empty { word.old.items ≡ [] }
+    requires room { i ≤ vec_capacity word.old }
+{
+    family.write_word(i, word);
+}
+
 /// Searches for an orphan of a rule. Returns the search, and whether the rule is surjective.
 pub fn search(alloc: Global, rule: &Rule) -> Result<(Search, bool), AllocError> {
     let mut search = Search::new(alloc)?;
@@ -94,4 +105,18 @@ pub fn separate(alloc: Global, first: &Rule, second: &Rule) -> Result<Option<Wor
 /// Returns each kind of fault with which `separate` can fail.
 pub fn separation_faults() -> [SepFault; 2] {
     [SepFault::States, SepFault::Memory(AllocError)]
+}
+
+/// Searches for the fewest last nodes and the fewest first nodes that a word has under a rule. Returns the search, the
+/// length of the last word, and the degree of the rule with its multipliers, if the rule is surjective.
+pub fn degree(
+    alloc: Global,
+    rule: &Rule,
+) -> Result<(welch_index::Search, usize, Option<Degree>), AllocError> {
+    let mut search = welch_index::Search::new(alloc)?;
+    let right = search.run(rule, Side::Right);
+    let left: Fewest = search.run(rule, Side::Left);
+    let degree = degree_from_counts(rule, right.count, left.count);
+    let letters = search.word().len();
+    Ok((search, letters, degree))
 }

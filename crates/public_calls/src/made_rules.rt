@@ -2,6 +2,7 @@
 //! their faults.
 
 ghost use Rattle.std.specs.Prelude.{◌≤◌, ◌+◌, ◌-◌};
+ghost use Rattle.inverse_table.specs.MapLimits.{longest_window};
 
 use inverse_table::{InvFault, InverseMap};
 use inverse_window::WindowAt;
@@ -32,7 +33,7 @@ pub fn trim(rule: &Rule) -> Rule {
 /// Returns the inverse map of a rule over a window, or the reason why there is none.
 pub fn inverse(alloc: Global, rule: &Rule, at: WindowAt) -> Result<InverseMap, InvFault>
     requires some { 1 ≤ at.n }
-    requires most { at.n ≤ 480 }
+    requires most { at.n ≤ longest_window }
     requires inside { at.c ≤ at.n + rule.now.width - 2 }
 {
     inverse_table::table(alloc, rule, at)
@@ -75,7 +76,7 @@ pub fn faults() -> ([AlgebraFault; 5], [LiftFault; 3], ClassFault) {
     )
 }
 
-/// Returns each kind of fault of an inverse map that can't be computed.
+/// Returns an example of each fault with which `table` can refuse to compute an inverse map.
 pub fn map_faults(x: Word, y: Word) -> [InvFault; 3] {
     [
         InvFault::Wide,

@@ -25,9 +25,11 @@ pub fn rule(pairs: &Pairs) -> &Rule {
     pairs.rule()
 }
 
-/// Returns three pairs, each if it exists: the pair to which the letters a and b lead from pair p, the pair whose
-/// nodes begin with a and b and that leads to pair p, and the marked pair to which a and b lead from p in the marked
-/// graph.
+/// Returns three pairs, each if it exists:
+///
+/// 1. the pair to which the letters a and b lead from pair p
+/// 2. the pair that leads to pair p and whose nodes begin with the letters a and b
+/// 3. the marked pair to which the letters a and b lead from the marked pair p
 pub fn steps(pairs: &Pairs, p: u16, a: u8, b: u8) -> (Option<u16>, Option<u16>, Option<u16>)
     requires pair { p < pair_count pairs.now }
     requires first { a < pairs.now.states }

@@ -1,9 +1,9 @@
 //! The handle by which C holds a room: the memory that calls use again and again.
 //!
-//! A [`CallRoom`] is some 16 MB of memory for answers, for their text and for reports. It is Rattle's, and C can't hold
-//! it: C can hold a [`RoomHandle`], which has the layout of C and says whether there is a room. An *open* handle has a
-//! room, and a *closed* one has none. [`RoomHandle::take`] takes the room out of the handle, and [`RoomHandle::put`]
-//! puts it back. So a call over a room takes the room, uses it, and puts it back at the end.
+//! A [`CallRoom`] is some 17 MB of memory for answers, for their text, for reports and for degrees. It is Rattle's, and C
+//! can't hold it: C can hold a [`RoomHandle`], which has the layout of C and says whether there is a room. An *open*
+//! handle has a room, and a *closed* one has none. [`RoomHandle::take`] takes the room out of the handle, and
+//! [`RoomHandle::put`] puts it back. So a call over a room takes the room, uses it, and puts it back at the end.
 //!
 //! A handle has a pointer to its room, and the room is the handle's alone. Two structs with a pointer show this in two
 //! steps. `Held` is a box as its pointer. A `Hidden` is the same for a room, but its type doesn't say what the pointer

@@ -6,10 +6,11 @@
 //! image of the first rule's image. A widened rule has more cells on the right and ignores them. A trimmed rule has
 //! lost the cells at its ends that it ignores, down to a width of 2.
 //!
-//! The product of two cells has the table 0 0 0 1, and their sum modulo 2 has 0 1 1 0. The sum of products reads
-//! three cells: for the window 0 1 1 the products are 0 and 1, and their sum is 1. Its table is 0 0 0 1 0 0 1 0, and
-//! the product of sums has 0 0 1 0 0 1 0 0. Rule 170 copies the right one of three cells. Trimmed, it has the table 0
-//! 1 0 1 at offset 0, and copies the second of two cells.
+//! The product of two cells has the table 0 0 0 1, and their sum modulo 2 has 0 1 1 0. The sum of products reads three
+//! cells: for the window 0 1 1 the products are 0 and 1, and their sum is 1. Its table is 0 0 0 1 0 0 1 0, and the
+//! product of sums has 0 0 1 0 0 1 0 0. Rule 170 copies the right one of three cells. Trimmed, it has the table 0 1 0 1
+//! at offset 0, and copies the second of two cells. `ca compose 2:2:0:t0001 2:2:0:t0110`, `ca compose 2:2:0:t0110
+//! 2:2:0:t0001` and `ca trim 170` print these rules.
 //!
 //! No function makes a rule that would break a limit of accepted rules. A rule may have at most five cells and at most
 //! 16 words of m - 1 letters, and its window must be within 16 cells on both sides. Nothing here needs memory. A rule

@@ -8,10 +8,10 @@ ghost use Rattle.rule_algebra.specs.Tables.{AreOldLetters};
 use crate::fault::AlgebraFault;
 use word_image::{MOST_STATES, Rule, letter_of, value_by};
 
-/// Returns the rule g with new names for the letters. `colours` has the new name of each letter. If the given rule
-/// gives a letter for a window, g gives the new name of this letter for the renamed window. So the image of a renamed
-/// word under g is the renamed image of the word. The width and the offset stay the same. Returns `NotPermutation` if
-/// the colours aren't a permutation of the k letters.
+/// Returns this rule with its letters renamed. `colours` lists the new name of each letter. For a renamed window the new
+/// rule gives the new name of the letter that the given rule gives for the window. So under the new rule the image of a
+/// renamed word is the renamed image of the word. The width and the offset stay the same. Returns `NotPermutation` if the
+/// colours aren't a permutation of the k letters.
 pub fn permute(rule: &Rule, colours: &[u8]) -> Result<Rule, AlgebraFault>
     ensures accepted { IsOk result ↔ IsRecolouring rule.now.states colours.now }
     ensures refused { IfErr result (λ fault. fault ≡ AlgebraFault.NotPermutation) }

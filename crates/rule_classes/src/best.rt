@@ -11,7 +11,7 @@ use word_image::{MOST_ENTRIES, Rule};
 /// The least rule that the search has found so far.
 #[derive(Clone, Copy)]
 pub struct Best {
-    /// The colouring that makes the rule.
+    /// The colouring that turns the given rule into this one.
     pub colouring: Colouring,
     /// The letters of the table of the rule, followed by zeros.
     pub entries: [u8; MOST_ENTRIES],

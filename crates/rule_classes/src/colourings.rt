@@ -160,7 +160,7 @@ impl Colouring {
         }
     }
 
-    /// Returns the value in old names of a window. `window` is its value in new names. If the rule is mirrored, the
+    /// Gives the letters of a window their old names, and returns its value. `window` is its value in new names. If the rule is mirrored, the
     /// window is read from right to left.
     pub fn old_window(&self, rule: &Rule, window: u16) -> u8
         requires states { rule.now.states ≤ 6 }

@@ -7,7 +7,8 @@
 //! left are exchanged.
 //!
 //! The 256 rules of two states and width 3 form 88 classes. The class of rule 110 has four rules: rule 110, its
-//! mirrored rule 124, and the rules 137 and 193, which come from these two by an exchange of the letters.
+//! mirrored rule 124, and the rules 137 and 193, which come from these two by an exchange of the letters. `ca classes 2
+//! 3 0 256` counts the classes, and `ca least 193` prints rule 110 with the offset 0.
 //!
 //! The least rule is found by branch and bound. The letter for the greatest window counts most in a Wolfram number, so
 //! tables are compared from this window down. The search first chooses the letter of the greatest colour, then of the

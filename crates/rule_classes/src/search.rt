@@ -74,7 +74,7 @@ fn may_be_less(rule: &Rule, colouring: &Colouring, low: u8, high: u8, best: &Bes
     if high == rule.k() {
         return true;
     }
-    match told(rule, colouring, low, high, best, rule.nodes() - 1, high) {
+    match compare_row(rule, colouring, low, high, best, rule.nodes() - 1, high) {
         Some(less) => less,
         None => true,
     }
@@ -90,7 +90,7 @@ fn is_less(rule: &Rule, colouring: &Colouring, best: &Best) -> bool
     ensures no_less { IsFalse result → recoloured_number rule.now best.now.colouring ≤ recoloured_number rule.now colouring.now }
 {
     for node in (0..rule.nodes()).rev() {
-        if let Some(less) = told(rule, colouring, 0, 0, best, node, 0) {
+        if let Some(less) = compare_row(rule, colouring, 0, 0, best, node, 0) {
             return less;
         }
     }
@@ -101,7 +101,7 @@ fn is_less(rule: &Rule, colouring: &Colouring, best: &Best) -> bool
 /// of these windows goes from k - 1 down to `first`. At the first difference, returns whether the colouring may make
 /// the lesser rule. Returns None if there is no difference. If an entry has a free colour, its final colour isn't
 /// known, but it is at least the least free colour.
-fn told(
+fn compare_row(
     rule: &Rule,
     colouring: &Colouring,
     low: u8,

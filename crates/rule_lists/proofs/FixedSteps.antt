@@ -50,7 +50,7 @@ PairGoes-fixed side r s letters Set rule endless h (suc n) p has =
     (λ (q, step, more). PairGoes-push side h.rule p q n (suc n) (omega arith) (LeadsOn-fixed side r s letters rule h p q step) (PairGoes-fixed side r s letters Set rule endless h n q more))
     next
 
--- a pair of two different nodes that goes on for ever on both sides forbids injective rules
+-- a pair of two different nodes that goes on for ever on both sides rules out injective rules
 pub IsInjective-none : (r s : LocalRule) (letters : List ℕ) (p : ℕ) → IsCompletion r.states r.width letters s → first_of r p ≢ second_of r p
     → IsEndless (PairGoes Left s p) → IsEndless (PairGoes Right s p) → ¬ IsInjective s
 IsInjective-none r s letters p h different back on =

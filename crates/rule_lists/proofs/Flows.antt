@@ -6,7 +6,7 @@ use Rattle.ring_laws.proofs.FluxWindows.{FlowsAt-flux}
 use Rattle.ring_laws.proofs.FluxWalks.{walk_gains}
 use Rattle.ring_laws.proofs.LossyRings.{IsConserving-walk_gains}
 use Rattle.rule_lists.specs.Completions.{IsCompletion}
-use Rattle.rule_lists.specs.Bars.{Bars}
+use Rattle.rule_lists.specs.RuledOut.{RulesOut}
 use Rattle.rule_lists.specs.declared.properties.Property.TheVariants.{Conserving}
 use Rattle.rule_lists.specs.Forests.{AreLevels, AreKnown, GainsWith, IsMoved}
 use Rattle.rule_lists.proofs.Sure.{is_shaped, IsRule-shaped}
@@ -31,13 +31,13 @@ GainsWith-conserving r s letters trees levels w rule known h keep within one =
     omega (arith, ints)
 
 -- where the levels of a window's nodes ask for no letter that it may have, no rule with the fixed letters is conserving
-pub Bars-level : (r : LocalRule) (letters trees levels : List ℕ) (w first last begins least level : ℕ) → IsRule r → AreKnown r letters trees levels
+pub RulesOut-level : (r : LocalRule) (letters trees levels : List ℕ) (w first last begins least level : ℕ) → IsRule r → AreKnown r letters trees levels
     → w < r.states ^ r.width
     → first ≡ w / r.states → last ≡ w % node_count r → begins ≡ w / node_count r → slice_index trees first ≡ slice_index trees last
     → least ≡ slice_index levels last → level ≡ slice_index levels first + begins
     → ((a : ℕ) → a < r.states → (slice_index letters w < r.states → a ≡ slice_index letters w) → a + least ≢ level)
-    → Bars Conserving r.states r.width letters
-Bars-level r letters trees levels w first last begins least level rule known within ef el eb one is_least is_level apart s h keep =
+    → RulesOut Conserving r.states r.width letters
+RulesOut-level r letters trees levels w first last begins least level rule known within ef el eb one is_least is_level apart s h keep =
     let e = GainsWith-conserving r s letters trees levels w rule known h keep within (rw (ef, el) at one) in
     let size : s.states ^ s.width ≡ r.states ^ r.width = ap₂ (λ (x y : ℕ). x ^ y) h.states h.width in
     apart (slice_index s.table w) (omega (arith, h.rule.letters w 0 (omega (arith, h.rule.entries, size, within)), h.states)) (λ fixed. h.fixed w within fixed) (omega (arith, e, rw el at is_least, rw ef at is_level, eb))
@@ -58,7 +58,7 @@ AreLevels-joined n trees levels trees' levels' phi first last letter begins kept
     (λ a. let e = old x first hx hf (a.0 ∙ is_kept) in inl (a.1, omega (arith, ints, e, is_rise, a.2)))
     (λ more. ⊎_elim
     (λ a. let e = old x last hx hl (a.0 ∙ is_gone) in inl (a.1, omega (arith, ints, e, gains, is_other, a.2)))
-    (λ a. inr a)
+    (λ a. inr (a.0, a.2, a.3))
     more)
     (each x (omega arith)) in
     ⊎_elim

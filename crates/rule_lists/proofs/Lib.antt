@@ -1,6 +1,6 @@
 pub mod laws
 pub mod Sure
 pub mod FixedSteps
-pub mod Barred
-pub mod Rounded
+pub mod RuledOut
+pub mod FixedCycles
 pub mod Flows

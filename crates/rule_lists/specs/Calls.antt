@@ -14,13 +14,13 @@ IsAfter k order (Some r) q = rank k order r.table < rank k order q.table
 
 -- the list has all listed rules after the rule `last`, by ascending rank: each is the first listed rule after the rule before it, and no listed rule is left
 abbrev pub AreAll : Property → ℕ → ℕ → List ℕ → List ℕ → Option LocalRule → List LocalRule → Type 0
-AreAll property k m begin order last [] = NoneIs property k m begin (IsAfter k order last)
-AreAll property k m begin order last (r ∷ rs) = IsFirst property k m begin order (IsAfter k order last) r × AreAll property k m begin order (Some r) rs
+AreAll property k m fixed order last [] = NoneIs property k m fixed (IsAfter k order last)
+AreAll property k m fixed order last (r ∷ rs) = IsFirst property k m fixed order (IsAfter k order last) r × AreAll property k m fixed order (Some r) rs
 
 -- the list has the first listed rules after the rule `first`, by ascending rank and without gaps; `last` is the last rule of the list, or `first` if the list is empty
 abbrev pub AreSoFar : Property → ℕ → ℕ → List ℕ → List ℕ → Option LocalRule → List LocalRule → Option LocalRule → Type 0
-AreSoFar property k m begin order first [] last = first ≡ last
-AreSoFar property k m begin order first (r ∷ rs) last = IsFirst property k m begin order (IsAfter k order first) r × AreSoFar property k m begin order (Some r) rs last
+AreSoFar property k m fixed order first [] last = first ≡ last
+AreSoFar property k m fixed order first (r ∷ rs) last = IsFirst property k m fixed order (IsAfter k order first) r × AreSoFar property k m fixed order (Some r) rs last
 
 -- the rules of the list have ascending ranks, and the first of them comes after the rule `last`
 abbrev pub AreAscending : ℕ → List ℕ → Option LocalRule → List LocalRule → Type 0
@@ -28,6 +28,6 @@ AreAscending k order last [] = ⊤
 AreAscending k order last (r ∷ rs) = IsAfter k order last r × AreAscending k order (Some r) rs
 
 -- the list has exactly the listed rules, each once, by ascending rank
-pub record AreListed (property : Property) (k m : ℕ) (begin order : List ℕ) (rules : List LocalRule) : Type 0 where
-  pub every : (r : LocalRule) → Contains rules r ↔ IsListed property k m begin r
+pub record AreListed (property : Property) (k m : ℕ) (fixed order : List ℕ) (rules : List LocalRule) : Type 0 where
+  pub every : (r : LocalRule) → Contains rules r ↔ IsListed property k m fixed r
   pub ascending : AreAscending k order None rules

@@ -13,5 +13,5 @@ pub record IsCompletion (k m : ℕ) (letters : List ℕ) (s : LocalRule) : Type 
   pub fixed : HasLetters k (k ^ m) letters s.table
 
 -- no rule with the fixed letters is surjective
-abbrev pub IsLost : ℕ → ℕ → List ℕ → Type 0
-IsLost k m letters = (s : LocalRule) → IsCompletion k m letters s → ¬ IsSurjective s
+abbrev pub RulesOutSurjective : ℕ → ℕ → List ℕ → Type 0
+RulesOutSurjective k m letters = (s : LocalRule) → IsCompletion k m letters s → ¬ IsSurjective s

@@ -22,9 +22,9 @@ abbrev pub IsFixedWalk : Side → LocalRule → List ℕ → ℕ → ℕ → Typ
 IsFixedWalk side r letters p q = (s : LocalRule) → IsCompletion r.states r.width letters s → IsBefore side s p q
 
 -- in each rule that has the fixed letters, walks of every length with equal labels begin at the two nodes of the pair, and such walks end at them
-abbrev pub IsFixedRound : LocalRule → List ℕ → ℕ → Type 0
-IsFixedRound r letters p = (s : LocalRule) → IsCompletion r.states r.width letters s → (side : Side) → IsEndless (PairGoes side s p)
+abbrev pub IsFixedCycle : LocalRule → List ℕ → ℕ → Type 0
+IsFixedCycle r letters p = (s : LocalRule) → IsCompletion r.states r.width letters s → (side : Side) → IsEndless (PairGoes side s p)
 
 -- in each rule that has the fixed letters, the pair p comes after a first pair of this side
-abbrev pub IsFixedTail : Side → LocalRule → List ℕ → ℕ → Type 0
-IsFixedTail side r letters p = (s : LocalRule) → IsCompletion r.states r.width letters s → (q : ℕ) × IsFirstOf side s q × IsBefore side s q p
+abbrev pub ComesAfterFirst : Side → LocalRule → List ℕ → ℕ → Type 0
+ComesAfterFirst side r letters p = (s : LocalRule) → IsCompletion r.states r.width letters s → (q : ℕ) × IsFirstOf side s q × IsBefore side s q p

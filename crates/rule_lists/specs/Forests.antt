@@ -27,4 +27,4 @@ GainsWith r w letter phi = (pos letter -ℤ pos (w / node_count r)) ≡ slice_in
 -- joins the tree `gone` to the tree `kept`: a node with this tree and level gets a new tree and level; levels in `kept` rise by `rise`, levels in `gone` by `other`
 abbrev pub IsMoved : ℕ → ℕ → ℕ → ℕ → ℕ → ℕ → ℕ → ℕ → Type 0
 IsMoved kept rise gone other tree level tree' level' =
-    ((tree ≡ kept) × (tree' ≡ kept) × (level' ≡ level + rise)) ⊎ (((tree ≡ gone) × (tree' ≡ kept) × (level' ≡ level + other)) ⊎ ((tree ≢ kept) × (tree' ≡ tree) × (level' ≡ level)))
+    ((tree ≡ kept) × (tree' ≡ kept) × (level' ≡ level + rise)) ⊎ (((tree ≡ gone) × (tree' ≡ kept) × (level' ≡ level + other)) ⊎ ((tree ≢ kept) × (tree ≢ gone) × (tree' ≡ tree) × (level' ≡ level)))

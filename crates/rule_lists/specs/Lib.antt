@@ -7,7 +7,7 @@ pub mod Completions
 pub mod EndlessPairs
 pub mod Reached
 pub mod FixedWalks
-pub mod Bars
+pub mod RuledOut
 pub mod Calls
 pub mod Forests
 pub mod Searches

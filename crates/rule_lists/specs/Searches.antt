@@ -6,10 +6,10 @@ use Rattle.std.specs.Prelude.{◌≡◌, ℕ, ◌+◌, ◌-◌, ◌^◌, List, O
 use Rattle.word_image.specs.LocalRules.{LocalRule}
 use Rattle.rule_lists.specs.Ranks.{IsOrder, rank_of_first, rank}
 use Rattle.rule_lists.specs.Tables.{IsTable}
-use Rattle.rule_lists.specs.Listed.{IsFirst, NoneIs, Forbids}
+use Rattle.rule_lists.specs.Listed.{IsFirst, NoneIs, RulesOutStart}
 use Rattle.rule_lists.specs.Calls.{IsAfter}
 use Rattle.rule_lists.specs.declared.asked.Asked.{Asked}
-use Rattle.rule_lists.specs.declared.search.Search.{Search}
+use Rattle.rule_lists.specs.declared.search.ListedRules.{ListedRules}
 
 -- the number of windows of the shape, which is also the length of a table
 abbrev pub size_of : Asked → ℕ
@@ -28,15 +28,15 @@ abbrev pub rank_in : Asked → List ℕ → ℕ → ℕ
 rank_in a entries n = rank_of_first a.shape.now.states a.order.now entries n
 
 -- no rule of the shape has the property, the fixed letters, and these letters at the first n windows of the order
-abbrev pub AreForbidden : Asked → List ℕ → ℕ → Type 0
-AreForbidden a entries n = Forbids a.property a.shape.now.states a.shape.now.width a.begin.now a.order.now entries n
+abbrev pub IsStartRuledOut : Asked → List ℕ → ℕ → Type 0
+IsStartRuledOut a entries n = RulesOutStart a.property a.shape.now.states a.shape.now.width a.fixed.now a.order.now entries n
 
 -- `next` is the first listed rule for which `From` holds, or None if `From` holds for no listed rule
 abbrev pub IsFirstListed : Asked → (LocalRule → Type 0) → Option LocalRule → Type 0
 IsFirstListed a From next =
     MatchOption next
-    (NoneIs a.property a.shape.now.states a.shape.now.width a.begin.now From)
-    (IsFirst a.property a.shape.now.states a.shape.now.width a.begin.now a.order.now From)
+    (NoneIs a.property a.shape.now.states a.shape.now.width a.fixed.now From)
+    (IsFirst a.property a.shape.now.states a.shape.now.width a.fixed.now a.order.now From)
 
 -- `next` is the first listed rule after the rule `last`, or the first of all if `last` is None; `next` is None if no such rule exists
 abbrev pub IsNextListed : Asked → Option LocalRule → Option LocalRule → Type 0
@@ -48,16 +48,16 @@ pub record HasShape (a : Asked) (r : LocalRule) : Type 0 where
   pub width : r.width ≡ a.shape.now.width
 
 -- the search has this question and continues after the rule `last`; if `last` is None, it begins with the first listed rule
-abbrev pub IsBehind : Asked → Option LocalRule → Search → Type 0
+abbrev pub IsBehind : Asked → Option LocalRule → ListedRules → Type 0
 IsBehind a last s = (s.asked ≡ a) × (s.last ≡ last)
 
 -- the search can continue: its order has each window exactly once, and the rule after which it continues has the shape of the question
-pub record CanGoOn (s : Search) : Type 0 where
+pub record CanGoOn (s : ListedRules) : Type 0 where
   pub ordered : IsOrdered s.asked
   pub fits : IfSome s.last (HasShape s.asked)
 
 -- a call of the search s returned `next`, the next listed rule, and the search t continues after this rule; if no rule is left, `next` is None, and t continues where s does
-pub record GivesNext (s : Search) (next : Option LocalRule) (t : Search) : Type 0 where
+pub record GivesNext (s : ListedRules) (next : Option LocalRule) (t : ListedRules) : Type 0 where
   pub asked : t.asked ≡ s.asked
   pub listed : IsNextListed s.asked s.last next
   pub last : MatchOption next (t.last ≡ s.last) (λ r. t.last ≡ Some r)

@@ -1,5 +1,5 @@
 //! The question that a search of rules answers.
-use crate::letters::Letters;
+use crate::letters::FixedLetters;
 use crate::properties::Property;
 use word_image::Rule;
 
@@ -11,7 +11,7 @@ pub struct Asked<'a> {
     /// Any rule of the shape. Only its states and its width matter.
     pub shape: &'a Rule,
     /// The fixed letters. Each rule that answers the question has all of them.
-    pub begin: &'a Letters,
+    pub fixed: &'a FixedLetters,
     /// The windows in the order in which a search fills the table. The rank of a rule is the number whose digits are
     /// its letters in this order.
     pub order: &'a [u8],

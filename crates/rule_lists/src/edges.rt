@@ -97,7 +97,7 @@ impl Edges {
     }
 
     /// Removes the edge of this window with this label.
-    pub(crate) fn take(&mut self, window: u8, label: u8) {
+    pub(crate) fn remove(&mut self, window: u8, label: u8) {
         let node = usize::from(self.first_node(window) % 16);
         let end = bit(self.last_node(window));
         self.ends[usize::from(label % 16)][node] &= !end;

@@ -7,7 +7,7 @@ ghost use Rattle.std.specs.Prelude.{◌≡◌, ◌+◌, ◌*◌, ◌^◌, ◌<�
 ghost use Rattle.word_image.specs.LocalRules.{node_count, most_nodes, most_windows};
 ghost use Rattle.rule_lists.specs.Forests.{AreKnown, AreLevels, AreUpTo, GainsWith, IsMoved};
 
-use crate::letters::Letters;
+use crate::letters::FixedLetters;
 use word_image::{MOST_NODES, Rule, Side};
 
 /// Trees of nodes, with a level for each node. The levels of two nodes of the same tree have a known difference. The
@@ -25,7 +25,7 @@ pub(crate) struct Forest {
 const MOST_RISE: u32 = 1 << 20;
 
 /// Returns the forest of the fixed letters: each window with a fixed letter has joined the trees of its two nodes.
-pub(crate) fn forest_of(shape: &Rule, letters: &Letters) -> Forest
+pub(crate) fn forest_of(shape: &Rule, letters: &FixedLetters) -> Forest
     ensures known { AreKnown shape.now letters.now result.trees result.levels }
     ensures small { AreUpTo (most_windows * 1048576) result.levels }
 {
@@ -53,7 +53,7 @@ fn single_nodes() -> Forest
 
 /// Joins the trees of the two nodes of this window, if its letter is fixed, and returns the new forest. If its letter
 /// isn't fixed, returns the same forest.
-fn with_letter(shape: &Rule, letters: &Letters, window: u16, forest: &Forest) -> Forest
+fn with_letter(shape: &Rule, letters: &FixedLetters, window: u16, forest: &Forest) -> Forest
     requires window { window < shape.now.states ^ shape.now.width }
     requires known { AreKnown shape.now letters.now forest.now.trees forest.now.levels }
     requires small { AreUpTo (window * 1048576) forest.now.levels }

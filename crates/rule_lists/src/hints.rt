@@ -7,11 +7,11 @@ ghost use Rattle.std.specs.Prelude.{◌≤◌, length};
 ghost use Rattle.word_image.specs.LocalRules.{most_windows};
 
 use crate::asked::Asked;
-use crate::letters::Letters;
+use crate::cycles::Cycles;
+use crate::letters::FixedLetters;
 use crate::properties::Property;
 use crate::reach::{Links, Reach};
-use crate::rounds::Rounds;
-use crate::tables::Entries;
+use crate::tables::Table;
 use word_image::{MOST_ENTRIES, Rule, Side};
 
 /// Finds hints on one side. For each number of known letters it stores the pairs to which these letters lead. So it
@@ -23,16 +23,16 @@ pub(crate) struct Hint {
     /// The side of the hints. Edges are followed forward on the right side, and backward on the left.
     pub(crate) side: Side,
     /// The known letters, by the values of the windows, and 255 at all other windows.
-    letters: Letters,
+    letters: FixedLetters,
     /// The number of windows at the beginning of the order that have a known letter.
     placed: u16,
     /// Whether the fixed letters give a hint without any other letter.
     begun: bool,
     /// The pairs of nodes to which the known letters lead.
     reach: Reach,
-    /// The search for loops of pairs, with the loop that it found last.
-    rounds: Rounds,
-    /// The number of the pair in the last hint. This pair has two equal nodes or is on a loop.
+    /// The search for cycles of pairs, with the cycle that it found last.
+    cycles: Cycles,
+    /// The number of the pair in the last hint. This pair has two equal nodes or is on a cycle.
     pair: u8,
 }
 
@@ -47,16 +47,16 @@ impl Hint {
             placed: 0,
             begun: false,
             reach: Reach::of(side, shape),
-            rounds: Rounds::new(),
+            cycles: Cycles::new(),
             pair: 0,
         };
         for window in 0..shape.size() {
-            let letter = asked.begin[usize::from(window)];
+            let letter = asked.fixed[usize::from(window)];
             if letter < shape.k() && !hint.begun {
-                hint.begun = hint.set(window as u8, letter, true);
+                hint.begun = hint.add_letter(window as u8, letter, true);
             }
         }
-        hint.reach.settle(0);
+        hint.reach.mark_level(0);
         hint
     }
 
@@ -70,15 +70,15 @@ impl Hint {
         &self.reach.before
     }
 
-    /// Returns for each pair of the last loop the pair after it on the loop.
+    /// Returns for each pair of the last cycle the pair after it on the cycle.
     pub(crate) fn successors(&self) -> &Links {
-        &self.rounds.after
+        &self.cycles.after
     }
 
     /// Adds the letter at window n - 1 of the order. The letters at all windows before it must have been added earlier.
     /// Returns whether there is a hint that all these letters and the fixed letters rule out the property. If n is 0,
-    /// adds nothing and returns whether the fixed letters give a hint. Looks for loops only if `looking` is true.
-    fn see(&mut self, asked: &Asked, entries: &Entries, n: u16, looking: bool) -> bool
+    /// adds nothing and returns whether the fixed letters give a hint. Looks for cycles only if `looking` is true.
+    fn push(&mut self, asked: &Asked, entries: &Table, n: u16, looking: bool) -> bool
         requires within { n ≤ length asked.now.order.now }
         requires few { length asked.now.order.now ≤ most_windows }
     {
@@ -89,9 +89,9 @@ impl Hint {
         self.placed = n;
         self.reach.go_back(n - 1);
         let window = asked.order[usize::from(n - 1)];
-        let stood = asked.begin[usize::from(window)] < self.reach.edges.k();
-        let hint = !stood && self.set(window, entries[usize::from(window)], looking);
-        self.reach.settle(n);
+        let stood = asked.fixed[usize::from(window)] < self.reach.edges.k();
+        let hint = !stood && self.add_letter(window, entries[usize::from(window)], looking);
+        self.reach.mark_level(n);
         hint
     }
 
@@ -100,16 +100,16 @@ impl Hint {
         for place in usize::from(n)..usize::from(self.placed).min(asked.order.len()) {
             let window = asked.order[place];
             let letter = self.letters[usize::from(window)];
-            if asked.begin[usize::from(window)] >= self.reach.edges.k() {
+            if asked.fixed[usize::from(window)] >= self.reach.edges.k() {
                 self.letters[usize::from(window)] = u8::MAX;
-                self.reach.edges.take(window, letter);
+                self.reach.edges.remove(window, letter);
             }
         }
     }
 
-    /// Adds the letter at a window, and returns whether this gives a hint. Looks for a loop only if `looking` is
+    /// Adds the letter at a window, and returns whether this gives a hint. Looks for a cycle only if `looking` is
     /// true.
-    fn set(&mut self, window: u8, letter: u8, looking: bool) -> bool {
+    fn add_letter(&mut self, window: u8, letter: u8, looking: bool) -> bool {
         self.letters[usize::from(window)] = letter;
         if let Some(pair) = self.reach.add(&self.letters, window, letter) {
             self.pair = pair;
@@ -118,16 +118,16 @@ impl Hint {
         if !looking {
             return false;
         }
-        if let Some(pair) = self.round(window, letter) {
+        if let Some(pair) = self.find_cycle(window, letter) {
             self.pair = pair;
             return true;
         }
         false
     }
 
-    /// Returns the number of a pair on a loop that the last known letter closes. Returns None if the letter closes no
-    /// loop, or if a loop doesn't rule out the property. For example, no loop rules out that a rule is surjective.
-    fn round(&mut self, window: u8, letter: u8) -> Option<u8> {
+    /// Returns the number of a pair on a cycle that the last known letter closes. Returns None if the letter closes no
+    /// cycle, or if a cycle doesn't rule out the property. For example, no cycle rules out that a rule is surjective.
+    fn find_cycle(&mut self, window: u8, letter: u8) -> Option<u8> {
         let from = self.reach.edges.first_node(window);
         let nodes = match self.property {
             Property::Surjective => return None,
@@ -136,7 +136,7 @@ impl Hint {
         };
         let to = self.reach.edges.last_node(window);
         let ends = self.reach.edges.all_ends(letter, nodes);
-        self.rounds.find(&self.reach.edges, &self.letters, to, ends)
+        self.cycles.find(&self.reach.edges, &self.letters, to, ends)
     }
 }
 
@@ -148,8 +148,8 @@ pub struct Hints {
     first: Hint,
     /// The hints on the left side for open rules, and None for all other properties.
     second: Option<Hint>,
-    /// Whether `see` looked last at the hints in `second`, not in `first`.
-    turned: bool,
+    /// Whether `push` looked last at the hints in `second`, not in `first`.
+    second_was_last: bool,
 }
 
 impl Hints {
@@ -166,46 +166,46 @@ impl Hints {
         Hints {
             first: Hint::of(side, asked),
             second,
-            turned: false,
+            second_was_last: false,
         }
     }
 
     /// Adds the letters at the first n - 1 windows of the order, one after another. Skips letters that have been added
     /// before.
-    pub(crate) fn catch_up(&mut self, asked: &Asked, entries: &Entries, n: u16)
+    pub(crate) fn catch_up(&mut self, asked: &Asked, entries: &Table, n: u16)
         requires within { n ≤ length asked.now.order.now }
         requires few { length asked.now.order.now ≤ most_windows }
     {
         for place in self.first.placed.saturating_add(1).max(1)..n {
-            let _ = self.see(asked, entries, place, false);
+            let _ = self.push(asked, entries, place, false);
         }
     }
 
     /// Adds the letter at window n - 1 of the order. The letters at all windows before it must have been added earlier.
     /// Returns whether there is a hint that all these letters and the fixed letters rule out the property. Looks for
-    /// loops only if `looking` is true. Always returns true for conserving rules, since their test uses no hints.
-    pub(crate) fn see(&mut self, asked: &Asked, entries: &Entries, n: u16, looking: bool) -> bool
+    /// cycles only if `looking` is true. Always returns true for conserving rules, since their test uses no hints.
+    pub(crate) fn push(&mut self, asked: &Asked, entries: &Table, n: u16, looking: bool) -> bool
         requires within { n ≤ length asked.now.order.now }
         requires few { length asked.now.order.now ≤ most_windows }
     {
         if let Property::Conserving = self.first.property {
             return true;
         }
-        self.turned = false;
-        if self.first.see(asked, entries, n, looking) {
+        self.second_was_last = false;
+        if self.first.push(asked, entries, n, looking) {
             return true;
         }
         if let Some(second) = &mut self.second {
-            self.turned = true;
-            return second.see(asked, entries, n, looking);
+            self.second_was_last = true;
+            return second.push(asked, entries, n, looking);
         }
         false
     }
 
-    /// Returns the hints on the side where `see` looked last.
+    /// Returns the hints on the side where `push` looked last.
     pub(crate) fn last(&self) -> &Hint {
         match &self.second {
-            Some(second) if self.turned => second,
+            Some(second) if self.second_was_last => second,
             _ => &self.first,
         }
     }

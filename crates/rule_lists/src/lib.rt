@@ -2,12 +2,13 @@
 //!
 //! A shape consists of a number of states k and a width m. It has `k^(k^m)` tables, too many to test each: there are
 //! 7.6 million million tables of three states and width 3, and 1,800 of these rules are reversible. So a search fills
-//! tables letter by letter, with the windows in a given order. The letters so far are called known. If they rule out
-//! the property for all ways to fill in the rest, the search tries none of these tables.
+//! tables letter by letter, with the windows in a given order. The letters that it has placed, and those that are fixed
+//! in advance, are called known. If they rule out the property for all ways to fill in the rest, the search tries none
+//! of these tables.
 //!
 //! Some letters of the table can be fixed in advance. A rule is listed if it has the shape, the offset 0, the property
 //! and all fixed letters. The rank of a rule is the number whose digits are its letters in the order of the windows. A
-//! [`Search`] is an iterator: it returns the listed rule of least rank, then the next one, and so on. So it returns
+//! [`ListedRules`] is an iterator: it returns the listed rule of least rank, then the next one, and so on. So it returns
 //! each listed rule exactly once.
 //!
 //! If the windows are in the order 111, 110, .., 000, the rank is the Wolfram number. Then the search returns the
@@ -21,8 +22,8 @@
 //! - They lead from a pair of two equal nodes, first by two different letters, to a pair of two equal nodes. Then no
 //!   rule with these letters is surjective. For example, if the windows 000, 001, 010 and 100 all have the letter 0,
 //!   the words 00000 and 00100 have the same image.
-//! - They lead around a loop of pairs of different nodes. Then no rule with these letters is injective.
-//! - They lead from a pair of two equal nodes, first by two different letters, to such a loop. Then no rule with these
+//! - They lead around a cycle of pairs of different nodes. Then no rule with these letters is injective.
+//! - They lead from a pair of two equal nodes, first by two different letters, to such a cycle. Then no rule with these
 //!   letters is right-closing. If the edges are followed backward, no rule with these letters is left-closing.
 //!
 //! A hint is a walk of one of these three kinds. Unproved code finds hints quickly. It stores a hint as links: from
@@ -40,6 +41,7 @@
 mod asked;
 mod classes;
 mod cuts;
+mod cycles;
 mod edges;
 mod forests;
 mod hints;
@@ -47,7 +49,6 @@ mod letters;
 mod orders;
 mod properties;
 mod reach;
-mod rounds;
 mod search;
 mod sums;
 mod tables;
@@ -55,10 +56,10 @@ mod theorems;
 mod walks;
 
 pub use asked::Asked;
-pub use letters::Letters;
+pub use letters::FixedLetters;
 pub use orders::{is_order, order_for, write_order};
 pub use properties::{Property, has};
-pub use search::Search;
+pub use search::ListedRules;
 pub use theorems::{
     calls_list_each_rule_once, fixed_endless_first_pair_forbids_closing,
     fixed_endless_nodes_forbid_injective, fixed_erasable_pair_forbids_surjective,

@@ -6,7 +6,7 @@
 ghost use Rattle.std.specs.Prelude.{◌<◌};
 
 use crate::edges::{Edges, bit, first_node};
-use crate::letters::Letters;
+use crate::letters::FixedLetters;
 use word_image::{MOST_NODES, MOST_PAIRS, Rule, Side};
 
 /// For each pair of nodes, by its number, the number of another pair: the pair before it or after it on a walk.
@@ -51,7 +51,7 @@ impl Reach {
     }
 
     /// Stores how many pairs were found from the letters at the first n windows of the order.
-    pub(crate) fn settle(&mut self, n: u16)
+    pub(crate) fn mark_level(&mut self, n: u16)
         requires { n < 257 }
     {
         self.counts[usize::from(n)] = self.count;
@@ -71,14 +71,14 @@ impl Reach {
         self.count = kept;
     }
 
-    /// Returns the set that has this node and each node with which it forms a found pair.
+    /// Returns the set of the nodes v such that the pair of this node and v has been found, and of the node itself.
     pub(crate) fn partners(&self, node: u8) -> u16 {
         self.rows[usize::from(node % 16)] | bit(node)
     }
 
     /// Adds the edge of a window with this label, and the pairs to which the edge leads. Returns the number of a pair
     /// of two equal nodes if such a pair is reached, and None otherwise.
-    pub(crate) fn add(&mut self, letters: &Letters, window: u8, label: u8) -> Option<u8> {
+    pub(crate) fn add(&mut self, letters: &FixedLetters, window: u8, label: u8) -> Option<u8> {
         self.edges.add(window, label);
         self.looked = self.count;
         let (from, to) = (self.edges.first_node(window), self.edges.last_node(window));
@@ -100,7 +100,7 @@ impl Reach {
 
     /// Follows the steps from all found pairs whose steps haven't been followed, and adds the pairs that they reach.
     /// Returns the number of a pair of two equal nodes if such a pair is reached, and None otherwise.
-    fn spread(&mut self, letters: &Letters) -> Option<u8> {
+    fn spread(&mut self, letters: &FixedLetters) -> Option<u8> {
         for _ in 0..MOST_PAIRS {
             if self.looked == self.count {
                 break;
@@ -116,7 +116,7 @@ impl Reach {
 
     /// Follows the steps from a pair, and adds the pairs that they reach. Returns the number of a pair of two equal
     /// nodes if such a pair is reached, and None otherwise.
-    fn spread_from(&mut self, letters: &Letters, pair: (u8, u8)) -> Option<u8> {
+    fn spread_from(&mut self, letters: &FixedLetters, pair: (u8, u8)) -> Option<u8> {
         for letter in 0..self.edges.k() {
             let window = self.edges.window(pair.0, letter);
             let label = letters[usize::from(window)];

@@ -7,22 +7,22 @@ ghost use Rattle.std.specs.Prelude.{◌≡◌, ◌^◌, ◌<◌, ◌≤◌, ℕ,
 ghost use Rattle.word_image.specs.LocalRules.{IsShape, IsRule};
 ghost use Rattle.rule_lists.specs.Tables.{IsTable, IsPast};
 ghost use Rattle.rule_lists.specs.Listed.{IsFilled, IsOn};
-ghost use Rattle.rule_lists.specs.Searches.{AreEntries, AreForbidden, HasShape, IsFirstListed, IsNextListed, IsOrdered, size_of};
+ghost use Rattle.rule_lists.specs.Searches.{AreEntries, IsStartRuledOut, HasShape, IsFirstListed, IsNextListed, IsOrdered, size_of};
 
 use crate::asked::Asked;
-use crate::cuts::forbids;
+use crate::cuts::rules_out_start;
 use crate::hints::Hints;
 use crate::properties::has;
-use crate::tables::{Entries, advance, has_letters};
+use crate::tables::{Table, advance, has_letters};
 use word_image::{MOST_ENTRIES, Rule};
 
 /// An iterator that returns the listed rules one after another, by ascending rank. Needs no memory.
 ///
 /// A search fills a table letter by letter, in the order of the windows. If the letters so far rule out the property,
-/// it doesn't fill the rest and continues with the next letters. Hints only make it faster, since each hint is tested
-/// before the search gives up any letters. In the worst case it fills all `k^(k^m)` tables.
+/// it doesn't fill the rest and continues with the next letters. Hints only save time. A wrong hint loses no rule,
+/// since the search checks a hint before it skips tables because of it. In the worst case it fills all `k^(k^m)` tables.
 #[derive(Drop)]
-pub struct Search<'a> {
+pub struct ListedRules<'a> {
     /// The question that the search answers.
     asked: Asked<'a>,
     /// The hints from the letters of the last table. A hint shows that letters rule out the property.
@@ -31,16 +31,16 @@ pub struct Search<'a> {
     last: Option<Rule>,
 }
 
-impl<'a> Search<'a> {
+impl<'a> ListedRules<'a> {
     ghost use Rattle.rule_lists.specs.Searches.{IsBehind};
 
     /// Makes a search whose first rule is the listed rule of least rank.
-    pub fn new(asked: Asked<'a>) -> Search<'a>
+    pub fn new(asked: Asked<'a>) -> ListedRules<'a>
         requires { IsOrdered asked }
         ensures { IsBehind asked.entry None result }
     {
         let hints = Hints::of(&asked);
-        Search {
+        ListedRules {
             asked,
             hints,
             last: None,
@@ -49,13 +49,13 @@ impl<'a> Search<'a> {
 
     /// Makes a search that begins after this rule of the shape, which need not have the property. Every rule that the
     /// search returns has a greater rank.
-    pub fn resume_after(asked: Asked<'a>, rule: &Rule) -> Search<'a>
+    pub fn resume_after(asked: Asked<'a>, rule: &Rule) -> ListedRules<'a>
         requires order { IsOrdered asked }
         requires shape { HasShape asked rule.now }
         ensures { IsBehind asked.entry (Some rule.now) result }
     {
         let hints = Hints::of(&asked);
-        Search {
+        ListedRules {
             asked,
             hints,
             last: Some(*rule),
@@ -63,7 +63,7 @@ impl<'a> Search<'a> {
     }
 }
 
-impl<'a> Iterator for Search<'a> {
+impl<'a> Iterator for ListedRules<'a> {
     ghost use Rattle.std.specs.Iterator.{at_most};
     ghost use Rattle.rule_lists.specs.Searches.{CanGoOn, GivesNext, ranks_left};
 
@@ -119,7 +119,7 @@ fn rule_after(asked: &Asked, rule: &Rule, hints: &mut Hints) -> Option<Rule>
 }
 
 /// Returns the letters of a rule's table. The numbers after them don't matter.
-fn entries_of(rule: &Rule) -> Entries
+fn entries_of(rule: &Rule) -> Table
     ensures letters { (v : ℕ) → v < rule.now.states ^ rule.now.width → slice_index result v ≡ slice_index rule.now.table v }
     ensures table { IsTable rule.now.states (rule.now.states ^ rule.now.width) result }
 {
@@ -132,7 +132,7 @@ fn entries_of(rule: &Rule) -> Entries
 
 /// Returns the listed rule of least rank that doesn't come before `start`. The comparison with `start` only looks at
 /// the first n windows of the order, if `first` is n. Returns None if there is no such rule, or if `first` is None.
-fn rule_from(asked: &Asked, start: Entries, first: Option<u16>, hints: &mut Hints) -> Option<Rule>
+fn rule_from(asked: &Asked, start: Table, first: Option<u16>, hints: &mut Hints) -> Option<Rule>
     requires order { IsOrdered asked.now }
     requires table { AreEntries asked.now start }
     requires within { IfSome first (λ n. n ≤ size_of asked.now) }
@@ -151,17 +151,17 @@ fn rule_from(asked: &Asked, start: Entries, first: Option<u16>, hints: &mut Hint
 
 /// Returns the rule of the table if the letters at all windows are known and the rule is listed, and None otherwise.
 /// `n` is the number of windows whose letters are known.
-fn found(asked: &Asked, entries: &Entries, n: u16) -> Option<Rule>
+fn found(asked: &Asked, entries: &Table, n: u16) -> Option<Rule>
     requires order { IsOrdered asked.now }
     requires table { AreEntries asked.now entries.now }
     requires within { n ≤ size_of asked.now }
-    ensures some { IfSome result (IsFilled asked.now.property asked.now.shape.now.states asked.now.shape.now.width asked.now.begin.now entries.now n) }
-    ensures none { IsNone result → n ≡ size_of asked.now → AreForbidden asked.now entries.now n }
+    ensures some { IfSome result (IsFilled asked.now.property asked.now.shape.now.states asked.now.shape.now.width asked.now.fixed.now entries.now n) }
+    ensures none { IsNone result → n ≡ size_of asked.now → IsStartRuledOut asked.now entries.now n }
 {
     if n < asked.shape.size() {
         return None;
     }
-    if !has_letters(asked.shape.k(), asked.begin, entries, n) {
+    if !has_letters(asked.shape.k(), asked.fixed, entries, n) {
         return None;
     }
     let rule = filled(asked.shape.k(), asked.shape.m(), entries);
@@ -172,7 +172,7 @@ fn found(asked: &Asked, entries: &Entries, n: u16) -> Option<Rule>
 }
 
 /// Returns the rule with k states, width m, offset 0 and this table.
-fn filled(k: u8, m: u8, entries: &Entries) -> Rule
+fn filled(k: u8, m: u8, entries: &Table) -> Rule
     requires shape { IsShape k m (pos 0) }
     requires table { IsTable k (k ^ m) entries.now }
     ensures rule { (result.states ≡ k) × (result.width ≡ m) × (result.offset ≡ pos 0) }
@@ -186,17 +186,17 @@ fn filled(k: u8, m: u8, entries: &Entries) -> Rule
 /// the next window. But if the table is complete, or if its letters rule out the property, the step replaces the
 /// letters by the next ones. Returns the number of windows whose letters are known afterwards, or None if there are no
 /// next letters.
-fn step(asked: &Asked, entries: &mut Entries, n: u16, hints: &mut Hints) -> Option<u16>
+fn step(asked: &Asked, entries: &mut Table, n: u16, hints: &mut Hints) -> Option<u16>
     requires order { IsOrdered asked.now }
     requires table { AreEntries asked.now entries.old }
     requires within { n ≤ size_of asked.now }
-    requires full { n ≡ size_of asked.now → AreForbidden asked.now entries.old n }
-    ensures { IsOn asked.now.property asked.now.shape.now.states asked.now.shape.now.width asked.now.begin.now asked.now.order.now entries.old n entries.new result }
+    requires full { n ≡ size_of asked.now → IsStartRuledOut asked.now entries.old n }
+    ensures { IsOn asked.now.property asked.now.shape.now.states asked.now.shape.now.width asked.now.fixed.now asked.now.order.now entries.old n entries.new result }
 {
     if n == asked.shape.size() {
         return advance(asked, entries, n);
     }
-    if forbids(asked, entries, n, hints) {
+    if rules_out_start(asked, entries, n, hints) {
         return advance(asked, entries, n);
     }
     entries[usize::from(asked.order[usize::from(n)])] = 0;

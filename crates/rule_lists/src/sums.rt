@@ -4,17 +4,17 @@
 //! to trees. Each node has a level, and the levels of two nodes of a tree differ as their numbers do.
 ghost use Rattle.std.specs.Prelude.{◌≡◌, ◌≢◌, ◌+◌, ◌*◌, ◌^◌, ◌<◌, ◌≤◌, ℕ, IsTrue};
 ghost use Rattle.word_image.specs.LocalRules.{most_windows};
-ghost use Rattle.rule_lists.specs.Bars.{Bars};
+ghost use Rattle.rule_lists.specs.RuledOut.{RulesOut};
 ghost use Rattle.rule_lists.specs.Forests.{AreKnown, AreUpTo};
 ghost use Rattle.rule_lists.specs.declared.properties.Property.TheVariants.{Conserving};
 
 use crate::forests::{Forest, forest_of};
-use crate::letters::Letters;
+use crate::letters::FixedLetters;
 use word_image::{Rule, Side};
 
 /// Returns true only if no rule with the fixed letters is conserving. Here each letter weighs its own value.
-pub(crate) fn bars_conserving(shape: &Rule, letters: &Letters) -> bool
-    ensures { IsTrue result → Bars Conserving shape.now.states shape.now.width letters.now }
+pub(crate) fn rules_out_conserving(shape: &Rule, letters: &FixedLetters) -> bool
+    ensures { IsTrue result → RulesOut Conserving shape.now.states shape.now.width letters.now }
 {
     let forest = forest_of(shape, letters);
     for window in 0..shape.size() {
@@ -27,11 +27,11 @@ pub(crate) fn bars_conserving(shape: &Rule, letters: &Letters) -> bool
 
 /// Returns whether this window shows that no rule with the fixed letters is conserving. It does if its two nodes are in
 /// the same tree, and the letter that their levels demand isn't below k or isn't the fixed letter.
-fn has_no_letter(shape: &Rule, letters: &Letters, forest: &Forest, window: u16) -> bool
+fn has_no_letter(shape: &Rule, letters: &FixedLetters, forest: &Forest, window: u16) -> bool
     requires window { window < shape.now.states ^ shape.now.width }
     requires known { AreKnown shape.now letters.now forest.now.trees forest.now.levels }
     requires small { AreUpTo (most_windows * 1048576) forest.now.levels }
-    ensures { IsTrue result → Bars Conserving shape.now.states shape.now.width letters.now }
+    ensures { IsTrue result → RulesOut Conserving shape.now.states shape.now.width letters.now }
 {
     let first = usize::from(Side::Left.end_node(shape, window));
     let last = usize::from(Side::Right.end_node(shape, window));

@@ -5,19 +5,19 @@ ghost use Rattle.rule_lists.specs.Tables.{HasLetters, IsPast};
 ghost use Rattle.rule_lists.specs.Searches.{AreEntries, IsOrdered, rank_in, size_of};
 
 use crate::asked::Asked;
-use crate::letters::Letters;
+use crate::letters::FixedLetters;
 use word_image::MOST_ENTRIES;
 
 /// The letters of a table, at the values of the windows. Any numbers follow the letters.
-pub(crate) type Entries = [u8; MOST_ENTRIES];
+pub(crate) type Table = [u8; MOST_ENTRIES];
 
 /// Returns whether a table has all fixed letters at the windows below `size`.
-pub(crate) fn has_letters(k: u8, begin: &Letters, entries: &Entries, size: u16) -> bool
+pub(crate) fn has_letters(k: u8, fixed: &FixedLetters, entries: &Table, size: u16) -> bool
     requires { size ≤ most_windows }
-    ensures { IsTrue result ↔ HasLetters k size begin.now entries.now }
+    ensures { IsTrue result ↔ HasLetters k size fixed.now entries.now }
 {
     for window in 0..usize::from(size) {
-        if begin[window] < k && entries[window] != begin[window] {
+        if fixed[window] < k && entries[window] != fixed[window] {
             return false;
         }
     }
@@ -27,7 +27,7 @@ pub(crate) fn has_letters(k: u8, begin: &Letters, entries: &Entries, size: u16) 
 /// Replaces the letters at the first n windows of the order by the next letters. The last of these letters that can
 /// grow grows by 1, and the letters after it aren't known any longer. Returns the number of windows whose letters are
 /// known afterwards, which is at most n, or None if there are no next letters.
-pub(crate) fn advance(asked: &Asked, entries: &mut Entries, n: u16) -> Option<u16>
+pub(crate) fn advance(asked: &Asked, entries: &mut Table, n: u16) -> Option<u16>
     requires order { IsOrdered asked.now }
     requires table { AreEntries asked.now entries.old }
     requires within { n ≤ size_of asked.now }

@@ -31,17 +31,17 @@ pub fn one_rule_of_a_rank()
 /// Law: suppose that a search returns the listed rule of least rank, then the next one, and so on, until there is
 /// none. Then it returns exactly the listed rules, each once.
 pub fn calls_list_each_rule_once()
-    ensures { (property : Property) (k m : ℕ) (begin order : List ℕ) (rules : List LocalRule) → IsOrder (k ^ m) order → AreAll property k m begin order None rules → AreListed property k m begin order rules }
+    ensures { (property : Property) (k m : ℕ) (fixed order : List ℕ) (rules : List LocalRule) → IsOrder (k ^ m) order → AreAll property k m fixed order None rules → AreListed property k m fixed order rules }
 {}
 
 /// Law: suppose that no letter is fixed at a window. Then a rule is listed if and only if, for some letter a, it is
 /// listed after a has also been fixed at this window. Only one letter a is possible. So the lists for all letters a are
 /// parts of the whole list, and add up to it.
 pub fn parts_add_up()
-    ensures every { (property : Property) (k m : ℕ) (begin : List ℕ) (w : ℕ) (r : LocalRule) → w < k ^ m → w < length begin → k ≤ slice_index begin w
-        → IsListed property k m begin r ↔ ((a : ℕ) × (a < k) × IsListed property k m (slice_set begin w a) r) }
-    ensures once { (property : Property) (k m : ℕ) (begin : List ℕ) (w a b : ℕ) (r : LocalRule) → w < k ^ m → w < length begin → a < k → b < k
-        → IsListed property k m (slice_set begin w a) r → IsListed property k m (slice_set begin w b) r → a ≡ b }
+    ensures every { (property : Property) (k m : ℕ) (fixed : List ℕ) (w : ℕ) (r : LocalRule) → w < k ^ m → w < length fixed → k ≤ slice_index fixed w
+        → IsListed property k m fixed r ↔ ((a : ℕ) × (a < k) × IsListed property k m (slice_set fixed w a) r) }
+    ensures once { (property : Property) (k m : ℕ) (fixed : List ℕ) (w a b : ℕ) (r : LocalRule) → w < k ^ m → w < length fixed → a < k → b < k
+        → IsListed property k m (slice_set fixed w a) r → IsListed property k m (slice_set fixed w b) r → a ≡ b }
 {}
 
 /// Law: suppose that fixed letters lead from a pair of two equal nodes, first by two different letters, to a pair of

@@ -3,23 +3,23 @@
 ghost use Rattle.std.specs.Prelude.{◌≡◌, ◌<◌, ◌↔◌, IsTrue, slice_index};
 ghost use Rattle.word_image.specs.Graphs.{pair_count, first_of, second_of};
 ghost use Rattle.rule_lists.specs.EndlessPairs.{FixedLeadsOn, IsFixedStep};
-ghost use Rattle.rule_lists.specs.FixedWalks.{IsFixedRound, IsFixedTail};
+ghost use Rattle.rule_lists.specs.FixedWalks.{IsFixedCycle, ComesAfterFirst};
 
-use crate::letters::{Letters, are_one};
+use crate::letters::{FixedLetters, are_one};
 use crate::reach::Links;
 use word_image::{Rule, Side};
 
 /// Returns true only if the fixed letters lead to this pair from a node with itself, first to two different nodes.
 /// Follows the links `before` from the pair backward, and tests each step. If a link is wrong, the result may be false.
-pub(crate) fn is_tail(
+pub(crate) fn comes_after_first(
     side: Side,
     shape: &Rule,
-    letters: &Letters,
+    letters: &FixedLetters,
     before: &Links,
     pair: u16,
 ) -> bool
     requires { pair < pair_count shape.now }
-    ensures { IsTrue result → IsFixedTail side shape.now letters.now pair }
+    ensures { IsTrue result → ComesAfterFirst side shape.now letters.now pair }
 {
     let mut at = pair;
     for _ in 0..shape.pairs() {
@@ -35,17 +35,17 @@ pub(crate) fn is_tail(
     false
 }
 
-/// Returns true only if the fixed letters lead from this pair around a loop back to the pair. Follows the links
+/// Returns true only if the fixed letters lead from this pair around a cycle back to the pair. Follows the links
 /// `after`, and tests each step. If a link is wrong, the result may be false.
-pub(crate) fn is_round(
+pub(crate) fn is_cycle(
     side: Side,
     shape: &Rule,
-    letters: &Letters,
+    letters: &FixedLetters,
     after: &Links,
     pair: u16,
 ) -> bool
     requires { pair < pair_count shape.now }
-    ensures { IsTrue result → IsFixedRound shape.now letters.now pair }
+    ensures { IsTrue result → IsFixedCycle shape.now letters.now pair }
 {
     let mut at = pair;
     for _ in 0..shape.pairs() {
@@ -72,7 +72,7 @@ pub(crate) fn has_one_node(shape: &Rule, pair: u16) -> bool
 
 /// Returns whether fixed letters lead in one step from the pair `from` to the pair `to`. Steps go forward on the right
 /// side and backward on the left. Returns false if `from` or `to` isn't the number of a pair.
-fn leads_on(side: Side, shape: &Rule, letters: &Letters, from: u16, to: u16) -> bool
+fn leads_on(side: Side, shape: &Rule, letters: &FixedLetters, from: u16, to: u16) -> bool
     ensures from { IsTrue result → from < pair_count shape.now }
     ensures to { IsTrue result → to < pair_count shape.now }
     ensures leads { IsTrue result → FixedLeadsOn side shape.now letters.now from to }
@@ -91,7 +91,7 @@ fn leads_on(side: Side, shape: &Rule, letters: &Letters, from: u16, to: u16) -> 
 
 /// Returns whether a step forward leads from the pair `from` to the pair `to`, along two windows with equal fixed
 /// letters.
-fn is_step(shape: &Rule, letters: &Letters, from: u16, to: u16) -> bool
+fn is_step(shape: &Rule, letters: &FixedLetters, from: u16, to: u16) -> bool
     requires from { from < pair_count shape.now }
     requires to { to < pair_count shape.now }
     ensures { IsTrue result → IsFixedStep shape.now letters.now from to }

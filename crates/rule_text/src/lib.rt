@@ -10,7 +10,8 @@
 //!
 //! K, M and O are k, m and o in decimal, each with one or two digits. O may have a minus sign before them. The Wolfram
 //! number is a sum over all windows: the letter for the window times k to the power of the window's value. So `110`,
-//! `2:3:-1:w110` and `2:3:-1:t01110110` are texts of the same rule.
+//! `2:3:-1:w110` and `2:3:-1:t01110110` are texts of the same rule. `ca number 110`, `ca number 2:3:-1:w110` and `ca
+//! number 2:3:-1:t01110110` print the same number.
 //!
 //! A text is in the grammar if it has one of these forms. The part `K:M:O:` and `t` or `w` is called its head, and
 //! the digits after the head are its entries. The shape of a rule is its k, m and o together. A shape is accepted if

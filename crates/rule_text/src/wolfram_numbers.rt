@@ -26,8 +26,8 @@ pub fn check_shape(k: u8, m: u8, o: i8) -> Result<(), TextFault>
 }
 
 /// Returns the rule with k states, width m and offset o that has this Wolfram number. If there is none, returns the
-/// first fault: a fault of the shape, then `Kind` for 7 states or more, then `Number` if the number is at least
-/// `k^(k^m)`.
+/// first fault: a fault of the shape; then `Kind` if k is 7 or more, since such rules have no texts with a Wolfram number;
+/// then `Number` if the number is at least `k^(k^m)`.
 pub fn numbered(k: u8, m: u8, o: i8, number: u128) -> Result<Rule, TextFault>
     ensures { IsReading (by_number k m o number) result }
 {

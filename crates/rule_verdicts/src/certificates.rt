@@ -12,7 +12,7 @@ ghost use Rattle.certificate_laws.specs.LeastEvidence.{IsOrphanPart};
 ghost use Rattle.certificate_laws.specs.WrittenCertificates.{HasWrittenParts, orphan_of, IsListPart};
 ghost use Rattle.rule_verdicts.specs.Reports.{AreOver, injective_of, side_in, sum_of};
 
-use crate::report::{Injectivity, report_over};
+use crate::report::{Injectivity, report_of_pairs};
 use crate::report_room::ReportRoom;
 use cert_values::{Cert, CertVersion, InjectivePart, SidePart, SumPart, SurjectivePart};
 use closing_test::LentClosing;
@@ -46,7 +46,7 @@ pub fn certificate(
     have_eight_bits(weights.as_slice());
     let pairs = Pairs::of(rule);
     let ranks = Ranks::from_pairs(&pairs);
-    let report = report_over(room, &pairs, &ranks, weights);
+    let report = report_of_pairs(room, &pairs, &ranks, weights);
     let surjective = surjective_part(alloc, version, &pairs, &report.orphan)?;
     let injective = injective_part(alloc, &report.injective)?;
     let right = side_part(alloc, &report.right)?;

@@ -65,7 +65,7 @@ pub(crate) fn window_or_twins_over(
 }
 
 /// Turns a window, or twins as the error, into a part of a report, which lends the twins from `twins`.
-pub(crate) fn lent<'r>(
+pub(crate) fn injectivity_of<'r>(
     twins: &'r mut ShortPair,
     found: Result<WindowAt, ShortPair>,
 ) -> Injectivity<'r>

@@ -6,7 +6,7 @@ ghost use Rattle.cert_values.specs.Evidence.{says_open};
 ghost use Rattle.certificate_laws.specs.LeastEvidence.{IsLeastEvidence};
 ghost use Rattle.rule_verdicts.specs.Reports.{AreOver, evidence_of, side_in};
 
-use crate::parts::{first_orphan, lent, window_or_twins_over};
+use crate::parts::{first_orphan, injectivity_of, window_or_twins_over};
 use crate::report_room::ReportRoom;
 use closing_test::LentClosing;
 use flux_conserve::{Keeping, conserve};
@@ -67,11 +67,11 @@ pub fn least_report<'r>(room: &'r mut ReportRoom, rule: &Rule, weights: &Weights
 {
     let pairs = Pairs::of(rule);
     let ranks = Ranks::from_pairs(&pairs);
-    report_over(room, &pairs, &ranks, weights)
+    report_of_pairs(room, &pairs, &ranks, weights)
 }
 
 /// Finds the report of the rule with these pairs of nodes. `ranks` are the ranks of the pairs.
-pub(crate) fn report_over<'r>(
+pub(crate) fn report_of_pairs<'r>(
     room: &'r mut ReportRoom,
     pairs: &Pairs,
     ranks: &Ranks,
@@ -97,7 +97,7 @@ pub(crate) fn report_over<'r>(
         rule: *rule,
         weights: *weights,
         orphan: first_orphan(search, pairs.graph()),
-        injective: lent(twins, window_or_twins_over(pairs, ranks, walker)),
+        injective: injectivity_of(twins, window_or_twins_over(pairs, ranks, walker)),
         right: right.right(pairs, ranks, walker),
         left: left.left(pairs, ranks, walker),
         conserving: conserve(rule, weights),

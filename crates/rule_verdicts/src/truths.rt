@@ -40,7 +40,7 @@ impl Truths {
         if !has_mean(rule.k(), rule.table()) {
             return Truths::not_surjective(false);
         }
-        decided(rule, may_be_surjective(rule.k(), rule.table()))
+        verdicts_of(rule, may_be_surjective(rule.k(), rule.table()))
     }
 
     /// Returns the verdicts of the rule of k states, width m and offset 0 with this table. Needs no memory.
@@ -65,7 +65,7 @@ impl Truths {
         if !even && !keeps_ends(k, table) {
             return Truths::not_surjective(false);
         }
-        decided(&rule_of_table(k, m, table), even)
+        verdicts_of(&rule_of_table(k, m, table), even)
     }
 
     /// Returns the verdicts that `byte` turns into this byte.
@@ -136,7 +136,7 @@ fn may_be_surjective(k: u8, table: &[u8]) -> bool
 }
 
 /// Returns the verdicts of a rule. `may_be_surjective` is false only if the rule isn't surjective.
-fn decided(rule: &Rule, may_be_surjective: bool) -> Truths
+fn verdicts_of(rule: &Rule, may_be_surjective: bool) -> Truths
     requires { IsSurjective rule.now → IsTrue may_be_surjective }
     ensures { AreTruths rule.now result }
 {

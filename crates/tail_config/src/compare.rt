@@ -39,7 +39,7 @@ fn nearer(right: usize, left: usize) -> i64
     }
 }
 
-/// Returns whether two Tails have the same image under a rule. The rule and both Tails have the same number of
+/// Returns whether two Tails have the same image under a rule. The rule and both Tails must have the same number of
 /// letters.
 pub fn share(rule: &Rule, a: &Tail, b: &Tail) -> bool
     requires first { rule.now.states ≡ a.now.states }

@@ -129,8 +129,8 @@ impl Tail {
         }
     }
 
-    /// Returns the letter at the place `i` of the Tail's image under a rule. The rule and the Tail have the same number
-    /// of letters, and the absolute value of `i` is at most `2^61`.
+    /// Returns the letter at the place `i` of the Tail's image under a rule. The rule and the Tail must have the same
+    /// number of letters, and the absolute value of `i` must be at most `2^61`.
     pub fn image_cell(&self, rule: &Rule, i: i64) -> u8
         requires place { unsigned_abs i ≤ 2 ^ 61 }
         requires one_k { rule.now.states ≡ self.now.states }

@@ -19,8 +19,8 @@ use word_image::letter;
 /// The number of letters of three parts.
 const ROOM: usize = 3 * MOST_LETTERS;
 
-/// The parts of a configuration, which is rewritten in memory that is allocated once. In contracts it is the
-/// configuration with these parts.
+/// Memory, allocated once, for the parts of one configuration after another. In contracts a `TailRoom` is the
+/// configuration that it has now.
 #[derive(Debug, Drop)]
 pub struct TailRoom {
     // The letters of the left period, the middle and the right period, with capacity for three parts of 1,024 letters.

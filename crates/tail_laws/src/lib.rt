@@ -44,8 +44,8 @@ pub fn closing_has_no_split()
     ensures left { (r : LocalRule) → IsRule r → (IsLeftClosing r ↔ ((x y : TailConfig) → ¬ IsNormalRightSplit (mirrored r) x y)) }
 {}
 
-/// Law: the least normal left split is the mirror image of the least normal right split of the mirrored rule. It is a
-/// left split of the rule itself: two different configurations that share an image and agree on the right.
+/// Law: the least normal left split, which is defined as the mirror image of the least normal right split of the mirrored
+/// rule, is a left split of the rule itself: two different configurations that share an image and agree on the right.
 pub fn left_split_is_split()
     ensures { (r : LocalRule) (x y : TailConfig) → IsRule r → IsLeastLeftSplit r x y → IsLeftSplit r x y }
 {}

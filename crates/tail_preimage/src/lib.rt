@@ -26,9 +26,10 @@
 //!
 //! A *relation* between nodes says from which nodes to which nodes a walk along a word leads.
 //!
-//! Under rule 90, the sum of the two neighbours modulo 2, `-1 0|0|01` is mapped to `0|1|0`. Its cells are 0 up to
-//! place 0 and alternate after it, so the two neighbours differ only at place 0. Under rule 110 nothing is mapped to
-//! `0|101|0`: 01010 is an orphan, and neither 1010 nor 0101 is one.
+//! Under rule 90, the sum of the two neighbours modulo 2, `-1 0|0|01` is mapped to `0|1|0`. Its cells are 0 up to place
+//! 0 and alternate after it, so the two neighbours differ only at place 0. Under rule 110 nothing is mapped to
+//! `0|101|0`: 01010 is an orphan, and neither 1010 nor 0101 is one. `ca preimage 90 '0|1|0'` and `ca preimage 110
+//! '0|101|0'` print this.
 //!
 //! For N = k^(m - 1) nodes and parts of l letters a search takes time **O(N² l)**. It works in a [`PreimageRoom`], whose
 //! size doesn't depend on N and l.
@@ -43,5 +44,9 @@ mod shapes;
 mod walks;
 mod words;
 
-pub use answer::{LentPlaced, LentPre, Placed, Pre, preimage};
+// The programs of this repository use these.
+pub use answer::{LentPlaced, LentPre};
 pub use room::PreimageRoom;
+
+// For other programs in Rattle. No program of this repository uses these.
+pub use answer::{Placed, Pre, preimage};

@@ -116,8 +116,8 @@ impl WalkRoom {
         node
     }
 
-    /// Writes the letters of the first walk, in dictionary order, from `node` back to `node` whose labels spell n copies
-    /// of a part. The number n is at most 16, and there must be such a walk.
+    /// Of the walks from `node` back to `node` whose labels spell n copies of the word `part`, takes the first in dictionary
+    /// order, and writes its letters. The number n is at most 16, and there must be such a walk.
     pub fn first_loop(&mut self, graph: &Graph, part: &[u8], n: u8, node: u8, walk: &mut Vec<u8>)
         requires part { length part.now ≤ most_part }
         requires few { n ≤ most_nodes }

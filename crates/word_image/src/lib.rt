@@ -9,7 +9,8 @@
 //! 3.
 //!
 //! The image of a word consists of the letters that the rule gives for the word's windows, from left to right. Under
-//! rule 110 the image of 0 1 1 0 0 is 1 1 0. The image of 0 1 is empty. A word is a preimage of its image.
+//! rule 110 the image of 0 1 1 0 0 is 1 1 0. The image of 0 1 is empty. A word is a preimage of its image. The test
+//! `rule_110_has_these_images` of worked_examples computes these images.
 //!
 //! A ring is a word that is read in a circle, so its first letter follows its last one. The image of a ring is a ring
 //! of the same length. Under rule 110 the image of the ring 0 0 1 is the ring 0 1 1.
@@ -43,15 +44,19 @@ mod side;
 mod values;
 mod weights;
 
+// The programs of this repository use these.
 pub use edges::{EdgeRows, edge_rows, step, union_of_rows};
-pub use images::{ImageFault, image};
 pub use letters::{digit, letter, text_word, word_text};
 pub use lists::{FluxRow, RankRow, SetList, Word};
 pub use local_rule::{
     GREATEST_PLACE, LEAST_PLACE, MOST_ENTRIES, MOST_NODES, MOST_PAIRS, MOST_STATES, MOST_WIDTH,
     Rule, RuleFault, check_shape, first_foreign,
 };
-pub use rings::{RingFault, first_place, keeps_sum, ring_apply, ring_image};
+pub use rings::{first_place, keeps_sum, ring_apply};
 pub use side::Side;
 pub use values::{letter_of, value_by};
 pub use weights::{WeightFault, Weights};
+
+// For other programs in Rattle. No program of this repository uses these.
+pub use images::{ImageFault, image};
+pub use rings::{RingFault, ring_image};

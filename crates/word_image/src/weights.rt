@@ -105,6 +105,7 @@ impl Weights {
     /// Returns the weights, beginning with the weight of letter 0.
     pub fn as_slice(&self) -> &[u8]
         ensures weights { result.now ≡ self.now }
+        ensures most { length result.now ≤ most_states }
     {
         &self.numbers[..usize::from(self.k)]
     }

@@ -5,7 +5,7 @@ use Rattle.ring_laws.proofs.SameWeights.{AgreeOn-own, IsConserving-own, IsFlux-a
 use Rattle.cert_values.specs.declared.cert_version.CertVersion.{CertVersion}
 use Rattle.cert_values.proofs.Common.{SumEvidence, Flux, Ring}
 use Rattle.certificate_laws.specs.LeastEvidence.{Evidence, IsConservingPart, IsLeastEvidence}
-use Rattle.ca_questions.proofs.Common.{Question, Finding, Unfit, IsFinding, IsUnfitFor, AreFor, weight_by, weights_by}
+use Rattle.ca_questions.proofs.Common.{Question, Finding, Cause, IsFinding, IsCauseFor, AreFor, weight_by, weights_by}
 
 -- evidence by own weights is evidence by the letters as weights
 IsConservingPart-own : {r : LocalRule} → IsRule r → (e : SumEvidence) → IsConservingPart (slice_index (own_weights r.states)) r e
@@ -34,12 +34,12 @@ IsFinding-by {r} {e} named rule are weights same least =
     IsFinding.Report r named e are (weights ∙ same) (IsLeastEvidence-by named rule (rw same at least))
 
 -- no report fits weights that aren't one for each letter
-pub unfit-report : {r : LocalRule} (named : Option (List ℕ)) → ¬ AreFor named r → IsUnfitFor (Question.Report r named) Unfit.Weights
-unfit-report None other = absurd (other tt)
-unfit-report {r} (Some weights) other = IsUnfitFor.Report r weights other
+pub cause-report : {r : LocalRule} (named : Option (List ℕ)) → ¬ AreFor named r → IsCauseFor (Question.Report r named) Cause.Weights
+cause-report None other = absurd (other tt)
+cause-report {r} (Some weights) other = IsCauseFor.Report r weights other
 
 -- no certificate fits weights that aren't one for each letter
-pub unfit-certificate : {v : CertVersion} {r : LocalRule} (named : Option (List ℕ)) → ¬ AreFor named r
-    → IsUnfitFor (Question.Certify v r named) Unfit.Weights
-unfit-certificate None other = absurd (other tt)
-unfit-certificate {v} {r} (Some weights) other = IsUnfitFor.Written v r weights other
+pub cause-certificate : {v : CertVersion} {r : LocalRule} (named : Option (List ℕ)) → ¬ AreFor named r
+    → IsCauseFor (Question.Certify v r named) Cause.Weights
+cause-certificate None other = absurd (other tt)
+cause-certificate {v} {r} (Some weights) other = IsCauseFor.Written v r weights other

@@ -18,7 +18,7 @@ HaveFewClasses = (r : LocalRule) (m : Automaton) → IsRule r → IsLeastAutomat
 
 -- a right finding has a text that fits the room, or the question may need memory
 found_fits : {q : Question} {f : Finding} → HaveFewClasses → IsOfMany q ⊎ AreRules q → IsFinding q f → AnswerNeedsMemory q ⊎ FitsRoom (Reply.Found f)
-found_fits few are (IsFinding.Written _ _ _ _ _ _) = inl tt
+found_fits few are (IsFinding.Written _ _ _ _ each _) = inl each
 found_fits few (inl many) (IsFinding.Language r m least) = absurd many
 found_fits few (inr rule) (IsFinding.Language r m least) = inr (few r m rule least)
 found_fits few are (IsFinding.Classes _ _ _ _ _) = inl tt
@@ -31,7 +31,7 @@ pub IsReplyTo-fits : {words : List (List ℕ)} {input : Option (List ℕ)} {repl
     → NeedMemory words ⊎ FitsRoom reply
 IsReplyTo-fits few (IsReplyTo.Usage none) = inr tt
 IsReplyTo-fits few (IsReplyTo.Right c reply is (IsReply.Found _ q f asked right)) = elim (found_fits few (AreRules-asked asked.texts asked.asks) right) [ inl needs ↦ inl (inr (q, record { command = c; is = is; asked = asked }, needs)) | inr fits ↦ inr fits ]
-IsReplyTo-fits few (IsReplyTo.Right c reply is (IsReply.NoFit _ q u asked unfits)) = inr tt
+IsReplyTo-fits few (IsReplyTo.Right c reply is (IsReply.NotFit _ q u asked unfits)) = inr tt
 IsReplyTo-fits few (IsReplyTo.Right c reply is (IsReply.RuleFault _ i f fault)) = inr tt
 IsReplyTo-fits few (IsReplyTo.Right c reply is (IsReply.Accepted _ bytes v check whole accepted true)) = inl (inl (c, is, check))
 IsReplyTo-fits few (IsReplyTo.Right c reply is (IsReply.Refused _ bytes f check whole refused)) = inl (inl (c, is, check))

@@ -4,8 +4,8 @@ use Rattle.std.specs.Prelude.{⊤}
 use Rattle.word_image.proofs.Common.{LocalRule, IsRule}
 use Rattle.rule_text.proofs.laws.AcceptedRules.{IsRule-text}
 use Rattle.ca_commands.specs.declared.names.Name.{Name}
-use Rattle.ca_questions.proofs.Common.{Question, AreRules, Finding, Unfit, IsFinding, IsUnfitFor, Reply}
-use Rattle.ca_questions.specs.Writable.{IsWritable, IsWritableUnfit, IsWritableReply}
+use Rattle.ca_questions.proofs.Common.{Question, AreRules, Finding, Cause, IsFinding, IsCauseFor, Reply}
+use Rattle.ca_questions.specs.Writable.{IsWritable, IsWritableCause, IsWritableReply}
 use Rattle.ca_commands.specs.Commands.{Command}
 use Rattle.ca_commands.specs.Asked.{AreRuleTexts, Asks}
 use Rattle.ca_cli.specs.RightAnswers.{IsReply, IsReplyTo}
@@ -41,18 +41,18 @@ found_of_many many (IsFinding.Classes rules leasts counts are least) = tt
 found_of_many many _ = absurd many
 
 -- a question of many rules has no cause for which nothing fits
-unfit_of_many : {q : Question} {u : Unfit} → IsOfMany q → IsUnfitFor q u → ⊥
-unfit_of_many many (IsUnfitFor.States r s apart) = many
-unfit_of_many many _ = many
+cause_of_many : {q : Question} {u : Cause} → IsOfMany q → IsCauseFor q u → ⊥
+cause_of_many many (IsCauseFor.States r s apart) = many
+cause_of_many many _ = many
 
 -- right findings of accepted rules can be written, and right causes
 abbrev pub AreWritable : Type 0
-AreWritable = ((q : Question) (f : Finding) → AreRules q → IsFinding q f → IsWritable f) × ((q : Question) (u : Unfit) → AreRules q → IsUnfitFor q u → IsWritableUnfit u)
+AreWritable = ((q : Question) (f : Finding) → AreRules q → IsFinding q f → IsWritable f) × ((q : Question) (u : Cause) → AreRules q → IsCauseFor q u → IsWritableCause u)
 
 -- a right reply to a command can be written
 reply_writable : {input : Option (List ℕ)} {c : Command} {reply : Reply} → AreWritable → IsReply input c reply → IsWritableReply reply
 reply_writable law (IsReply.Found c q f asked right) = elim (AreRules-asked asked.texts asked.asks) [ inl many ↦ found_of_many many right | inr are ↦ law.0 q f are right ]
-reply_writable law (IsReply.NoFit c q u asked unfits) = elim (AreRules-asked asked.texts asked.asks) [ inl many ↦ absurd (unfit_of_many many unfits) | inr are ↦ law.1 q u are unfits ]
+reply_writable law (IsReply.NotFit c q u asked unfits) = elim (AreRules-asked asked.texts asked.asks) [ inl many ↦ absurd (cause_of_many many unfits) | inr are ↦ law.1 q u are unfits ]
 reply_writable law _ = tt
 
 -- a right reply to words can be written

@@ -6,13 +6,13 @@ use Rattle.serde_json.specs.View.{items_of}
 use Rattle.serde_json.specs.Written.{has_float, items_have_float, members_have_float}
 use Rattle.image_minimal.specs.ImageLanguages.{Automaton}
 use Rattle.cert_values.proofs.Common.{InjectiveEvidence, SideEvidence, SumEvidence, Window, Twins, Ahead, Split, Flux, Ring, array_from, whole_value, signed_value, claim_value}
-use Rattle.cert_format.proofs.laws.PlainValues.{IsPlain-certificate}
+use Rattle.cert_writing.proofs.laws.PlainValues.{IsPlain-certificate}
 use Rattle.certificate_laws.specs.LeastEvidence.{Evidence}
 use Rattle.rule_text.specs.PrintedRules.{number_found}
-use Rattle.ca_questions.proofs.Common.{Finding, Unfit, Reply}
+use Rattle.ca_questions.proofs.Common.{Finding, Cause, Reply}
 use Rattle.ca_json.specs.Values.{members_of, numbers_json, number_or_null, word_or_null, surjective_json, injective_json, side_json, conserving_json}
 use Rattle.ca_json.specs.Findings.{rule_or_null, pair_or_null, report_json, row_json, automaton_json, finding_json}
-use Rattle.ca_json.specs.Causes.{unfit_json, operand_json, named, places_json, parts_json}
+use Rattle.ca_json.specs.Causes.{cause_json, operand_json, named, places_json, parts_json}
 use Rattle.rule_text.specs.FaultTexts.{fault_name, fault_place}
 use Rattle.cert_conditions.specs.declared.refusal_parts.RefusalNumbers.{RefusalNumbers}
 use Rattle.cert_conditions.specs.declared.refusal_parts.RefusalNumbers.TheVariants as numbers
@@ -106,9 +106,9 @@ NoFloat-finding _ = refl
 -- Of causes
 
 -- the JSON of why nothing fits has no float
-NoFloat-unfit : (u : Unfit) → NoFloat (unfit_json u)
-NoFloat-unfit (Unfit.Twins x y) = refl
-NoFloat-unfit _ = refl
+NoFloat-cause : (u : Cause) → NoFloat (cause_json u)
+NoFloat-cause (Cause.Twins x y) = refl
+NoFloat-cause _ = refl
 
 -- the numbers of a refusal have no float
 NoFloat-places : (ns : RefusalNumbers) → NoFloat (places_json ns)
@@ -130,7 +130,7 @@ NoFloat-parts p =
 -- the JSON of a reply has no float
 pub NoFloat-reply : (reply : Reply) → NoFloat (json_of reply)
 NoFloat-reply (Reply.Found f) = rw (NoFloat-finding f)
-NoFloat-reply (Reply.NoFit u) = rw (NoFloat-unfit u)
+NoFloat-reply (Reply.NotFit u) = rw (NoFloat-cause u)
 NoFloat-reply (Reply.RuleFault operand f) = NoFloat-option (operand_json operand (fault_name f)) refl (λ place. refl) (fault_place f)
 NoFloat-reply (Reply.Accepted v) = rw (NoFloat-numbers v.weights)
 NoFloat-reply (Reply.Refused f) = NoFloat-parts (parts_of f)

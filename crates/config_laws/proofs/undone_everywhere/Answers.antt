@@ -1,4 +1,4 @@
-use Rattle.config_laws.proofs.Composed.{IsUndoneBy-turned, IsInjective-undone}
+use Rattle.config_laws.proofs.Composed.{IsUndoneBy-turned, IsInjective-undone, IsUndoneBy-words}
 use Rattle.config_laws.proofs.RingImages.{ring_image-undone, IsConserving-undone}
 use Rattle.config_laws.proofs.undone_everywhere.Goals as goal
 
@@ -13,3 +13,6 @@ returns-clause-conserving c weight r s first second u = (IsConserving-undone sec
 
 pub returns-clause-rings : goal.returns-clause-rings
 returns-clause-rings c r s p u ring = ring_image-undone u p ring
+
+pub returns-clause-words : goal.returns-clause-words
+returns-clause-words c r s first second others words = IsUndoneBy-words first second others words

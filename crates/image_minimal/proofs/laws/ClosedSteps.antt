@@ -1,5 +1,5 @@
 -- Steps of closures: from the set of all nodes a word leads to the closure of its last nodes, and to no other set.
-use Rattle.image_minimal.proofs.Common.{◌≡◌, ℕ, List, [], ◌∷◌, slice_index, refl, sym, subst, arith, LocalRule, IsRule, IsWord, full_set, IsStep, IsLastSet, IsLastSet-full, IsLastSet-step, Walk, Leads, Leads-induct, IsStep-some, IsSetOf-unique, IsClosure, IsClosedStep, AreClosures}
+use Rattle.image_minimal.proofs.Common.{◌≡◌, ℕ, List, [], ◌∷◌, slice_index, refl, sym, subst, LocalRule, IsRule, IsWord, full_set, IsStep, IsLastSet, IsLastSet-full, IsLastSet-step, Walk, Leads, Leads-induct, IsStep-some, IsSetOf-unique, IsClosure, IsClosedStep, AreClosures}
 use Rattle.image_minimal.proofs.laws.Closures.{AreReadAlike-closure, AreReadAlike-step, IsClosure-alike, IsClosure-unique, IsClosure-full}
 
 -- a closed step on a letter leads to one set
@@ -32,7 +32,7 @@ IsLastClosure-leads {r} {w} {closure} rule = Leads-induct (IsLastClosure r) (rec
 -- a step to a set is a closed step to its closure
 pub closed_step : {r : LocalRule} {closures : List ℕ} {to : ℕ} (set a : ℕ) → AreClosures r closures → IsStep r set a to
     → IsClosedStep r set a (slice_index closures to)
-closed_step {to = to} set a h step = record { to = to; step = step; closure = h.closure to (omega arith) step.within }
+closed_step {to = to} set a h step = record { to = to; step = step; closure = h.closure to step.within }
 
 -- where each set of nodes has a closure, a word leads from each set to some set by closed steps
 closed_walk : {r : LocalRule} {closures : List ℕ} → AreClosures r closures → (w : List ℕ) (set : ℕ) → (end : ℕ) × Walk (IsClosedStep r) set w end

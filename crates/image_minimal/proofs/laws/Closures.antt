@@ -1,5 +1,5 @@
 -- The closure of a set: two words are alike exactly where the sets of their last nodes have one closure.
-use Rattle.image_minimal.proofs.Common.{◌≡◌, ℕ, ◌^◌, ◌<◌, ◌↔◌, List, [], ◌∷◌, ◌++◌, Bool, true, false, refl, sym, ap, ◌∙◌, subst, subst₂, arith, pow_pos, iff_then, iff_sym, All-cons, LocalRule, IsRule, IsWord, IsOrphan, node_count, full_set, IsStep, IsLastSet, IsBitSet-full, IsSetOf-same, IsSetOf-unique, IsStep-some, Alike, IsWithin, IsUnreadSet, IsClosure}
+use Rattle.image_minimal.proofs.Common.{◌≡◌, ℕ, ◌^◌, ◌<◌, ◌↔◌, List, [], ◌∷◌, ◌++◌, true, refl, sym, ap, ◌∙◌, subst, subst₂, arith, pow_pos, iff_then, iff_sym, All-cons, LocalRule, IsRule, IsWord, IsOrphan, node_count, full_set, IsStep, IsLastSet, IsBitSet-full, IsSetOf-same, IsSetOf-unique, IsStep-some, Alike, IsWithin, IsUnreadSet, IsClosure}
 use Rattle.word_image.proofs.Common.{same_from_decides}
 use Rattle.image_minimal.proofs.laws.Unread.{is_dead, is_dead-unread, IsUnread-some, IsWord-unread, IsWithin-zero, IsOrphan-is_dead}
 

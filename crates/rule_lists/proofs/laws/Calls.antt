@@ -29,48 +29,48 @@ Contains-cases rs r q (zero, l, e) = inl e
 Contains-cases rs r q (suc i, l, e) = inr (i, omega arith, e)
 
 -- the rules are listed, and come after the last one
-sound : (property : Property) (k m : ℕ) (begin order : List ℕ) (last : Option LocalRule) (rs : List LocalRule)
-    → AreAll property k m begin order last rs → (q : LocalRule) → Contains rs q → IsListed property k m begin q × IsAfter k order last q
-sound property k m begin order last [] all q (i, l, e) = absurd (omega arith)
-sound property k m begin order last (r ∷ rs) all q has =
+sound : (property : Property) (k m : ℕ) (fixed order : List ℕ) (last : Option LocalRule) (rs : List LocalRule)
+    → AreAll property k m fixed order last rs → (q : LocalRule) → Contains rs q → IsListed property k m fixed q × IsAfter k order last q
+sound property k m fixed order last [] all q (i, l, e) = absurd (omega arith)
+sound property k m fixed order last (r ∷ rs) all q has =
     ⊎_elim
-    (λ e. subst (λ p. IsListed property k m begin p × IsAfter k order last p) e (all.0.listed, all.0.from))
-    (λ behind. let (listed, after) = sound property k m begin order (Some r) rs all.1 q behind in (listed, IsAfter-more k order last r q all.0.from after))
+    (λ e. subst (λ p. IsListed property k m fixed p × IsAfter k order last p) e (all.0.listed, all.0.from))
+    (λ behind. let (listed, after) = sound property k m fixed order (Some r) rs all.1 q behind in (listed, IsAfter-more k order last r q all.0.from after))
     (Contains-cases rs r q has)
 
 -- each listed rule after the last one is there
-complete : (property : Property) (k m : ℕ) (begin order : List ℕ) (last : Option LocalRule) (rs : List LocalRule) → IsOrder (k ^ m) order
-    → AreAll property k m begin order last rs → (q : LocalRule) → IsListed property k m begin q → IsAfter k order last q → Contains rs q
-complete property k m begin order last [] h all q listed after = absurd (all q listed after)
-complete property k m begin order last (r ∷ rs) h all q listed after =
+complete : (property : Property) (k m : ℕ) (fixed order : List ℕ) (last : Option LocalRule) (rs : List LocalRule) → IsOrder (k ^ m) order
+    → AreAll property k m fixed order last rs → (q : LocalRule) → IsListed property k m fixed q → IsAfter k order last q → Contains rs q
+complete property k m fixed order last [] h all q listed after = absurd (all q listed after)
+complete property k m fixed order last (r ∷ rs) h all q listed after =
     ⊎_elim
-    (λ l. Contains-append_right (r ∷ []) rs q (complete property k m begin order (Some r) rs h all.1 q listed l))
+    (λ l. Contains-append_right (r ∷ []) rs q (complete property k m fixed order (Some r) rs h all.1 q listed l))
     (grind (arith, one_rule))
     (cases_lt (rank k order r.table) (rank k order q.table))
 
 -- all listed rules after the last one ascend
-ascending : (property : Property) (k m : ℕ) (begin order : List ℕ) (last : Option LocalRule) (rs : List LocalRule)
-    → AreAll property k m begin order last rs → AreAscending k order last rs
-ascending property k m begin order last [] all = tt
-ascending property k m begin order last (r ∷ rs) all = (all.0.from, ascending property k m begin order (Some r) rs all.1)
+ascending : (property : Property) (k m : ℕ) (fixed order : List ℕ) (last : Option LocalRule) (rs : List LocalRule)
+    → AreAll property k m fixed order last rs → AreAscending k order last rs
+ascending property k m fixed order last [] all = tt
+ascending property k m fixed order last (r ∷ rs) all = (all.0.from, ascending property k m fixed order (Some r) rs all.1)
 
 -- all that calls give are each listed rule once
-pub AreListed-all : (property : Property) (k m : ℕ) (begin order : List ℕ) (rs : List LocalRule) → IsOrder (k ^ m) order
-    → AreAll property k m begin order None rs → AreListed property k m begin order rs
-AreListed-all property k m begin order rs h all = record {
-  every = λ q. ((λ has. (sound property k m begin order None rs all q has).0), (λ listed. complete property k m begin order None rs h all q listed tt));
-  ascending = ascending property k m begin order None rs all;
+pub AreListed-all : (property : Property) (k m : ℕ) (fixed order : List ℕ) (rs : List LocalRule) → IsOrder (k ^ m) order
+    → AreAll property k m fixed order None rs → AreListed property k m fixed order rs
+AreListed-all property k m fixed order rs h all = record {
+  every = λ q. ((λ has. (sound property k m fixed order None rs all q has).0), (λ listed. complete property k m fixed order None rs h all q listed tt));
+  ascending = ascending property k m fixed order None rs all;
 }
 
 -- with one rule more, what the calls give is still each listed rule once
-pub AreSoFar-next : (property : Property) (k m : ℕ) (begin order : List ℕ) (first : Option LocalRule) (rs : List LocalRule) (last : Option LocalRule) (r : LocalRule) → AreSoFar property k m begin order first rs last → IsFirst property k m begin order (IsAfter k order last) r
-    → AreSoFar property k m begin order first (rs ++ r ∷ []) (Some r)
-AreSoFar-next property k m begin order first [] last r e is = (subst (λ o. IsFirst property k m begin order (IsAfter k order o) r) (sym e) is, refl)
-AreSoFar-next property k m begin order first (q ∷ rs) last r h is = (h.0, AreSoFar-next property k m begin order (Some q) rs last r h.1 is)
+pub AreSoFar-next : (property : Property) (k m : ℕ) (fixed order : List ℕ) (first : Option LocalRule) (rs : List LocalRule) (last : Option LocalRule) (r : LocalRule) → AreSoFar property k m fixed order first rs last → IsFirst property k m fixed order (IsAfter k order last) r
+    → AreSoFar property k m fixed order first (rs ++ r ∷ []) (Some r)
+AreSoFar-next property k m fixed order first [] last r e is = (subst (λ o. IsFirst property k m fixed order (IsAfter k order o) r) (sym e) is, refl)
+AreSoFar-next property k m fixed order first (q ∷ rs) last r h is = (h.0, AreSoFar-next property k m fixed order (Some q) rs last r h.1 is)
 
 -- where no listed rule comes after the last one given, the rules given are all
-pub AreAll-ended : (property : Property) (k m : ℕ) (begin order : List ℕ) (first : Option LocalRule) (rs : List LocalRule) (last : Option LocalRule)
-    → AreSoFar property k m begin order first rs last → NoneIs property k m begin (IsAfter k order last)
-    → AreAll property k m begin order first rs
-AreAll-ended property k m begin order first [] last e none = subst (λ o. NoneIs property k m begin (IsAfter k order o)) (sym e) none
-AreAll-ended property k m begin order first (q ∷ rs) last h none = (h.0, AreAll-ended property k m begin order (Some q) rs last h.1 none)
+pub AreAll-ended : (property : Property) (k m : ℕ) (fixed order : List ℕ) (first : Option LocalRule) (rs : List LocalRule) (last : Option LocalRule)
+    → AreSoFar property k m fixed order first rs last → NoneIs property k m fixed (IsAfter k order last)
+    → AreAll property k m fixed order first rs
+AreAll-ended property k m fixed order first [] last e none = subst (λ o. NoneIs property k m fixed (IsAfter k order o)) (sym e) none
+AreAll-ended property k m fixed order first (q ∷ rs) last h none = (h.0, AreAll-ended property k m fixed order (Some q) rs last h.1 none)

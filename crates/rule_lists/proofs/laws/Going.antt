@@ -4,7 +4,7 @@ use Rattle.word_image.proofs.Common.{one-le-pow, mul-le, at-set, LocalRule, rule
 use Rattle.rule_lists.specs.Ranks.{IsOrder, rank_of_first, rank}
 use Rattle.rule_lists.specs.Tables.{IsTable, HasLetters, IsPast, IsFurther, how_far}
 use Rattle.rule_lists.specs.Properties.{Has}
-use Rattle.rule_lists.specs.Listed.{IsOfShape, IsListed, IsFilled, IsFirst, NoneIs, IsOn, Forbids}
+use Rattle.rule_lists.specs.Listed.{IsOfShape, IsListed, IsFilled, IsFirst, NoneIs, IsOn, RulesOutStart}
 use Rattle.rule_lists.specs.declared.properties.Property.{Property}
 use Rattle.rule_lists.proofs.laws.Ranks.{rank-same, rank-more, rank-set_last, same_letters, least_letter, rank-below}
 
@@ -17,10 +17,10 @@ pub IsTable-set : (k size : ℕ) (t : List ℕ) (w a : ℕ) → IsTable k size t
 IsTable-set k size t w a h letter within v l = at-set (λ _ b. b < k) t w 0 a within v (λ _. h v l) letter
 
 -- the next window gets the least letter
-pub IsOn-letter : {property : Property} {k m : ℕ} {begin : List ℕ} {order old : List ℕ} (n : ℕ) → IsOrder (k ^ m) order → IsTable k (k ^ m) old
+pub IsOn-letter : {property : Property} {k m : ℕ} {fixed : List ℕ} {order old : List ℕ} (n : ℕ) → IsOrder (k ^ m) order → IsTable k (k ^ m) old
     → 0 < k → n < k ^ m → k ^ m ≤ length old
-    → IsOn property k m begin order old n (set old (slice_index order n) 0) (Some (n + 1))
-IsOn-letter {property} {k} {m} {begin} {order} {old} n h table some below long =
+    → IsOn property k m fixed order old n (set old (slice_index order n) 0) (Some (n + 1))
+IsOn-letter {property} {k} {m} {fixed} {order} {old} n h table some below long =
     let last : rank_of_first k order (set old (slice_index order n) 0) (n + 1) ≡ rank_of_first k order old n * k + 0 = rank-set_last k (k ^ m) order old n 0 h below long in
     record {
       table = IsTable-set k (k ^ m) old (slice_index order n) 0 table some (omega (arith, h.windows n below));
@@ -51,19 +51,19 @@ IsFurther-next k size order old new n i some within less next =
     omega (arith, grows, add-mul (rank_of_first k order old n * rest) 1 (size + 1), one-mul (size + 1))
 
 -- where no rule of the shape has the property and the letters that stand, the next letters are tried
-pub IsOn-next : {property : Property} {k m : ℕ} {begin : List ℕ} {order old new : List ℕ} {next : Option ℕ} (n : ℕ) → IsOrder (k ^ m) order → 0 < k
-    → n ≤ k ^ m → IsTable k (k ^ m) old → Forbids property k m begin order old n
+pub IsOn-next : {property : Property} {k m : ℕ} {fixed : List ℕ} {order old new : List ℕ} {next : Option ℕ} (n : ℕ) → IsOrder (k ^ m) order → 0 < k
+    → n ≤ k ^ m → IsTable k (k ^ m) old → RulesOutStart property k m fixed order old n
     → IsTable k (k ^ m) new → IfSome next (λ i. i ≤ n)
     → IfSome next (λ i. rank_of_first k order new i * k ^ (n - i) ≡ rank_of_first k order old n + 1)
     → ((t : List ℕ) → IsTable k (k ^ m) t → (rank_of_first k order old n < rank_of_first k order t n) ↔ IsPast k order new next t)
-    → IsOn property k m begin order old n new next
-IsOn-next {property} {k} {m} {begin} {order} {old} {new} {next} n h some within letters forbids table less following past = record {
+    → IsOn property k m fixed order old n new next
+IsOn-next {property} {k} {m} {fixed} {order} {old} {new} {next} n h some within letters ruled_out table less following past = record {
   table = table;
   within = some_within next less;
   same = λ q listed.
       let word = IsTable-shape listed.shape in
       let none : rank_of_first k order old n ≢ rank_of_first k order q.table n =
-      λ e. forbids q listed.shape listed.begins (same_letters k (k ^ m) order q.table old n h word letters within (sym e)) listed.has in (
+      λ e. ruled_out q listed.shape listed.begins (same_letters k (k ^ m) order q.table old n h word letters within (sym e)) listed.has in (
         (λ l. (past q.table word).0 (omega (arith, l, none))),
         (λ l. omega (arith, (past q.table word).1 l)),
       );
@@ -112,36 +112,36 @@ same_rule {k} {m} {q} {r} first second same =
     rule_from_parts {r = q} {s = r} (first.states ∙ sym second.states) (first.width ∙ sym second.width) (first.offset ∙ sym second.offset) tables
 
 -- a full table whose rule hasn't the property
-pub Forbids-rejected : (property : Property) (k m : ℕ) (begin : List ℕ) (order table : List ℕ) (n : ℕ) (r : LocalRule) → IsOrder (k ^ m) order
+pub RulesOutStart-rejected : (property : Property) (k m : ℕ) (fixed : List ℕ) (order table : List ℕ) (n : ℕ) (r : LocalRule) → IsOrder (k ^ m) order
     → n ≡ k ^ m → IsOfShape k m r
-    → ((v : ℕ) → v < k ^ m → slice_index r.table v ≡ slice_index table v) → ¬ Has property r → Forbids property k m begin order table n
-Forbids-rejected property k m begin order table n r h full shape letters hasnt q of begins same has =
+    → ((v : ℕ) → v < k ^ m → slice_index r.table v ≡ slice_index table v) → ¬ Has property r → RulesOutStart property k m fixed order table n
+RulesOutStart-rejected property k m fixed order table n r h full shape letters hasnt q of begins same has =
     let each : (v : ℕ) → v < k ^ m → slice_index q.table v ≡ slice_index r.table v = λ v l.
     let (i, below, at) = h.all v l in
     subst (λ w. slice_index q.table w ≡ slice_index table w) at (same i (omega arith)) ∙ sym (letters v l) in
     hasnt (subst (Has property) (same_rule of shape each) has)
 
 -- a full table that hasn't the letters of the beginning
-pub Forbids-other : (property : Property) (k m : ℕ) (begin : List ℕ) (order table : List ℕ) (n j : ℕ) → IsOrder (k ^ m) order → j ≡ k → n ≡ k ^ m
-    → ¬ HasLetters j n begin table → Forbids property k m begin order table n
-Forbids-other property k m begin order table n j h states full other q of begins same has =
-    other (λ v l fixed.
+pub RulesOutStart-other : (property : Property) (k m : ℕ) (fixed : List ℕ) (order table : List ℕ) (n j : ℕ) → IsOrder (k ^ m) order → j ≡ k → n ≡ k ^ m
+    → ¬ HasLetters j n fixed table → RulesOutStart property k m fixed order table n
+RulesOutStart-other property k m fixed order table n j h states full other q of begins same has =
+    other (λ v l is_fixed.
     let (i, below, at) = h.all v (omega (arith, l, full)) in
     let is : slice_index q.table v ≡ slice_index table v = subst (λ w. slice_index q.table w ≡ slice_index table w) at (same i (omega (arith, below, full))) in
-    sym is ∙ begins v (omega (arith, l, full)) (omega (arith, fixed, states)))
+    sym is ∙ begins v (omega (arith, l, full)) (omega (arith, is_fixed, states)))
 
 -- a full table whose rule has the property is the first to come
-pub IsFirst-filled : (property : Property) (k m : ℕ) (begin : List ℕ) (order table : List ℕ) (n : ℕ) (next : Option ℕ) (From : LocalRule → Type 0) (r : LocalRule) → IsOrder (k ^ m) order → next ≡ Some n → IsFilled property k m begin table n r
-    → ((q : LocalRule) → IsListed property k m begin q → (From q ↔ IsPast k order table next q.table)) → IsFirst property k m begin order From r
-IsFirst-filled property k m begin order table n next From r h is filled same = grind (arith, rank-same)
+pub IsFirst-filled : (property : Property) (k m : ℕ) (fixed : List ℕ) (order table : List ℕ) (n : ℕ) (next : Option ℕ) (From : LocalRule → Type 0) (r : LocalRule) → IsOrder (k ^ m) order → next ≡ Some n → IsFilled property k m fixed table n r
+    → ((q : LocalRule) → IsListed property k m fixed q → (From q ↔ IsPast k order table next q.table)) → IsFirst property k m fixed order From r
+IsFirst-filled property k m fixed order table n next From r h is filled same = grind (arith, rank-same)
 
 -- the first of the same rules
-pub first_of_same : (property : Property) (k m : ℕ) (begin order : List ℕ) (o : Option LocalRule) (From To : LocalRule → Type 0)
-    → ((q : LocalRule) → IsListed property k m begin q → (From q ↔ To q))
-    → MatchOption o (NoneIs property k m begin From) (IsFirst property k m begin order From)
-    → MatchOption o (NoneIs property k m begin To) (IsFirst property k m begin order To)
-first_of_same property k m begin order None From To same none = λ q listed to. none q listed ((same q listed).1 to)
-first_of_same property k m begin order (Some r) From To same first = grind arith
+pub first_of_same : (property : Property) (k m : ℕ) (fixed order : List ℕ) (o : Option LocalRule) (From To : LocalRule → Type 0)
+    → ((q : LocalRule) → IsListed property k m fixed q → (From q ↔ To q))
+    → MatchOption o (NoneIs property k m fixed From) (IsFirst property k m fixed order From)
+    → MatchOption o (NoneIs property k m fixed To) (IsFirst property k m fixed order To)
+first_of_same property k m fixed order None From To same none = λ q listed to. none q listed ((same q listed).1 to)
+first_of_same property k m fixed order (Some r) From To same first = grind arith
 
 -- the tables past a rule's own letters are those of a greater rank
 pub past_rank : (k m : ℕ) (order letters new : List ℕ) (next : Option ℕ) (n : ℕ) (r q : LocalRule) → IsOrder (k ^ m) order → n ≡ k ^ m

@@ -9,7 +9,7 @@ use Rattle.rule_lists.specs.declared.properties.Property.{Property}
 use Rattle.rule_lists.proofs.laws.Ranks.{rank-below}
 
 -- the rank of a listed rule is below the number of all tables
-rank-listed : {property : Property} {k m : ℕ} {begin order : List ℕ} {r : LocalRule} → IsOrder (k ^ m) order → IsListed property k m begin r
+rank-listed : {property : Property} {k m : ℕ} {fixed order : List ℕ} {r : LocalRule} → IsOrder (k ^ m) order → IsListed property k m fixed r
     → rank k order r.table < k ^ (k ^ m)
 rank-listed {k = k} {m} {order = order} {r} h listed = grind (arith, rank-below)
 

@@ -10,4 +10,4 @@ returns-clause-done c words input command s out is reads accepted fits answer = 
 
 pub returns-clause-not_fit : goal.returns-clause-not_fit
 returns-clause-not_fit c words input command q cause s out is asked unfits answer =
-    ((answer_exactly is (λ check. absurd (IsAsked-reads_nothing asked check)) (IsReply.NoFit command q cause asked unfits)).0 answer).0
+    ((answer_exactly is (λ check. absurd (IsAsked-reads_nothing asked check)) (IsReply.NotFit command q cause asked unfits)).0 answer).0

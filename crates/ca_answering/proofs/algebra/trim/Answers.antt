@@ -2,4 +2,4 @@ use Rattle.ca_questions.proofs.Common.{IsFinding}
 use Rattle.ca_answering.proofs.algebra.trim.Goals as goal
 
 pub returns : goal.returns
-returns c = rw c.found.ensures.made (IsFinding.Trim c.args.rule.now c.trim.result c.trim.ensures c.found.ensures.accepted)
+returns c = rw c.rule_finding.ensures.made (IsFinding.Trim c.args.rule.now c.trim.result c.trim.ensures c.rule_finding.ensures.accepted)

@@ -1,11 +1,11 @@
 use Rattle.std.proofs.Common.{sym}
-use Rattle.ca_questions.proofs.Common.{IsFinding, IsUnfitFor}
+use Rattle.ca_questions.proofs.Common.{IsFinding, IsCauseFor}
 use Rattle.ca_answering.proofs.class_rules.unlift.Goals as goal
 
 pub returns-in-Ok : goal.returns-in-Ok
 returns-in-Ok c =
     let is = c.in-Ok.ensures.unlifted in
-    rw (c.found.ensures.made, is) (IsFinding.Unlift c.args.rule.now (sym c.in-Ok.ensures.fault) (rw is at c.found.ensures.accepted))
+    rw (c.rule_finding.ensures.made, is) (IsFinding.Unlift c.args.rule.now (sym c.in-Ok.ensures.fault) (rw is at c.rule_finding.ensures.accepted))
 
 pub returns-in-Err : goal.returns-in-Err
-returns-in-Err c = IsUnfitFor.Unlift c.args.rule.now c.in-Err.fault (sym c.in-Err.ensures.fault)
+returns-in-Err c = IsCauseFor.Unlift c.args.rule.now c.in-Err.fault (sym c.in-Err.ensures.fault)

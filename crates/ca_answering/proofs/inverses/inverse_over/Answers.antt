@@ -1,4 +1,4 @@
-use Rattle.ca_questions.proofs.Common.{IsFinding, IsUnfitFor}
+use Rattle.ca_questions.proofs.Common.{IsFinding, IsCauseFor}
 use Rattle.ca_answering.proofs.inverses.inverse_over.Goals as goal
 use Rattle.ca_answering.proofs.inverses.inverse_over.Goals.{in-Ok, in-Err-Wide}
 
@@ -17,5 +17,5 @@ returns c =
             as_rule = w.map_rule-rule.ensures;
           }))
       | in-Err-Wide w ↦
-          rw w.result-is (IsUnfitFor.Wide r at.n at.c c.requires.least (rw w.in-Err-Wide.field-0-is at w.in-Err-Wide.ensures.fault))
+          rw w.result-is (IsCauseFor.Wide r at.n at.c c.requires.least (rw w.in-Err-Wide.field-0-is at w.in-Err-Wide.ensures.fault))
     ]

@@ -1,9 +1,9 @@
 use Rattle.std.proofs.Common.{None, Some}
-use Rattle.ca_questions.proofs.Common.{IsFinding, IsUnfitFor}
+use Rattle.ca_questions.proofs.Common.{IsFinding, IsCauseFor}
 use Rattle.ca_answering.proofs.languages.same.Goals as goal
 
 pub returns-then-k : goal.returns-then-k
-returns-then-k c = IsUnfitFor.States c.args.first.now c.args.second.now (λ alike. c.if-k.true (cc))
+returns-then-k c = IsCauseFor.States c.args.first.now c.args.second.now (λ alike. c.if-k.true (cc))
 
 pub returns-in-Some : goal.returns-in-Some
 returns-in-Some c = rw c.of.ensures (IsFinding.Same c.args.first.now c.args.second.now (Some c.in-Some.word.now) (cc) c.in-Some.ensures.word)

@@ -1,7 +1,7 @@
 use Rattle.std.proofs.Common.{option_copied}
 use Rattle.certificate_laws.proofs.Accepted.{IsWritten-parts}
 use Rattle.ca_questions.proofs.Common.{IsFinding}
-use Rattle.ca_answering.proofs.laws.OwnWeights.{unfit-certificate}
+use Rattle.ca_answering.proofs.laws.OwnWeights.{cause-certificate}
 use Rattle.ca_answering.proofs.reports.certificate.Goals as goal
 
 pub returns-in_ok-cert-in-Some : goal.returns-in_ok-cert-in-Some
@@ -12,4 +12,4 @@ returns-in_ok-cert-in-Some c =
     (IsWritten-parts c.requires made.accepted made.weights made.parts)
 
 pub returns-in-None : goal.returns-in-None
-returns-in-None c = unfit-certificate (option_copied c.args.weights) c.in-None.ensures.none
+returns-in-None c = cause-certificate (option_copied c.args.weights) c.in-None.ensures.none

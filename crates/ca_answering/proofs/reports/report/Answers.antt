@@ -1,5 +1,5 @@
 use Rattle.std.proofs.Common.{option_copied}
-use Rattle.ca_answering.proofs.laws.OwnWeights.{IsFinding-by, unfit-report}
+use Rattle.ca_answering.proofs.laws.OwnWeights.{IsFinding-by, cause-report}
 use Rattle.ca_answering.proofs.reports.report.Goals as goal
 
 pub returns-in-Some : goal.returns-in-Some
@@ -8,4 +8,4 @@ returns-in-Some c =
     IsFinding-by (option_copied c.args.weights) c.keeps_limits.ensures c.in-Some.ensures.each made.weights c.in-Some.ensures.weights made.least
 
 pub returns-in-None : goal.returns-in-None
-returns-in-None c = unfit-report (option_copied c.args.weights) c.in-None.ensures.none
+returns-in-None c = cause-report (option_copied c.args.weights) c.in-None.ensures.none

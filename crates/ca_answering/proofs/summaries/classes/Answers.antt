@@ -1,4 +1,4 @@
 use Rattle.ca_answering.proofs.summaries.classes.Goals as goal
 
 pub returns : goal.returns
-returns c = c.found.ensures _ _ _ c.in_ok-tally.ensures
+returns c = c.finding.ensures _ _ _ c.in_ok-tally.ensures

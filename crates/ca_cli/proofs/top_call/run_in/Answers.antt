@@ -23,9 +23,3 @@ returns-in-Ok-write_all-clause-read_fault g c same = absurd (answered c.in-Ok.en
 
 pub returns-in-Ok-write_all-clause-memory : goal.returns-in-Ok-write_all-clause-memory
 returns-in-Ok-write_all-clause-memory g c same = absurd (answered c.in-Ok.ensures.answer same)
-
-pub returns-in-Ok-write_all-clause-complete_write : goal.returns-in-Ok-write_all-clause-complete_write
-returns-in-Ok-write_all-clause-complete_write g c stays below same = answered c.in-Ok.ensures.answer same
-
-pub returns-in-Ok-write_all-clause-complete_read : goal.returns-in-Ok-write_all-clause-complete_read
-returns-in-Ok-write_all-clause-complete_read g c stays below same = answered c.in-Ok.ensures.answer same

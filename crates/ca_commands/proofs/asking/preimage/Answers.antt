@@ -7,7 +7,7 @@ use Rattle.tail_config.specs.declared.faults.TailFault.{TailFault}
 use Rattle.tail_config.specs.TailTextFaults.{IsTailTextFault}
 use Rattle.tail_config.specs.TailTextFaults.IsTailTextFault.{NoForm, Refused}
 use Rattle.ca_commands.specs.declared.names.Name.TheVariants as name
-use Rattle.ca_questions.proofs.Common.{Question, IsUnfitFor, Unfit}
+use Rattle.ca_questions.proofs.Common.{Question, IsCauseFor, Cause}
 use Rattle.ca_commands.specs.Asked.{Asks}
 use Rattle.ca_commands.specs.Asking.{Ask, IsCall}
 use Rattle.ca_commands.proofs.laws.Asking.{asks, failed, first_refused, read_one}
@@ -16,8 +16,8 @@ use Rattle.ca_commands.proofs.asking.preimage.Goals as goal
 -- a fault of the parts is why nothing fits
 unfits : {words : List (List ℕ)} {r : LocalRule} {t : List ℕ} {f : TailFault} → IsCall words name.Preimage (r ∷ []) (t ∷ [])
     → IsTailTextFault r.states t (text.Tail f)
-    → (q : Question) × Ask words q × IsUnfitFor q (Unfit.Tail f)
-unfits {r = r} call (Refused t f parts refused) = (Question.Preimage r t, asks refl call (Asks.Preimage r _ t parts), IsUnfitFor.Tail r t f refused)
+    → (q : Question) × Ask words q × IsCauseFor q (Cause.Tail f)
+unfits {r = r} call (Refused t f parts refused) = (Question.Preimage r t, asks refl call (Asks.Preimage r _ t parts), IsCauseFor.Tail r t f refused)
 
 -- a text of the form has no fault of it
 no_form : {k : ℕ} {words : List ℕ} {place : ℕ} → HasForm words → IsTailTextFault k words (text.Form place) → ⊥

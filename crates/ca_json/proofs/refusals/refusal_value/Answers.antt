@@ -17,4 +17,4 @@ returns c =
     let m4 = c.in_ok-put_named-4.ensures ∙ ap (put_named (codes "fault") _) m3 in
     let m5 = c.in_ok-put_named-5.ensures ∙ ap (put_named (codes "cause") (Some p.cause.now)) m4 in
     let m6 = c.in_ok-put_named-6.ensures ∙ ap (put_named (codes "because") _) m5 in
-    c.from.ensures ∙ ap object (c.in_ok-put.ensures.ok ∙ put_same (codes "at") c.in_ok-at.ensures m6 ∙ members_put-ascend _ _ _ _ _ _) ∙ ap parts_json c.in_ok-parts.ensures
+    c.from.ensures ∙ ap object (c.in_ok-put.ensures.ok ∙ put_same (codes "at") c.in_ok-at.ensures m6 ∙ members_put-ascend _ _ _ _ _ _) ∙ ap parts_json c.in_ok-parts.ensures.parts

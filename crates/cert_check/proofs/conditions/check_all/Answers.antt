@@ -4,15 +4,15 @@ use Rattle.cert_conditions.proofs.Common.{conditions, Holds}
 use Rattle.cert_conditions.proofs.laws.Breaches.{IsFirstUnmet-at, MeetsConditions-all}
 use Rattle.cert_check.proofs.conditions.check_all.Goals as goal
 
-pub returns-in_err-check : goal.returns-in_err-check
-returns-in_err-check c =
+pub returns-in_err-check_condition : goal.returns-in_err-check_condition
+returns-in_err-check_condition c =
     let p = err_from_is_err_and c.from_residual.result c.from_residual.ensures.1 in
     rw (p.1, p.2)
-    (IsFirstUnmet-at c.loop-condition.condition-index _ c.loop-condition-test.true c.loop-condition.invariant c.in_err-check.ensures)
+    (IsFirstUnmet-at c.loop-condition.condition-index _ c.loop-condition-test.true c.loop-condition.invariant c.in_err-check_condition.ensures)
 
 pub loop-condition-preserved : goal.loop-condition-preserved
 loop-condition-preserved c =
-    All-more (Holds c.args.cert.now) conditions c.loop-condition.condition-index _ c.loop-condition-test.true c.loop-condition.invariant c.in_ok-check.ensures
+    All-more (Holds c.args.cert.now) conditions c.loop-condition.condition-index _ c.loop-condition-test.true c.loop-condition.invariant c.in_ok-check_condition.ensures
 
 pub returns : goal.returns
 returns c =

@@ -4,10 +4,6 @@ use Rattle.word_image.proofs.Common.{node_count}
 use Rattle.cert_conditions.proofs.laws.WindowFlows.{Flows-value}
 use Rattle.cert_check.proofs.sums.flows.Goals as goal
 
--- the test of two numbers of 64 bits
-one_number : (p q : ℤ) → FitsSigned w64 p → FitsSigned w64 q → IsTrue (nat_eq (of_z w64 p) (of_z w64 q)) ↔ (p ≡ q)
-one_number p q f g = grind arith
-
 -- the test of two differences of numbers of 32 bits
 one_difference : (g h x y : ℤ) → FitsSigned w32 g → FitsSigned w32 h → FitsSigned w32 x → FitsSigned w32 y
     → IsTrue (nat_eq (of_z w64 (to_z w64 (of_z w64 g) -ℤ to_z w64 (of_z w64 h))) (of_z w64 (to_z w64 (of_z w64 x) -ℤ to_z w64 (of_z w64 y)))) ↔ ((g -ℤ h) ≡ (x -ℤ y))

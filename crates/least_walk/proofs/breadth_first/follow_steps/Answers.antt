@@ -1,5 +1,6 @@
 use Rattle.std.proofs.Common.{◌≡◌, ◌+◌, ◌*◌, ◌<◌, refl, ap, ◌∙◌, subst, arith, slice_get, suc-mul}
 use Rattle.word_image.proofs.Common.{slice_get_within, LocalRule, IsBitSet-zero, slice_get-unique}
+use Rattle.pair_laws.proofs.Common.{next-digits}
 use Rattle.least_walk.specs.Marks.{ArePartsOf}
 use Rattle.least_walk.specs.declared.queue.Reached.{Reached}
 use Rattle.least_walk.specs.Queues.{step_count}
@@ -50,3 +51,12 @@ returns-clause-none c =
     let k = step_count c.args.pairs.now in
     let all : (c.args.head + 1) * k ≡ c.args.head * k + c.loop-a.a * 16 = omega (arith, suc-mul c.args.head k, ap (λ (z : LocalRule). z.states) c.rule.ensures) in
     rw all c.loop-a.invariant.search
+
+-- the letter a leads to the node that is a nodes past the node to which 0 leads
+pub fresh-letters-requires-clause-node : goal.fresh-letters-requires-clause-node
+fresh-letters-requires-clause-node c =
+    let rule = c.parts_of-from.ensures.rule in
+    let u = c.parts_of-from.result.first in
+    let first = rw c.graph-graph.ensures at c.next-node.ensures.node in
+    let letter : c.loop-a.a < c.args.pairs.now.states = omega (arith, ap (λ (z : LocalRule). z.states) c.rule.ensures) in
+    omega (arith, first, next-digits rule u 0 (omega (arith, letter)), next-digits rule u c.loop-a.a letter)

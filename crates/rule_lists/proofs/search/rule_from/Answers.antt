@@ -11,4 +11,4 @@ loop-next-smaller c =
 pub returns-in-Some-found : goal.returns-in-Some-found
 returns-in-Some-found c =
     let r = c.args.asked.now.shape.now in
-    IsFirst-filled c.args.asked.now.property r.states r.width c.args.asked.now.begin.now c.args.asked.now.order.now c.loop-next.entries c.in-Some.n c.loop-next.next _ c.in-Some-found.rule c.requires.order c.in-Some.is c.in-Some-found.ensures.some c.loop-next.invariant.same
+    IsFirst-filled c.args.asked.now.property r.states r.width c.args.asked.now.fixed.now c.args.asked.now.order.now c.loop-next.entries c.in-Some.n c.loop-next.next _ c.in-Some-found.rule c.requires.order c.in-Some.is c.in-Some-found.ensures.some c.loop-next.invariant.same

@@ -10,7 +10,7 @@ abbrev pub invariant-loop-next : goal.invariant-loop-next
 invariant-loop-next l = record {
   table : IsTable l.asked.shape.now.states (l.asked.shape.now.states ^ l.asked.shape.now.width) l.entries;
   within : IfSome l.next (λ n. n ≤ l.asked.shape.now.states ^ l.asked.shape.now.width);
-  same : (q : LocalRule) → IsListed l.asked.property l.asked.shape.now.states l.asked.shape.now.width l.asked.begin.now q
+  same : (q : LocalRule) → IsListed l.asked.property l.asked.shape.now.states l.asked.shape.now.width l.asked.fixed.now q
       → IsPast l.asked.shape.now.states l.asked.order.now l.fn.start l.fn.first q.table ↔ IsPast l.asked.shape.now.states l.asked.order.now l.entries l.next q.table;
 }
 

@@ -30,10 +30,10 @@ are_weights c = record { each_letter = c.requires.weights; small = rw c.as_slice
 -- the certificate that is made has the parts that are written for the rule
 HasWrittenParts-made : (c : goal.In_ok-row) → HasWrittenParts c.args.version c.args.rule.now c.args.weights.now (made c)
 HasWrittenParts-made c =
-    let report = c.report_over-report.result in
+    let report = c.report_of_pairs-report.result in
     let pairs = c.of-pairs.ensures in
     let ranks = c.from_pairs-ranks.ensures ∙ pairs in
-    let least = c.report_over-report.ensures.least in
+    let least = c.report_of_pairs-report.ensures.least in
     let sum = ap (λ (r : LocalRule). found.sum_of r report.conserving) (least.rule ∙ pairs) ∙ sym c.in_ok-conserving.ensures in
     record {
       version_is = refl;
@@ -53,8 +53,8 @@ HasWrittenParts-made c =
 
 pub invariant_of-result : goal.invariant_of-result
 invariant_of-result c = (
-  rw c.of-pairs.ensures at (c.in_ok-right.ensures.over _ c.report_over-report.ensures.right),
-  rw c.of-pairs.ensures at (c.in_ok-left.ensures.over _ c.report_over-report.ensures.left),
+  rw c.of-pairs.ensures at (c.in_ok-right.ensures.over _ c.report_of_pairs-report.ensures.right),
+  rw c.of-pairs.ensures at (c.in_ok-left.ensures.over _ c.report_of_pairs-report.ensures.left),
   IsShaped-written c.requires.version c.keeps_limits.ensures (are_weights c) (HasWrittenParts-made c),
 )
 

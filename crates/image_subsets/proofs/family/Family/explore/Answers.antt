@@ -1,14 +1,9 @@
-use Rattle.std.proofs.Common.{◌≡◌, [], ◌∷◌, ◌++◌, None, true, false, Bool, List, ℕ, ap, ◌∙◌, subst, arith, Contains, mul-le-mul_right}
+use Rattle.std.proofs.Common.{[], ◌∷◌, ◌++◌, None, ap, ◌∙◌, subst, arith, mul-le-mul_right}
 use Rattle.word_image.proofs.Common.{Contains-slice_get}
-use Rattle.image_subsets.specs.Masks.{IsInserted}
+use Rattle.image_subsets.proofs.MaskLists.{first_set}
 use Rattle.image_subsets.specs.Searches.{IsExpanded}
 use Rattle.image_subsets.proofs.Searches.{set-below, IsExpanded-start, IsFamilyTree-closed, IsFamilyTree-stopped, length-search-most, IsTree-search}
 use Rattle.image_subsets.proofs.family.Family.explore.Goals as goal
-
--- the first set is put into an empty list
-first_set : (old new : List ℕ) (set : ℕ) (added : Bool) → old ≡ [] → IsInserted old new set added → new ≡ set ∷ []
-first_set old new set true none h = h.1 ∙ ap (λ l. l ++ set ∷ []) none
-first_set old new set false none (has, same) = absurd (let (i, below, at) = subst (λ l. Contains l set) none has in omega (arith, below))
 
 pub loop-place-init : goal.loop-place-init
 loop-place-init c =

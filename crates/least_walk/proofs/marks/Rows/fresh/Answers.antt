@@ -11,16 +11,16 @@ ends_of r g u v a l ends same labelled h = rw (← same, ← labelled) h
 pub returns-then-from-eq1 : goal.returns-then-from-eq1
 returns-then-from-eq1 c t b q of letter old step =
     let same = c.graph-graph.ensures in
-    let node = rw same at (c.from-node.ensures ∙ c.next.ensures.node) in
+    let node = c.from-node.ensures ∙ c.requires.node in
     rw (← c.self.view_is) (
-    fresh-with_mark c.requires.rule c.self.inside.rows c.args.from t c.args.a b q c.ends-ends.result _ c.next-end.result of c.if-from-eq1.true letter
-    (ends_of _ _ _ _ _ _ _ same c.label.ensures.label c.ends-ends.ensures) (rw same at c.next-end.ensures.node) (ap (λ n. slice_index c.self.inside.rows (16 + n)) node) (omega arith) old step)
+    fresh-with_mark c.requires.rule c.self.inside.rows c.args.from t c.args.a b q c.ends-ends.result _ c.args.end of c.if-from-eq1.true letter
+    (ends_of _ _ _ _ _ _ _ same c.label.ensures.label c.ends-ends.ensures) c.requires.end (ap (λ n. slice_index c.self.inside.rows (16 + n)) node) (omega arith) old step)
 
 pub returns : goal.returns
 returns c t b q of letter old step =
     let same = c.graph-graph.ensures in
-    let node = rw same at (c.from-node.ensures ∙ c.next.ensures.node) in
+    let node = c.from-node.ensures ∙ c.requires.node in
     rw (← c.self.view_is) (
-    fresh-without c.requires.rule c.self.inside.rows c.args.from t c.args.a b q c.ends-ends.result _ _ c.next-end.result _ of (omega arith) letter (omega (arith, c.requires.rule.shape.most_states))
-    (ends_of _ _ _ _ _ _ _ same c.label.ensures.label c.ends-ends.ensures) (rw same at c.next-end.ensures.node) (ap (λ n. slice_index c.self.inside.rows (16 + n)) node) (omega arith)
+    fresh-without c.requires.rule c.self.inside.rows c.args.from t c.args.a b q c.ends-ends.result _ _ c.args.end _ of (omega arith) letter (omega (arith, c.requires.rule.shape.most_states))
+    (ends_of _ _ _ _ _ _ _ same c.label.ensures.label c.ends-ends.ensures) c.requires.end (ap (λ n. slice_index c.self.inside.rows (16 + n)) node) (omega arith)
     (ap (slice_index c.self.inside.rows) node) (omega arith) refl old step)

@@ -9,10 +9,6 @@ use Rattle.word_image.proofs.local_rule.Rule.new.Goals as goal
 made : (k m : ℕ) (o : ℤ) (t : List ℕ) → FitsSigned w8 o → None ≡ shape_fault k m (to_z w8 (of_z w8 o)) → None ≡ table_fault k m t → IsRule (record { states = k; width = m; offset = o; table = t })
 made k m o t fits shape table = grind (arith, IsWord-table_fault)
 
--- a rule whose offset and table are known by other names
-IsRule-same : (k m : ℕ) (o p : ℤ) (t u : List ℕ) → p ≡ o → u ≡ t → IsRule (record { states = k; width = m; offset = o; table = t }) → IsRule (record { states = k; width = m; offset = p; table = u })
-IsRule-same k m o p t u offset table rule = rw (offset, table) rule
-
 pub returns-in_err-check_table-clause-accepted : goal.returns-in_err-check_table-clause-accepted
 returns-in_err-check_table-clause-accepted c = grind (arith, table_fault-IsWord)
 

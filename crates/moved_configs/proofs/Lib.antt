@@ -1,0 +1,9 @@
+pub mod Bits
+pub mod Cores
+pub mod Walks
+pub mod Moves
+pub mod Readings
+pub mod Greedy
+pub mod Turns
+pub mod Firsts
+pub mod RingImages

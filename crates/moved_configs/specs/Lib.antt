@@ -1,0 +1,3 @@
+pub mod MovedWindows
+pub mod Trims
+pub mod MovedRings

@@ -1,9 +1,0 @@
-use Rattle.std.proofs.Common.{arith}
-use Rattle.rule_lists.proofs.Rounded.{walk-after, IsFixedRound-closed}
-use Rattle.rule_lists.proofs.walks.is_round.Goals as goal
-
-pub loop-preserved : goal.loop-preserved
-loop-preserved c = grind (arith, walk-after)
-
-pub returns-then-next-pair : goal.returns-then-next-pair
-returns-then-next-pair c told = grind (arith, IsFixedRound-closed)
