@@ -14,8 +14,9 @@ ghost use Rattle.welch_index.specs.Fewest.{IsFewestLast, IsFewestFirst};
 ghost use Rattle.welch_index.specs.Degrees.{IsDegree, HasCutNodes, HasSeparated, IsMultiplier, AreDegreeAndMultipliers, IsCopy};
 
 /// Law (Hedlund 1969): a surjective rule has a degree d. Let f be the fewest last nodes that a word has, and let b be the
-/// fewest first nodes. Then f b = d k^(m - 1). If a word u has f last nodes and a word v has b first nodes, then d nodes
-/// are at the cut between u and z v, for each word z of m - 1 letters. A rule has at most one degree.
+/// fewest first nodes. Then f b = d k^(m - 1). Let u be the least word with f last nodes, and v the word with b first
+/// nodes that is least if words are read from right to left. Then d nodes are at the cut between u and z v, for each word z
+/// of m - 1 letters. A rule has at most one degree.
 pub fn degree_is_product()
     ensures product { (r : LocalRule) (f b nodes others : ℕ) (u v : List ℕ) → IsRule r → IsSurjective r → IsFewestLast r f nodes u → IsFewestFirst r b others v
         → (d : ℕ) × IsDegree r d × (node_count r * d ≡ f * b) × ((z : List ℕ) → IsWord r.states z → length z ≡ r.width - 1 → HasCutNodes r u (z ++ v) d) }
