@@ -69,9 +69,10 @@ class Blocks(Answer):
 
 
 def blocks(rule: RuleLike) -> Blocks:
-    """Two layers of block permutations that have the map of a reversible rule, with the least size of blocks, and for this size
-    with blocks of the image that begin as far to the left as can be. NotFitError if the rule isn't reversible, and UsageError
-    if the layers would be too large."""
+    """Two layers of block permutations that have the map of a reversible rule. The blocks have the least size of at least
+    width - 1 cells, which is the least of all sizes if the rule depends on the first and the last cell of its window. For this
+    size the blocks of the image begin as far to the left as can be. NotFitError if the rule isn't reversible, and UsageError if
+    the layers would be too large."""
     known = rule_of(rule)
     report = decide(known)
     if report.window is None:

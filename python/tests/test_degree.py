@@ -175,7 +175,7 @@ def preimages(rule: ca.Rule, ring: tuple[int, ...]) -> list[tuple[int, ...]]:
 
 class BlockLayers(unittest.TestCase):
     def test_sizes(self) -> None:
-        """The least sizes of blocks, as another program found them by going through all pairs of blocks."""
+        """The least sizes of at least width - 1 cells, as another program found them by going through all pairs of blocks."""
         for states, width, wanted in ((2, 3, {2: 6}), (2, 4, {3: 8, 6: 8}), (3, 2, {1: 12, 2: 36})):
             sizes = Counter(ca.blocks(rule).size for rule in ca.rules("reversible", states, width))
             self.assertEqual(sum(sizes.values()), sum(wanted.values()))
